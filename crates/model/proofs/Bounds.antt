@@ -1,0 +1,64 @@
+-- At most 126 points between calls and 127 during a round; every tree of points in range on so few points is at most 15,120,000 long.
+use mathlib.Core.Path.{_≡_, refl, sym, ap, _∙_, subst, subst⁻¹}
+use mathlib.Core.Logic.{_⊎_, inl, inr, ⊎-elim}
+use mathlib.Core.List.{List, [], _∷_, List·Memᴰ}
+use Prim.Native.Nat.{ℕ, zero, suc, _+_, _*_, _≤_, _<_}
+use native.Mathlib.Nat.{le-trans}
+use native.Mathlib.Omega.{arith}
+use lib.Dec.{T}
+use lib.ListN.{length}
+use Rattle.spanning.specs.Graph.{Tree}
+use Rattle.spanning.specs.Order.{StrictTotal, Sorted}
+use Rattle.spanning.proofs.Sorted.{sorted-distinct}
+use Rattle.spanning.proofs.Totals.{total-most}
+use Rattle.spanning.proofs.Count.{tree-count, tree-none}
+use Rattle.plane.specs.Point.{Point, inRange, lower, Lower}
+use Rattle.plane.specs.Edge.{Edge, edgeLength, planar}
+use Rattle.plane.proofs.Order.{lower-order}
+use Rattle.plane.proofs.Range.{dist-range}
+use Rattle.model.specs.Set.{put, union}
+use Rattle.model.specs.Tree.{mst, lengthOf, treeLength}
+use Rattle.model.specs.State.{State, points, Valid, maxPins}
+use Rattle.model.specs.Demand3.{mostPoints, longestTree}
+use Rattle.model.proofs.Set.{put-in, put-sorted, put-length, union-length}
+use Rattle.model.proofs.Tree.{mst-run-tree}
+use Rattle.model.proofs.Prune.{points-in, points-rise, few-steiner}
+use Rattle.model.proofs.Candidate.{Candidate}
+use Rattle.model.proofs.Round.{candidate-range}
+
+-- The number of points held.
+pub points-count : (s : State) → Valid s → length (points s) ≡ length (s .pins) + length (s .steiner)
+unfolding points
+points-count s v = union-length lower lower-order (s .pins) (s .steiner) (v .placed .pinsRise) (v .placed .apart)
+
+pub points-few : (s : State) → Valid s → length (points s) ≤ mostPoints
+points-few s v = ⊎-elim (λ e. omega (arith, points-count s v, v .few)) (λ h. omega (arith, points-count s v, v .few)) (few-steiner s v)
+
+-- A tree has one edge less than points, and none where there is no point.
+pub edges-fewer : (ps : List Point) (n : ℕ) → Sorted Lower ps → length ps ≤ suc n → length (mst ps) ≤ n
+edges-fewer [] n rise h = omega (arith, ap length (tree-none planar (mst []) (mst-run-tree [] rise .tree)))
+edges-fewer (p ∷ l) n rise h =
+    omega (arith, tree-count planar (p ∷ l) (mst (p ∷ l)) (sorted-distinct lower-order (p ∷ l) rise) (mst-run-tree (p ∷ l) rise .tree) (omega arith))
+
+pub length-bound : (ps : List Point) → Sorted Lower ps → length ps ≤ suc mostPoints → ((p : Point) → List·Memᴰ p ps → T (inRange p))
+    → treeLength ps ≤ longestTree
+unfolding treeLength planar
+length-bound ps rise few range =
+    omega (
+      arith,
+      edges-fewer ps mostPoints rise few,
+      total-most edgeLength 120000 (mst ps)
+          (λ e i. let b = mst-run-tree ps rise .tree .ends e i in dist-range (e .lo) (e .hi) (range (e .lo) (b .0)) (range (e .hi) (b .1))),
+    )
+
+pub held-range : (s : State) → Valid s → (p : Point) → List·Memᴰ p (points s) → T (inRange p)
+held-range s v p i = ⊎-elim (v .placed .pinsRange p) (v .placed .steinerRange p) (points-in s p .0 i)
+
+module _ (s : State) (v : Valid s) (c : Point) (k : Candidate (points s) c) where
+  pub round-few : length (put lower c (points s)) ≤ suc mostPoints
+  round-few = omega (arith, put-length lower lower-order c (points s) (k .2), points-few s v)
+
+  pub round-fits : treeLength (put lower c (points s)) ≤ longestTree
+  round-fits =
+      length-bound (put lower c (points s)) (put-sorted lower lower-order c (points s) (points-rise s (v .placed .steinerRise))) round-few
+      (λ p i. ⊎-elim (λ e. subst⁻¹ (λ z. T (inRange z)) e (candidate-range s (v .placed) c k)) (held-range s v p) (put-in lower lower-order c p (points s) .0 i))

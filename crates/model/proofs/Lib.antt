@@ -1,0 +1,16 @@
+pub mod Bounds
+pub mod Candidate
+pub mod Cover
+pub mod Decks
+pub mod Demand3
+pub mod FileValid
+pub mod Grid
+pub mod Joining
+pub mod Prune
+pub mod Removal
+pub mod Replace
+pub mod Round
+pub mod Set
+pub mod Step
+pub mod Tree
+pub mod Validity

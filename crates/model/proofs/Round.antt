@@ -1,0 +1,179 @@
+-- A round keeps a state valid; it is finished exactly if no whole point shortens the tree; one that adds a point shortens the
+-- tree by at least 1 and by at least the saving. So rounds alone end, and the run to the end is those rounds.
+use mathlib.Core.Path.{_≡_, refl, sym, ap, _∙_, subst, subst⁻¹}
+use mathlib.Core.Logic.{_⊎_, inl, inr, ⊎-elim, _↔_}
+use mathlib.Core.Bool.{Bool, true, false}
+use mathlib.Core.Option.{Option, none, some}
+use mathlib.Core.List.{List, [], _∷_, List·Memᴰ, List·Memᴰ·head as head, List·Memᴰ·tail as tail, List·Memᴰ·cases-cons as cases}
+use Prim.Native.Nat.{ℕ, zero, suc, _+_, _-_, _≤_, _<_}
+use native.Mathlib.Nat.{le-refl, le-trans}
+use native.Mathlib.Omega.{arith}
+use lib.Dec.{T}
+use lib.ListN.{length}
+use Rattle.spanning.specs.Graph.{Tree}
+use Rattle.spanning.specs.Order.{StrictTotal, Sorted}
+use Rattle.spanning.proofs.Sorted.{sorted-ext}
+use Rattle.plane.specs.Point.{Point, coordinateInRange, inRange, lower, Lower}
+use Rattle.plane.specs.Edge.{Edge, planar}
+use Rattle.plane.proofs.Order.{lower-order}
+use Rattle.plane.proofs.Test.{and-parts, and-both}
+use Rattle.model.specs.Set.{put}
+use Rattle.model.specs.Tree.{mst, lengthOf, treeLength}
+use Rattle.model.specs.State.{State, points, Placed, Valid, prune, maxPins}
+use Rattle.model.specs.Round.{RoundAnswer, finished, tap, RoundResult, withSteiner, best, round, Ended, roundsFrom, finish}
+use Rattle.model.specs.Question.{lengthOfState}
+use Rattle.model.specs.Demand3.{RoundsTo, ended, added, NoShorter}
+use Rattle.model.proofs.Set.{put-in, put-sorted}
+use Rattle.model.proofs.Tree.{mst-run-tree}
+use Rattle.model.proofs.Prune.{points-in, points-rise, Pruned, prune-leaves, prune-valid}
+use Rattle.model.proofs.Candidate.{Candidate, Best, none-better, shortens, best-view}
+use Rattle.model.proofs.Grid.{tree-members, grid-theorem}
+
+-- The points with one more Steiner point.
+pub points-with : (s : State) (c : Point) → Sorted Lower (s .steiner) → points (withSteiner c s) ≡ put lower c (points s)
+points-with s c rise =
+    sorted-ext lower-order (points (withSteiner c s)) (put lower c (points s))
+    (points-rise (withSteiner c s) (put-sorted lower lower-order c (s .steiner) rise)) (put-sorted lower lower-order c (points s) (points-rise s rise))
+    (λ p i. put-in lower lower-order c p (points s) .1
+    (⊎-elim (λ j. inr (points-in s p .1 (inl j)))
+    (λ j. ⊎-elim (λ e. inl e) (λ k. inr (points-in s p .1 (inr k))) (put-in lower lower-order c p (s .steiner) .0 j)) (points-in (withSteiner c s) p .0 i)))
+    (λ p i. points-in (withSteiner c s) p .1
+    (⊎-elim (λ e. inr (put-in lower lower-order c p (s .steiner) .1 (inl e)))
+    (λ j. ⊎-elim (λ k. inl k) (λ k. inr (put-in lower lower-order c p (s .steiner) .1 (inr k))) (points-in s p .0 j))
+    (put-in lower lower-order c p (points s) .0 i)))
+
+-- A candidate is in range.
+pub candidate-range : (s : State) → Placed s → (c : Point) → Candidate (points s) c → T (inRange c)
+candidate-range s h c k =
+    and-both (coordinateInRange (c .x)) (coordinateInRange (c .y))
+    (subst⁻¹ (λ z. T (coordinateInRange z)) (k .0 .2) (and-parts (coordinateInRange (k .0 .0 .x)) (coordinateInRange (k .0 .0 .y)) (held (k .0 .0) (k .0 .1)) .0))
+    (subst⁻¹ (λ z. T (coordinateInRange z)) (k .1 .2) (and-parts (coordinateInRange (k .1 .0 .x)) (coordinateInRange (k .1 .0 .y)) (held (k .1 .0) (k .1 .1)) .1))
+  where
+    held : (p : Point) → List·Memᴰ p (points s) → T (inRange p)
+    held p i = ⊎-elim (h .pinsRange p) (h .steinerRange p) (points-in s p .0 i)
+
+pub with-placed : (s : State) → Placed s → (c : Point) → Candidate (points s) c → Placed (withSteiner c s)
+with-placed s h c k =
+    record {
+      pinsRange = h .pinsRange;
+      steinerRange = λ p i. ⊎-elim (λ e. subst⁻¹ (λ z. T (inRange z)) e (candidate-range s h c k)) (h .steinerRange p) (put-in lower lower-order c p (s .steiner) .0 i);
+      pinsRise = h .pinsRise;
+      steinerRise = put-sorted lower lower-order c (s .steiner) (h .steinerRise);
+      apart = λ p i j. ⊎-elim (λ e. k .2 (points-in s c .1 (inl (subst (λ z. List·Memᴰ z (s .pins)) e i)))) (h .apart p i) (put-in lower lower-order c p (s .steiner) .0 j);
+    }
+
+-- What a round does: it is finished and no candidate shortens the tree, or it adds a candidate that does, and prunes.
+pub data Rounded (s : State) : RoundResult → Type 0 where
+  stays : ((c : Point) → Candidate (points s) c → treeLength (points s) ≤ treeLength (put lower c (points s)))
+      → Rounded s (record { next = s; answer = finished })
+  adds : (c : Point) → Candidate (points s) c → treeLength (put lower c (points s)) < treeLength (points s)
+      → Rounded s (record { next = prune (withSteiner c s); answer = tap c (treeLength (points s) - treeLength (points (prune (withSteiner c s)))) })
+
+pub round-view : (s : State) → Rounded s (round s)
+unfolding round
+round-view s = go (best-view (points s))
+  where
+    go : {o : Option Point} → Best (points s) o
+        → Rounded s (elim o as (λ _. RoundResult) [
+          | none ↦ record { next = s; answer = finished }
+          | some c ↦ record { next = prune (withSteiner c s); answer = tap c (treeLength (points s) - treeLength (points (prune (withSteiner c s)))) }
+        ])
+    go (none-better f) = stays f
+    go (shortens c k h) = adds c k h
+
+-- After a round that adds c the tree is no longer than with c alone: the fall is at least the saving.
+pub prune-shorter : (s : State) → Valid s → (c : Point) → Candidate (points s) c
+    → treeLength (points (prune (withSteiner c s))) ≤ treeLength (put lower c (points s))
+prune-shorter s v c k =
+    subst (λ (z : List Point). treeLength (points (prune (withSteiner c s))) ≤ treeLength z) (points-with s c (v .placed .steinerRise))
+    (prune-leaves (withSteiner c s) (h .steinerRise) (h .apart) .shorter)
+  where
+    h : Placed (withSteiner c s)
+    h = with-placed s (v .placed) c k
+
+pub round-valid : (s : State) → Valid s → Valid (round s .next)
+round-valid s v = go (round-view s)
+  where
+    go : {r : RoundResult} → Rounded s r → Valid (r .next)
+    go (stays f) = v
+    go (adds c k h) = prune-valid (withSteiner c s) (v .few) (with-placed s (v .placed) c k)
+
+-- A round that adds a tap shortens the tree by at least 1, and the answer gives by how much.
+pub round-falls : (s : State) → Valid s → (c : Point) (fall : ℕ) → round s .answer ≡ tap c fall
+    → (1 ≤ fall) × (lengthOfState (round s .next) + fall ≡ lengthOfState s) × (lengthOfState s ≤ treeLength (put lower c (points s)) + fall)
+round-falls s v c fall e = go (round-view s) e
+  where
+    go : {r : RoundResult} → Rounded s r → r .answer ≡ tap c fall
+        → (1 ≤ fall) × (treeLength (points (r .next)) + fall ≡ treeLength (points s)) × (treeLength (points s) ≤ treeLength (put lower c (points s)) + fall)
+    go (stays f) q = absurd (let z : _≡_ {A = ℕ} 0 1 = cc in omega arith)
+    go (adds d k h) q =
+        let ec : d ≡ c = cc in
+        let ef : treeLength (points s) - treeLength (points (prune (withSteiner d s))) ≡ fall = cc in
+        let m = prune-shorter s v d k in (
+          omega arith,
+          omega arith,
+          subst (λ (z : Point). treeLength (points s) ≤ treeLength (put lower z (points s)) + fall) ec (omega arith),
+        )
+
+-- Finished exactly if no whole point shortens the tree.
+pub round-finished : (s : State) → Valid s → (round s .answer ≡ finished) ↔ ((q : Point) → ¬ List·Memᴰ q (points s) → NoShorter s q)
+round-finished s v = go (round-view s)
+  where
+    rise : Sorted Lower (points s)
+    rise = points-rise s (v .placed .steinerRise)
+
+    tree-with : (c : Point) → ¬ List·Memᴰ c (points s) → Tree planar (c ∷ points s) (mst (put lower c (points s)))
+    tree-with c far =
+        tree-members (put lower c (points s)) (c ∷ points s) (mst (put lower c (points s)))
+        (λ p. (λ i. ⊎-elim (λ e. head e) (λ j. tail j) (put-in lower lower-order c p (points s) .0 i), λ i. put-in lower lower-order c p (points s) .1 (cases i)))
+        (mst-run-tree (put lower c (points s)) (put-sorted lower lower-order c (points s) rise) .tree)
+
+    go : {r : RoundResult} → Rounded s r → (r .answer ≡ finished) ↔ ((q : Point) → ¬ List·Memᴰ q (points s) → NoShorter s q)
+    go (stays f) = (λ e q far t tree. grid-theorem (points s) rise f q far t tree, λ g. refl)
+    go (adds c k h) = (
+      λ e. absurd (let z : _≡_ {A = ℕ} 0 1 = cc in omega arith),
+      λ g. absurd (omega (arith, g c (k .2) (mst (put lower c (points s))) (tree-with c (k .2)), with-length)),
+    )
+      where
+        with-length : treeLength (put lower c (points s)) ≡ lengthOf (mst (put lower c (points s)))
+        with-length = unfold treeLength in refl
+
+-- A tree of no length can't be shortened, so its round is finished.
+finished-at-zero : (s : State) → lengthOfState s ≤ 0 → round s .answer ≡ finished
+finished-at-zero s h = go (round-view s)
+  where
+    go : {r : RoundResult} → Rounded s r → r .answer ≡ finished
+    go (stays f) = refl
+    go (adds c k g) = absurd (omega arith)
+
+-- The rounds of a run to the end, with enough of them allowed.
+rounds-from : (k : ℕ) (s : State) → Valid s → lengthOfState s ≤ k
+    → RoundsTo s (roundsFrom k s .count) (roundsFrom k s .final) × (roundsFrom k s .count ≤ lengthOfState s)
+unfolding roundsFrom
+rounds-from zero s v h = (ended (finished-at-zero s h), omega arith)
+rounds-from (suc k) s v h =
+    go (round s .answer) refl (λ g. rounds-from k (round s .next) (round-valid s v) g)
+  where
+    next : State
+    next = round s .next
+
+    result : RoundAnswer → Ended
+    result a = elim a [ finished ↦ record { final = s; count = 0 } | tap c fall ↦ let e = roundsFrom k (round s .next) in record { final = e .final; count = suc (e .count) } ]
+
+    go : (a : RoundAnswer) → round s .answer ≡ a
+        → (lengthOfState (round s .next) ≤ k → RoundsTo (round s .next) (roundsFrom k (round s .next) .count) (roundsFrom k (round s .next) .final) × (roundsFrom k (round s .next) .count ≤ lengthOfState (round s .next)))
+        → RoundsTo s (result a .count) (result a .final) × (result a .count ≤ lengthOfState s)
+    go finished e rec = (ended e, omega arith)
+    go (tap c fall) e rec =
+        let f = round-falls s v c fall e in
+        let r = rec (omega arith) in
+        (added e (r .0), omega arith)
+
+pub finish-rounds : (s : State) → Valid s → RoundsTo s (finish s .count) (finish s .final) × (finish s .count ≤ lengthOfState s)
+unfolding finish
+finish-rounds s v = rounds-from (treeLength (points s)) s v (le-refl (treeLength (points s)))
+
+-- Rounds alone keep a state valid.
+pub rounds-valid : {s r : State} {k : ℕ} → RoundsTo s k r → Valid s → Valid r
+rounds-valid (ended e) v = v
+rounds-valid (added {s = s} e t) v = rounds-valid t (round-valid s v)

@@ -1,0 +1,88 @@
+-- Every call keeps a state valid, refused ones too.
+use mathlib.Core.Path.{_≡_, refl, sym, ap, _∙_, subst, subst⁻¹}
+use mathlib.Core.Logic.{_⊎_, inl, inr, ⊎-elim, _↔_}
+use mathlib.Core.Bool.{Bool, true, false, not}
+use mathlib.Core.Option.{Option, none, some}
+use mathlib.Core.List.{List, [], _∷_, List·Memᴰ}
+use Prim.Native.Nat.{ℕ, zero, suc, _+_, _≤_, _<_}
+use native.Mathlib.Omega.{arith}
+use lib.Dec.{T, leb, nleb→lt}
+use lib.ListN.{length}
+use Rattle.spanning.specs.Order.{Sorted}
+use Rattle.plane.specs.Point.{Point, inRange, lower, Lower}
+use Rattle.plane.proofs.Order.{lower-order}
+use Rattle.plane.proofs.Test.{by-test}
+use Rattle.model.specs.Set.{put, out, has}
+use Rattle.model.specs.State.{State, empty, Placed, Valid, prune, insert, remove, maxPins}
+use Rattle.model.specs.Round.{round, finish}
+use Rattle.model.specs.Call.{holdsPin, insertRefusal, removeRefusal, Call, add, withdraw, oneRound, runToEnd, unless, step, after}
+use Rattle.model.proofs.Set.{put-in, put-sorted, put-length, out-in, out-sorted, out-length, has-in, has-not}
+use Rattle.model.proofs.Prune.{prune-valid}
+use Rattle.model.proofs.Round.{round-valid, finish-rounds, rounds-valid}
+
+-- Adding is not refused: the point is in range, no pin stands there, and there is room.
+pub insert-allowed : (p : Point) (s : State) → insertRefusal p s ≡ none
+    → T (inRange p) × (List·Memᴰ p (s .pins) → ⊥) × (length (s .pins) < maxPins)
+unfolding insertRefusal
+insert-allowed p s =
+    by-test (λ (o : Option ℕ). o ≡ none → T (inRange p) × (List·Memᴰ p (s .pins) → ⊥) × (length (s .pins) < maxPins)) (inRange p) _ _
+    (λ r. by-test (λ (o : Option ℕ). o ≡ none → T (inRange p) × (List·Memᴰ p (s .pins) → ⊥) × (length (s .pins) < maxPins)) (holdsPin p s) _ _
+    (λ h e. never e)
+    (λ n. by-test (λ (o : Option ℕ). o ≡ none → T (inRange p) × (List·Memᴰ p (s .pins) → ⊥) × (length (s .pins) < maxPins)) (leb maxPins (length (s .pins))) _ _
+    (λ h e. never e) (λ m e. (r, has-not lower lower-order p (s .pins) .0 n, nleb→lt maxPins (length (s .pins)) m))))
+    (λ r e. never e)
+  where
+    never : {A : Type 0} {n : ℕ} → _≡_ {A = Option ℕ} (some n) none → A
+    never e = absurd (let z : _≡_ {A = ℕ} 0 1 = cc in omega arith)
+
+pub remove-allowed : (p : Point) (s : State) → removeRefusal p s ≡ none → List·Memᴰ p (s .pins)
+unfolding removeRefusal
+remove-allowed p s =
+    by-test (λ (o : Option ℕ). o ≡ none → List·Memᴰ p (s .pins)) (holdsPin p s) _ _ (λ h e. has-in lower lower-order p (s .pins) .0 h)
+    (λ n e. absurd (let z : _≡_ {A = ℕ} 0 1 = cc in omega arith))
+
+pub insert-valid : (p : Point) (s : State) → Valid s → T (inRange p) → (List·Memᴰ p (s .pins) → ⊥) → length (s .pins) < maxPins → Valid (insert p s)
+unfolding insert
+insert-valid p s v r n room =
+    prune-valid (record { pins = put lower p (s .pins); steiner = out lower p (s .steiner) })
+    (omega (arith, put-length lower lower-order p (s .pins) n))
+    (record {
+      pinsRange = λ q i. ⊎-elim (λ e. subst⁻¹ (λ z. T (inRange z)) e r) (v .placed .pinsRange q) (put-in lower lower-order p q (s .pins) .0 i);
+      steinerRange = λ q i. v .placed .steinerRange q (out-in lower lower-order p q (s .steiner) .0 i .0);
+      pinsRise = put-sorted lower lower-order p (s .pins) (v .placed .pinsRise);
+      steinerRise = out-sorted lower lower-order p (s .steiner) (v .placed .steinerRise);
+      apart = λ q i j. let o = out-in lower lower-order p q (s .steiner) .0 j in
+          ⊎-elim (λ e. o .1 e) (λ k. v .placed .apart q k (o .0)) (put-in lower lower-order p q (s .pins) .0 i);
+    })
+
+pub remove-valid : (p : Point) (s : State) → Valid s → List·Memᴰ p (s .pins) → Valid (remove p s)
+unfolding remove
+remove-valid p s v i =
+    prune-valid (record { pins = out lower p (s .pins); steiner = s .steiner })
+    (omega (arith, out-length lower lower-order p (s .pins) (v .placed .pinsRise) i, v .few))
+    (record {
+      pinsRange = λ q j. v .placed .pinsRange q (out-in lower lower-order p q (s .pins) .0 j .0);
+      steinerRange = v .placed .steinerRange;
+      pinsRise = out-sorted lower lower-order p (s .pins) (v .placed .pinsRise);
+      steinerRise = v .placed .steinerRise;
+      apart = λ q j k. v .placed .apart q (out-in lower lower-order p q (s .pins) .0 j .0) k;
+    })
+
+unless-valid : (o : Option ℕ) (s : State) (f : Unit {0} → State) → Valid s → (o ≡ none → Valid (f tt)) → Valid (unless o s f .next)
+unless-valid none s f v g = g refl
+unless-valid (some n) s f v g = v
+
+pub step-valid : (s : State) (c : Call) → Valid s → Valid (step s c .next)
+unfolding step
+step-valid s (add p) v =
+    unless-valid (insertRefusal p s) s (λ _. insert p s) v
+    (λ e. let a = insert-allowed p s e in insert-valid p s v (a .0) (a .1) (a .2))
+step-valid s (withdraw p) v =
+    unless-valid (removeRefusal p s) s (λ _. remove p s) v (λ e. remove-valid p s v (remove-allowed p s e))
+step-valid s oneRound v = round-valid s v
+step-valid s runToEnd v = rounds-valid (finish-rounds s v .0) v
+
+pub after-valid : (calls : List Call) (s : State) → Valid s → Valid (after s calls)
+unfolding after
+after-valid [] s v = v
+after-valid (c ∷ cs) s v = after-valid cs (step s c .next) (step-valid s c v)

@@ -1,0 +1,125 @@
+-- Kruskal's tree over all edges is THE tree of document 01: a tree, least among all trees, first among equals, and the only
+-- such. And any list of edges between the points that connects them is at least as long.
+use mathlib.Core.Path.{_≡_, refl, sym, subst}
+use mathlib.Core.Logic.{_⊎_, inl, inr, ⊎-elim, _↔_}
+use mathlib.Core.List.{List, [], _∷_, _++_, map, List·Memᴰ, List·Memᴰ·head as head, List·Memᴰ·tail as tail, List·Memᴰ·cases-cons as cases, List·Memᴰ·not-nil as not-nil, Memᴰ·append-left, Memᴰ·append-right, List·Memᴰ·append-cases}
+use Prim.Native.Nat.{ℕ, _+_, _≤_}
+use native.Mathlib.Omega.{arith}
+use Rattle.spanning.specs.Graph.{Graph, Conn, stop, fwd, bwd, In, Tree, total}
+use Rattle.spanning.specs.Order.{StrictTotal, Sorted, First}
+use Rattle.spanning.specs.Kruskal.{kruskal}
+use Rattle.spanning.proofs.Conn.{conn-edge, conn-sym, conn-mono, conn-bind}
+use Rattle.spanning.proofs.Least.{Spanning, least, least-first, unique-least}
+use Rattle.spanning.proofs.Kruskal.{kruskal-in, kruskal-sorted}
+use Rattle.spanning.proofs.Cover.{cover}
+use Rattle.spanning.proofs.Tree.{Links, tree-spanning, spanning-tree, kruskal-tree}
+use Rattle.plane.specs.Point.{Point, Lower}
+use Rattle.plane.specs.Edge.{Edge, Rising, edgeLength, before, Before, planar}
+use Rattle.plane.proofs.Order.{lower-order, before-order, before-length}
+use Rattle.plane.proofs.Metric.{dist-sym}
+use Rattle.model.specs.Tree.{pairs, edges, mst, lengthOf, treeLength, RunTree, TheTree}
+use Rattle.model.proofs.Set.{sort-in, sort-sorted}
+
+abbrev edge : Point → Point → Edge
+edge p q = record { lo = p; hi = q }
+
+-- The edges from p to each point of a list.
+from-in : (p : Point) (l : List Point) (e : Edge)
+    → List·Memᴰ e (map (λ (q : Point). edge p q) l) → (e .lo ≡ p) × List·Memᴰ (e .hi) l
+from-in p [] e i = absurd (not-nil i)
+from-in p (q ∷ l) e i =
+    ⊎-elim (λ m. ((λ j. m j .lo), head (λ j. m j .hi))) (λ j. let r = from-in p l e j in (r .0, tail (r .1))) (cases i)
+
+to-from : (p q : Point) (l : List Point) → List·Memᴰ q l → List·Memᴰ (edge p q) (map (λ (r : Point). edge p r) l)
+to-from p q [] i = absurd (not-nil i)
+to-from p q (r ∷ l) i = ⊎-elim (λ m. head (λ j. edge p (m j))) (λ j. tail (to-from p q l j)) (cases i)
+
+-- An edge is among the pairs of a rising list exactly if it rises between two of its points.
+Between : List Point → Edge → Type 0
+Between ps e = List·Memᴰ (e .lo) ps × List·Memᴰ (e .hi) ps × Rising e
+
+pairs-in : (ps : List Point) → Sorted Lower ps → (e : Edge) → List·Memᴰ e (pairs ps) → Between ps e
+unfolding pairs Between
+pairs-in [] s e i = absurd (not-nil i)
+pairs-in (p ∷ l) s e i =
+    ⊎-elim
+    (λ j. let r = from-in p l e j in
+    (head (r .0), tail (r .1), subst (λ (z : Point). Lower z (e .hi)) (sym (r .0)) (s .0 (e .hi) (r .1))))
+    (λ j. let r = pairs-in l (s .1) e j in (tail (r .0), tail (r .1), r .2))
+    (List·Memᴰ·append-cases (map (λ (q : Point). edge p q) l) i)
+
+in-pairs : (ps : List Point) → Sorted Lower ps → (e : Edge) → Between ps e → List·Memᴰ e (pairs ps)
+unfolding pairs Between
+in-pairs [] s e b = absurd (not-nil (b .0))
+in-pairs (p ∷ l) s e b =
+    ⊎-elim
+    (λ m. ⊎-elim
+    (λ n. absurd (lower-order .irrefl p (subst (λ (z : Point). Lower z p) m (subst (λ (z : Point). Lower (e .lo) z) n (b .2)))))
+    (λ j. Memᴰ·append-left (pairs l)
+    (subst (λ (z : Point). List·Memᴰ (edge z (e .hi)) (map (λ (q : Point). edge p q) l)) (sym m) (to-from p (e .hi) l j)))
+    (cases (b .1)))
+    (λ i. ⊎-elim
+    (λ n. absurd (lower-order .irrefl p (lower-order .trans p (e .lo) p (s .0 (e .lo) i) (subst (λ (z : Point). Lower (e .lo) z) n (b .2)))))
+    (λ j. Memᴰ·append-right (map (λ (q : Point). edge p q) l) (in-pairs l (s .1) e (i, j, b .2)))
+    (cases (b .1)))
+    (cases (b .0))
+
+module _ (ps : List Point) (rising : Sorted Lower ps) where
+  pub edges-in : (e : Edge) → List·Memᴰ e (edges ps) ↔ (List·Memᴰ (e .lo) ps × List·Memᴰ (e .hi) ps × Rising e)
+  unfolding edges Between
+  edges-in e = (
+    λ i. pairs-in ps rising e (sort-in before before-order (pairs ps) e .0 i),
+    λ b. sort-in before before-order (pairs ps) e .1 (in-pairs ps rising e b),
+  )
+
+  pub edges-sorted : Sorted Before (edges ps)
+  unfolding edges
+  edges-sorted = sort-sorted before before-order (pairs ps)
+
+  -- All edges connect all points.
+  pub edges-link : Links planar ps (edges ps)
+  unfolding planar
+  edges-link = record { ends = λ e i. (edges-in e .0 i .0, edges-in e .0 i .1); joined = joined }
+    where
+      joined : (u v : Point) → List·Memᴰ u ps → List·Memᴰ v ps → Conn planar (In (edges ps)) v u
+      joined u v i j =
+          ⊎-elim (λ h. conn-edge (edge u v) (edges-in (edge u v) .1 (i, j, h)))
+          (λ r. ⊎-elim (λ e. stop e) (λ h. conn-sym (conn-edge (edge v u) (edges-in (edge v u) .1 (j, i, h)))) r)
+          (lower-order .compare u v)
+
+  -- A tree of rising edges in the order of runs is a spanning forest of all edges.
+  run-tree-spanning : (t : List Edge) → RunTree ps t → Spanning planar Before (edges ps) t
+  unfolding planar
+  run-tree-spanning t r =
+      tree-spanning edges-link (r .sorted)
+      (λ e i. edges-in e .1 (r .tree .ends e i .0, r .tree .ends e i .1, r .rising e i)) (r .tree)
+
+  pub mst-run-tree : RunTree ps (mst ps)
+  unfolding mst
+  mst-run-tree =
+      record {
+        tree = kruskal-tree edges-link;
+        rising = λ e i. edges-in e .0 (kruskal-in planar [] (edges ps) e i) .2;
+        sorted = kruskal-sorted planar Before [] (edges ps) edges-sorted;
+      }
+
+  -- Kruskal's tree is THE tree.
+  pub mst-the-tree : TheTree ps (mst ps)
+  unfolding mst
+  mst-the-tree =
+      record {
+        tree = mst-run-tree;
+        least = λ u r. least planar before-order (edges ps) u edges-sorted edgeLength before-length (run-tree-spanning u r);
+        first = λ u r e. least-first planar before-order (edges ps) u edges-sorted (run-tree-spanning u r);
+      }
+
+  -- THE tree is unique.
+  pub the-tree-unique : (t : List Edge) → TheTree ps t → t ≡ mst ps
+  unfolding mst
+  the-tree-unique t r =
+      unique-least planar before-order (edges ps) t edges-sorted edgeLength before-length (run-tree-spanning t (r .tree))
+      (λ u s. r .least u (back u s)) (λ u s e. r .first u (back u s) e)
+    where
+      back : (u : List Edge) → Spanning planar Before (edges ps) u → RunTree ps u
+      back u s =
+          record { tree = spanning-tree edges-link s; rising = λ e i. edges-in e .0 (s .inside e i) .2; sorted = s .sorted }

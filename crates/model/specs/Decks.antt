@@ -1,0 +1,66 @@
+-- Document 01's table of decks: rows of one shape, and the statement that each of them holds.
+use mathlib.Core.Path.{_≡_}
+use mathlib.Core.List.{List, [], _∷_}
+use Prim.Native.Nat.{ℕ}
+use lib.IntN.{ℤ, pos, negsuc}
+use Rattle.spanning.specs.Graph.{total, degree}
+use Rattle.spanning.specs.Kruskal.{comp, kruskal}
+use Rattle.plane.specs.Point.{Point, lower, gap, dist, pointDec}
+use Rattle.plane.specs.Edge.{Edge, before, listedBefore, planar}
+use Rattle.plane.specs.Coordinate.{signed16, word16}
+use Rattle.model.specs.Set.{put, out, has, union, rising, all}
+use Rattle.model.specs.Tree.{pairs, edges, mst, treeLength}
+use Rattle.model.specs.State.{State, points, placed, valid, weakest, pruneFrom, prune, insert, remove}
+use Rattle.model.specs.Round.{finished, tap, column, crossings, notHeld, candidates, saving, bestAbove, best, round, roundsFrom, finish}
+use Rattle.model.specs.Call.{Call, add, withdraw, oneRound, runToEnd, Reply, done, refused, answered, rounds, Outcome, insertRefusal, removeRefusal, step}
+use Rattle.model.specs.Question.{lengthOfState, listed}
+use Rattle.model.specs.File.{Read, deck, sectionOf, numberOf, runBytes, fileOf, sameBytes, pointsOf, readFile}
+
+-- What a list of calls shows: each reply, the tree's length at the start and after each call, and the last state with its runs in listing order.
+pub record Trace : Type 0 where
+  pub replies : List Reply
+  pub lengths : List ℕ
+  pub last : State
+  pub runs : List Edge
+
+-- The trace of calls from a state.
+unfoldable pub play : State → List Call → Trace
+unfolding total degree comp kruskal lower gap dist pointDec before listedBefore planar put out has union pairs edges mst treeLength points weakest pruneFrom prune insert remove column crossings notHeld candidates saving bestAbove best round roundsFrom finish insertRefusal removeRefusal step listed
+play s [] = record { replies = []; lengths = lengthOfState s ∷ []; last = s; runs = listed s }
+play s (c ∷ cs) =
+    let o = step s c in
+    let t = play (o .next) cs in
+    record { replies = o .reply ∷ t .replies; lengths = lengthOfState s ∷ t .lengths; last = t .last; runs = t .runs }
+
+-- A row: pins to begin with, calls, and what they must show.
+pub record Row : Type 0 where
+  pub start : List Point
+  pub calls : List Call
+  pub shows : Trace
+
+abbrev pub startOf : Row → State
+startOf r = record { pins = r .start; steiner = [] }
+
+-- The row's calls show what it says.
+abbrev pub Holds : Row → Type 0
+Holds r = play (startOf r) (r .calls) ≡ r .shows
+
+-- What reading the file of a state gives.
+unfoldable pub filed : State → Read
+unfolding play rising all placed valid signed16 word16 sectionOf numberOf runBytes fileOf sameBytes pointsOf readFile
+filed s = readFile (fileOf s)
+
+-- The file of the row's last state reads back to it.
+abbrev pub Filed : Row → Type 0
+Filed r = filed (r .shows .last) ≡ deck (r .shows .last)
+
+-- Every row of a list.
+abbrev pub All : (Row → Type 0) → List Row → Type 0
+All P [] = Unit {0}
+All P (r ∷ l) = P r × All P l
+
+abbrev pub at : ℕ → ℕ → Point
+at x y = record { x = pos x; y = pos y }
+
+abbrev pub from : Point → Point → Edge
+from p q = record { lo = p; hi = q }

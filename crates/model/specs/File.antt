@@ -1,0 +1,154 @@
+-- The deck file, byte for byte: what is written for a state, and what reading a list of bytes gives.
+use mathlib.Core.Bool.{Bool, true, false, not, _&&_, _||_}
+use mathlib.Core.List.{List, [], _∷_, _++_}
+use Prim.Native.Nat.{ℕ, zero, suc, _+_, _*_, _/_, _%_}
+use lib.Dec.{leb, ltb, eqb}
+use lib.ListN.{length, take, drop, getD}
+use Rattle.plane.specs.Test.{if}
+use Rattle.plane.specs.Point.{Point, lower}
+use Rattle.plane.specs.Edge.{Edge}
+use Rattle.plane.specs.Coordinate.{signed16, word16}
+use Rattle.model.specs.Set.{tie}
+use Rattle.model.specs.State.{State, points, placed, valid, maxPins}
+use Rattle.model.specs.Question.{listed}
+
+-- "Bytes 0 to 3 spell DECK in ASCII."
+abbrev pub magic : List ℕ
+magic = 68 ∷ 69 ∷ 67 ∷ 75 ∷ []
+
+-- Where the first section starts.
+abbrev pub headerSize : ℕ
+headerSize = 30
+
+-- "The longest file has 784 bytes."
+abbrev pub longest : ℕ
+longest = 784
+
+-- A number in two and in four bytes, little-endian.
+abbrev pub bytes2 : ℕ → List ℕ
+bytes2 n = n % 256 ∷ n / 256 % 256 ∷ []
+
+abbrev pub bytes4 : ℕ → List ℕ
+bytes4 n = n % 256 ∷ n / 256 % 256 ∷ n / 65536 % 256 ∷ n / 16777216 % 256 ∷ []
+
+-- "A point is x then y, each a 16-bit two's complement number"
+abbrev pub pointBytes : Point → List ℕ
+pointBytes p = bytes2 (word16 (p .x)) ++ bytes2 (word16 (p .y))
+
+unfoldable pub sectionOf : List Point → List ℕ
+sectionOf [] = []
+sectionOf (p ∷ l) = pointBytes p ++ sectionOf l
+
+-- The number of a point: "Pins and taps together, sorted lower first, are numbered from 0".
+unfoldable pub numberOf : List Point → Point → ℕ
+numberOf [] p = 0
+numberOf (q ∷ l) p = if (tie lower p q) (λ _. 0) (λ _. suc (numberOf l p))
+
+-- "a run is two bytes, the smaller number first"
+unfoldable pub runBytes : List Point → List Edge → List ℕ
+runBytes ps [] = []
+runBytes ps (e ∷ l) = numberOf ps (e .lo) ∷ numberOf ps (e .hi) ∷ runBytes ps l
+
+-- The runs section of a state, in the listing order.
+abbrev pub runSection : State → List ℕ
+runSection s = runBytes (points s) (listed s)
+
+-- The header: the section count 3, then three pairs of offset and length.
+abbrev pub header : ℕ → ℕ → ℕ → List ℕ
+header a b c =
+    magic
+    ++ (bytes2 3
+    ++ (bytes4 headerSize
+    ++ (bytes4 a
+    ++ (bytes4 (headerSize + a) ++ (bytes4 b ++ (bytes4 (headerSize + a + b) ++ bytes4 c))))))
+
+-- The file of a state: the full form, every run written.
+unfoldable pub fileOf : State → List ℕ
+fileOf s =
+    let pins = sectionOf (s .pins) in
+    let taps = sectionOf (s .steiner) in
+    let runs = runSection s in
+    header (length pins) (length taps) (length runs) ++ (pins ++ (taps ++ runs))
+
+-- What reading gives: the state of the deck, or a refusal by its number.
+pub data Read : Type 0 where
+  deck : State → Read
+  refusal : ℕ → Read
+
+-- The number in two and in four bytes from place i on.
+abbrev pub number2 : List ℕ → ℕ → ℕ
+number2 b i = getD b i 0 + 256 * getD b (i + 1) 0
+
+abbrev pub number4 : List ℕ → ℕ → ℕ
+number4 b i = number2 b i + 65536 * number2 b (i + 2)
+
+-- Whether two lists of bytes are the same.
+unfoldable pub sameBytes : List ℕ → List ℕ → Bool
+sameBytes [] [] = true
+sameBytes [] (b ∷ m) = false
+sameBytes (a ∷ l) [] = false
+sameBytes (a ∷ l) (b ∷ m) = eqb a b && sameBytes l m
+
+-- The points of a section, four bytes each.
+unfoldable pub pointsOf : List ℕ → List Point
+pointsOf [] = []
+pointsOf (a ∷ []) = []
+pointsOf (a ∷ b ∷ []) = []
+pointsOf (a ∷ b ∷ c ∷ []) = []
+pointsOf (a ∷ b ∷ c ∷ d ∷ l) = record { x = signed16 a b; y = signed16 c d } ∷ pointsOf l
+
+-- The offset and the length of section k, from its pair in the header: "Then three pairs of offset and length, 4 bytes each".
+abbrev pub offset : List ℕ → ℕ → ℕ
+offset b k = number4 b (6 + 8 * k)
+
+abbrev pub size : List ℕ → ℕ → ℕ
+size b k = number4 b (10 + 8 * k)
+
+abbrev pub section : List ℕ → ℕ → List ℕ
+section b k = take (size b k) (drop (offset b k) b)
+
+-- 1: "under 30 or over 784 bytes, other first four bytes, or a section count other than 3"
+abbrev pub headed : List ℕ → Bool
+headed b =
+    leb headerSize (length b) && (leb (length b) longest && (sameBytes (take 4 b) magic && eqb (number2 b 4) 3))
+
+-- 2: "The first section starts at byte 30, each other where the one before ends, and the last ends with the file."
+abbrev pub laidOut : List ℕ → Bool
+laidOut b =
+    eqb (offset b 0) headerSize
+    && (eqb (offset b 1) (offset b 0 + size b 0)
+    && (eqb (offset b 2) (offset b 1 + size b 1) && eqb (length b) (offset b 2 + size b 2)))
+
+-- 3: "pins or taps not a multiple of 4 bytes, or runs not of 2"
+abbrev pub whole : List ℕ → Bool
+whole b = eqb (size b 0 % 4) 0 && (eqb (size b 1 % 4) 0 && eqb (size b 2 % 2) 0)
+
+-- The pins and taps that a file shows.
+abbrev pub shown : List ℕ → State
+shown b = record { pins = pointsOf (section b 0); steiner = pointsOf (section b 1) }
+
+-- "With empty taps and runs sections the file is plain"
+abbrev pub plain : List ℕ → Bool
+plain b = eqb (size b 1) 0 && eqb (size b 2) 0
+
+-- 6: "not plain, and its runs break the order or number rules above, or it shows no sound deck". The runs of a sound deck are
+-- those of its tree in the listing order, so they are the runs section of the state.
+abbrev pub showsDeck : List ℕ → State → Bool
+showsDeck b s = plain b || (valid s && sameBytes (section b 2) (runSection s))
+
+-- Reading a file: the checks 1 to 6 in this order. 4: "more than 64 pins".
+-- 5: "a coordinate out of range, points of a section not strictly rising, or a tap on a pin".
+unfoldable pub readFile : List ℕ → Read
+readFile b =
+    let s = shown b in
+    if (headed b)
+    (λ _. if (laidOut b)
+    (λ _. if (whole b)
+    (λ _. if (leb (length (s .pins)) maxPins)
+    (λ _. if (placed s)
+    (λ _. if (showsDeck b s) (λ _. deck s) (λ _. refusal 6))
+    (λ _. refusal 5))
+    (λ _. refusal 4))
+    (λ _. refusal 3))
+    (λ _. refusal 2))
+    (λ _. refusal 1)

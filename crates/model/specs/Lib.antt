@@ -1,0 +1,13 @@
+pub mod Call
+pub mod Decks
+pub mod Demand3
+pub mod Example
+pub mod File
+pub mod Joining
+pub mod Listing
+pub mod Question
+pub mod Round
+pub mod Set
+pub mod State
+pub mod Table
+pub mod Tree

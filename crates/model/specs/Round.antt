@@ -1,0 +1,88 @@
+-- The round and the run to the end.
+use mathlib.Core.Bool.{Bool, not}
+use mathlib.Core.Option.{Option, none, some}
+use mathlib.Core.List.{List, [], _∷_, _++_, map}
+use Prim.Native.Nat.{ℕ, zero, suc, _-_}
+use lib.IntN.{ℤ, pos, subℕ}
+use lib.Signed.{ltZ}
+use Rattle.plane.specs.Test.{if}
+use Rattle.plane.specs.Point.{Point, lower}
+use Rattle.model.specs.Set.{put, has, sort}
+use Rattle.model.specs.Tree.{treeLength}
+use Rattle.model.specs.State.{State, points, prune}
+
+-- The points of one column: this x with each y, lower first.
+unfoldable pub column : ℤ → List ℤ → List Point
+column x ys = map (λ (y : ℤ). record { x = x; y = y }) ys
+
+-- Every crossing of an x with a y, lower first where both lists rise.
+unfoldable pub crossings : List ℤ → List ℤ → List Point
+crossings [] ys = []
+crossings (x ∷ xs) ys = column x ys ++ crossings xs ys
+
+-- The members of l that are not in ps.
+unfoldable pub notHeld : List Point → List Point → List Point
+notHeld ps [] = []
+notHeld ps (c ∷ l) = if (has lower c ps) (λ _. notHeld ps l) (λ _. c ∷ notHeld ps l)
+
+-- "Candidates are the crossings of an x of any point held, taps included, with a y of any point held, at places not held." Lower first.
+unfoldable pub candidates : List Point → List Point
+candidates ps =
+    notHeld ps
+    (crossings (sort ltZ (map (λ (p : Point). p .x) ps)) (sort ltZ (map (λ (p : Point). p .y) ps)))
+
+-- "A candidate's saving is the tree's length now less that of the tree with it. A saving may be negative."
+unfoldable pub saving : ℕ → List Point → Point → ℤ
+saving now ps c = subℕ now (treeLength (put lower c ps))
+
+-- Of the candidates, the lowest of greatest saving above `top`, else what was found before.
+unfoldable pub bestAbove : ℕ → List Point → ℤ → Option Point → List Point → Option Point
+bestAbove now ps top found [] = found
+bestAbove now ps top found (c ∷ cs) =
+    let v = saving now ps c in
+    if (ltZ top v) (λ _. bestAbove now ps v (some c) cs) (λ _. bestAbove now ps top found cs)
+
+-- "the lowest candidate of greatest saving", none where "no candidate saves more than 0"
+unfoldable pub best : List Point → Option Point
+best ps = bestAbove (treeLength ps) ps (pos 0) none (candidates ps)
+
+-- The answer of a round: finished, or the new tap and the whole fall in length.
+pub data RoundAnswer : Type 0 where
+  finished : RoundAnswer
+  tap : Point → ℕ → RoundAnswer
+
+pub record RoundResult : Type 0 where
+  pub next : State
+  pub answer : RoundAnswer
+
+-- The state's points with one more Steiner point.
+abbrev pub withSteiner : Point → State → State
+withSteiner c s = record { pins = s .pins; steiner = put lower c (s .steiner) }
+
+-- "If no candidate saves more than 0, the answer is finished and the deck is unchanged. Otherwise the lowest candidate of
+-- greatest saving becomes a tap, a sweep follows, and the answer gives the tap and the whole fall in length."
+unfoldable pub round : State → RoundResult
+round s =
+    elim (best (points s)) [
+      | none ↦ record { next = s; answer = finished }
+      | some c ↦ let s′ = prune (withSteiner c s) in
+          record { next = s′; answer = tap c (treeLength (points s) - treeLength (points s′)) }
+    ]
+
+pub record Ended : Type 0 where
+  pub final : State
+  pub count : ℕ
+
+-- At most k rounds that add a tap, up to the first that is finished; `count` is how many added one.
+unfoldable pub roundsFrom : ℕ → State → Ended
+roundsFrom zero s = record { final = s; count = 0 }
+roundsFrom (suc k) s =
+    let r = round s in
+    elim (r .answer) [
+      | finished ↦ record { final = s; count = 0 }
+      | tap c fall ↦ let e = roundsFrom k (r .next) in record { final = e .final; count = suc (e .count) }
+    ]
+
+-- "Run to the end. Rounds until finished, with the number of rounds that added a tap." No more can add one than the tree has centimetres.
+unfoldable pub finish : State → Ended
+finish s = roundsFrom (treeLength (points s)) s

@@ -1,0 +1,94 @@
+-- The state of a deck: its pins and its Steiner points (document 01: taps). What joins, leaves and is swept.
+use mathlib.Core.Bool.{Bool, not, _&&_}
+use mathlib.Core.Option.{Option, none, some}
+use mathlib.Core.List.{List, [], _∷_, List·Memᴰ}
+use Prim.Native.Nat.{ℕ, zero, suc, _≤_}
+use lib.Dec.{T, leb}
+use lib.ListN.{length}
+use Rattle.spanning.specs.Order.{Sorted}
+use Rattle.plane.specs.Test.{if}
+use Rattle.plane.specs.Point.{Point, inRange, lower, Lower}
+use Rattle.plane.specs.Edge.{Edge}
+use Rattle.model.specs.Set.{put, out, has, union, rising, all}
+use Rattle.model.specs.Tree.{mst, edgesAt}
+
+-- The pins and the Steiner points of a deck.
+pub record State : Type 0 where
+  pub pins : List Point
+  pub steiner : List Point
+
+-- A deck with no pin and no Steiner point.
+abbrev pub empty : State
+empty = record { pins = []; steiner = [] }
+
+-- All points held, lower first.
+unfoldable pub points : State → List Point
+points s = union lower (s .pins) (s .steiner)
+
+-- The most pins that a deck holds.
+abbrev pub maxPins : ℕ
+maxPins = 64
+
+-- "each tap of a deck between calls has three runs or more"
+abbrev pub strong : List Edge → Point → Bool
+strong t q = leb 3 (edgesAt q t)
+
+-- Points in range, strictly rising and at different places.
+pub record Placed (s : State) : Type 0 where
+  pub pinsRange : (p : Point) → List·Memᴰ p (s .pins) → T (inRange p)
+  pub steinerRange : (p : Point) → List·Memᴰ p (s .steiner) → T (inRange p)
+  pub pinsRise : Sorted Lower (s .pins)
+  pub steinerRise : Sorted Lower (s .steiner)
+  pub apart : (p : Point) → List·Memᴰ p (s .pins) → List·Memᴰ p (s .steiner) → ⊥
+
+-- A valid state (document 01: sound, but for the struct's unused places): at most 64 pins; points in range, strictly rising
+-- and at different places; each Steiner point with three edges or more.
+pub record Valid (s : State) : Type 0 where
+  pub few : length (s .pins) ≤ maxPins
+  pub placed : Placed s
+  pub branching : (q : Point) → List·Memᴰ q (s .steiner) → 3 ≤ edgesAt q (mst (points s))
+
+-- `Placed` as a test.
+unfoldable pub placed : State → Bool
+placed s =
+    all inRange (s .pins)
+    && (all inRange (s .steiner)
+    && (rising lower (s .pins)
+    && (rising lower (s .steiner) && all (λ (p : Point). not (has lower p (s .steiner))) (s .pins))))
+
+-- Validity as a test.
+unfoldable pub valid : State → Bool
+valid s =
+    let t = mst (points s) in
+    leb (length (s .pins)) maxPins && (placed s && all (strong t) (s .steiner))
+
+-- The lowest of the given points that has at most two edges in the tree t.
+unfoldable pub weakest : List Edge → List Point → Option Point
+weakest t [] = none
+weakest t (q ∷ l) = if (strong t q) (λ _. weakest t l) (λ _. some q)
+
+-- The state without the Steiner point q.
+abbrev pub without : Point → State → State
+without q s = record { pins = s .pins; steiner = out lower q (s .steiner) }
+
+-- The sweep, for at most as many removals as the first number says; t is the tree of the state's points.
+-- "While some tap has at most two runs in the tree, the lowest such tap is taken out and the tree is that of the points left."
+unfoldable pub pruneFrom : ℕ → State → List Edge → State
+pruneFrom zero s t = s
+pruneFrom (suc k) s t =
+    elim (weakest t (s .steiner)) [
+      | none ↦ s
+      | some q ↦ let next = without q s in pruneFrom k next (mst (points next))
+    ]
+
+-- The sweep (document 01's word; here prune). No more can be taken out than there are Steiner points.
+unfoldable pub prune : State → State
+prune s = pruneFrom (length (s .steiner)) s (mst (points s))
+
+-- "Add a pin. The point joins, then a sweep. Where a tap stands, it becomes a pin."
+unfoldable pub insert : Point → State → State
+insert p s = prune (record { pins = put lower p (s .pins); steiner = out lower p (s .steiner) })
+
+-- "Withdraw a pin. The point leaves, then a sweep."
+unfoldable pub remove : Point → State → State
+remove p s = prune (record { pins = out lower p (s .pins); steiner = s .steiner })

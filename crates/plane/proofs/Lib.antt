@@ -1,0 +1,12 @@
+pub mod OctantTable
+pub mod Whole
+pub mod Order
+pub mod Metric
+pub mod Range
+pub mod Sector
+pub mod Octant
+pub mod SameOctant
+pub mod Median
+pub mod Test
+pub mod Joining
+pub mod Nearest

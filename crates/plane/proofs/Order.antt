@@ -1,0 +1,142 @@
+-- Lower, the listing order and the order of runs are strict total orders. One law serves all three: an order by a key, then by another.
+use mathlib.Core.Path.{_≡_, refl, sym, _∙_, ap, subst, subst⁻¹}
+use mathlib.Core.Logic.{_⊎_, inl, inr, ⊎-elim}
+use mathlib.Core.Bool.{Bool, true, false, not}
+use Prim.Native.Nat.{ℕ, _+_, _≤_, _<_}
+use native.Mathlib.Omega.{arith}
+use native.Mathlib.Decide.{decLt}
+use lib.Dec.{T, T-not, not-T, ltb, ltb→lt, lt→ltb, nltb→le}
+use lib.IntN.{ℤ}
+use lib.Signed.{ltZ}
+use Rattle.spanning.specs.Order.{StrictTotal}
+use Rattle.plane.specs.Test.{thenBy}
+use Rattle.plane.specs.Point.{Point, lower, Lower}
+use Rattle.plane.specs.Edge.{Edge, edgeLength, listedBefore, before, Before}
+use Rattle.plane.proofs.Test.{thenBy-cases, thenBy-first, thenBy-next}
+use Rattle.plane.proofs.Whole.{plus, minus, whole-ext, less-value, value-less}
+
+-- Neither is less, so they are equal.
+pub tied : {K : Type 0} (less : K → K → Bool) → StrictTotal (λ (a b : K). T (less a b)) → (a b : K) → T (not (less a b)) → T (not (less b a)) → a ≡ b
+tied less o a b f g = ⊎-elim (λ h. absurd (T-not (less a b) f h)) (λ h. ⊎-elim (λ e. e) (λ k. absurd (T-not (less b a) g k)) h) (o .compare a b)
+
+module _ {A K : Type 0} (key : A → K) (less : K → K → Bool) (o : StrictTotal (λ (a b : K). T (less a b))) (next : A → A → Bool)
+    (next-irrefl : (a : A) → ¬ T (next a a)) (next-trans : (a b c : A) → T (next a b) → T (next b c) → T (next a c))
+    (next-compare : (a b : A) → key a ≡ key b → T (next a b) ⊎ ((a ≡ b) ⊎ T (next b a))) where
+  both : A → A → Bool
+  both a b = thenBy (less (key a) (key b)) (less (key b) (key a)) (λ _. next a b)
+
+  not-self : (k : K) → T (not (less k k))
+  not-self k = not-T (less k k) (o .irrefl k)
+
+  first-of : (a b : A) → T (less (key a) (key b)) → T (both a b)
+  unfolding both
+  first-of a b h = thenBy-first (less (key a) (key b)) (less (key b) (key a)) (λ _. next a b) h
+
+  next-of : (a b : A) → T (not (less (key a) (key b))) → T (not (less (key b) (key a))) → T (next a b) → T (both a b)
+  unfolding both
+  next-of a b f g h = thenBy-next (less (key a) (key b)) (less (key b) (key a)) (λ _. next a b) f g h
+
+  cases-of : (a b : A) → T (both a b) → T (less (key a) (key b)) ⊎ ((key a ≡ key b) × T (next a b))
+  unfolding both
+  cases-of a b t =
+      ⊎-elim (λ h. inl h) (λ c. inr (tied less o (key a) (key b) (c .0) (c .1), c .2))
+      (thenBy-cases (less (key a) (key b)) (less (key b) (key a)) (λ _. next a b) t)
+
+  level : (a b : A) → key a ≡ key b → T (next a b) → T (both a b)
+  level a b e h =
+      next-of a b (subst (λ (z : K). T (not (less (key a) z))) e (not-self (key a)))
+      (subst (λ (z : K). T (not (less z (key a)))) e (not-self (key a))) h
+
+  both-irrefl : (a : A) → ¬ T (both a a)
+  both-irrefl a t = ⊎-elim (o .irrefl (key a)) (λ c. next-irrefl a (c .1)) (cases-of a a t)
+
+  both-trans : (a b c : A) → T (both a b) → T (both b c) → T (both a c)
+  both-trans a b c s t =
+      ⊎-elim
+      (λ h. ⊎-elim (λ k. first-of a c (o .trans (key a) (key b) (key c) h k))
+      (λ k. first-of a c (subst (λ (z : K). T (less (key a) z)) (k .0) h)) (cases-of b c t))
+      (λ h. ⊎-elim (λ k. first-of a c (subst⁻¹ (λ (z : K). T (less z (key c))) (h .0) k))
+      (λ k. level a c (h .0 ∙ k .0) (next-trans a b c (h .1) (k .1))) (cases-of b c t))
+      (cases-of a b s)
+
+  both-compare : (a b : A) → T (both a b) ⊎ ((a ≡ b) ⊎ T (both b a))
+  both-compare a b =
+      ⊎-elim (λ h. inl (first-of a b h))
+      (λ r. ⊎-elim
+      (λ e. ⊎-elim (λ n. inl (level a b e n))
+      (λ m. ⊎-elim (λ p. inr (inl p)) (λ n. inr (inr (level b a (sym e) n))) m) (next-compare a b e))
+      (λ h. inr (inr (first-of b a h))) r)
+      (o .compare (key a) (key b))
+
+  pub by-keys : StrictTotal (λ (a b : A). T (thenBy (less (key a) (key b)) (less (key b) (key a)) (λ _. next a b)))
+  unfolding both
+  by-keys = record { irrefl = both-irrefl; trans = both-trans; compare = both-compare }
+
+pub nat-order : StrictTotal (λ (m n : ℕ). T (ltb m n))
+nat-order =
+    record {
+      irrefl = λ m t. omega (arith, ltb→lt m m t);
+      trans = λ l m n s t. lt→ltb l n (omega (arith, ltb→lt l m s, ltb→lt m n t));
+      compare = compare;
+    }
+  where
+    go : (m n : ℕ) → Dec (m < n) → Dec (n < m) → T (ltb m n) ⊎ ((m ≡ n) ⊎ T (ltb n m))
+    go m n (yes h) d = inl (lt→ltb m n h)
+    go m n (no h) (yes k) = inr (inr (lt→ltb n m k))
+    go m n (no h) (no k) = inr (inl (omega arith))
+
+    compare : (m n : ℕ) → T (ltb m n) ⊎ ((m ≡ n) ⊎ T (ltb n m))
+    compare m n = go m n (decLt m n) (decLt n m)
+
+pub whole-order : StrictTotal (λ (a b : ℤ). T (ltZ a b))
+whole-order =
+    record {
+      irrefl = λ a t. omega (arith, less-value a a t);
+      trans = λ a b c s t. value-less a c (omega (arith, less-value a b s, less-value b c t));
+      compare = compare;
+    }
+  where
+    go : (a b : ℤ) → Dec (plus a + minus b < plus b + minus a) → Dec (plus b + minus a < plus a + minus b)
+        → T (ltZ a b) ⊎ ((a ≡ b) ⊎ T (ltZ b a))
+    go a b (yes h) d = inl (value-less a b h)
+    go a b (no h) (yes k) = inr (inr (value-less b a k))
+    go a b (no h) (no k) = inr (inl (whole-ext a b (omega arith)))
+
+    compare : (a b : ℤ) → T (ltZ a b) ⊎ ((a ≡ b) ⊎ T (ltZ b a))
+    compare a b = go a b (decLt (plus a + minus b) (plus b + minus a)) (decLt (plus b + minus a) (plus a + minus b))
+
+-- Lower: by x, then by y.
+pub lower-order : StrictTotal Lower
+unfolding lower
+lower-order =
+    by-keys (λ (p : Point). p .x) ltZ whole-order (λ (p q : Point). ltZ (p .y) (q .y))
+    (λ p. whole-order .irrefl (p .y)) (λ p q r. whole-order .trans (p .y) (q .y) (r .y))
+    (λ p q e. ⊎-elim (λ h. inl h) (λ r. inr (⊎-elim (λ f. inl (λ i. record { x = e i; y = f i })) (λ k. inr k) r)) (whole-order .compare (p .y) (q .y)))
+
+-- The listing order: by the lower end, then by the higher.
+pub listed-order : StrictTotal (λ (e f : Edge). T (listedBefore e f))
+unfolding listedBefore
+listed-order =
+    by-keys (λ (e : Edge). e .lo) lower lower-order (λ (e f : Edge). lower (e .hi) (f .hi))
+    (λ e. lower-order .irrefl (e .hi)) (λ e f g. lower-order .trans (e .hi) (f .hi) (g .hi))
+    (λ e f p. ⊎-elim (λ h. inl h) (λ r. inr (⊎-elim (λ q. inl (λ i. record { lo = p i; hi = q i })) (λ k. inr k) r)) (lower-order .compare (e .hi) (f .hi)))
+
+-- The order of runs: by length, then by the listing order.
+pub before-order : StrictTotal Before
+unfolding before
+before-order =
+    by-keys edgeLength ltb nat-order listedBefore (listed-order .irrefl) (listed-order .trans) (λ e f p. listed-order .compare e f)
+
+-- It agrees with length.
+pub before-length : (e f : Edge) → Before e f → edgeLength e ≤ edgeLength f
+unfolding before
+before-length e f t =
+    ⊎-elim (λ h. omega (arith, ltb→lt (edgeLength e) (edgeLength f) h)) (λ c. nltb→le (edgeLength f) (edgeLength e) (c .1))
+    (thenBy-cases (ltb (edgeLength e) (edgeLength f)) (ltb (edgeLength f) (edgeLength e)) (λ _. listedBefore e f) t)
+
+-- A shorter run comes before.
+pub shorter-before : (e f : Edge) → edgeLength e < edgeLength f → Before e f
+unfolding before
+shorter-before e f h =
+    thenBy-first (ltb (edgeLength e) (edgeLength f)) (ltb (edgeLength f) (edgeLength e)) (λ _. listedBefore e f)
+    (lt→ltb (edgeLength e) (edgeLength f) h)

@@ -1,0 +1,30 @@
+-- Two points in range are at most 120,000 centimetres apart.
+use mathlib.Core.Path.{_≡_}
+use mathlib.Core.Logic.{⊎-elim}
+use Prim.Native.Nat.{ℕ, _+_, _≤_}
+use native.Mathlib.Omega.{arith}
+use lib.Dec.{T}
+use lib.IntN.{ℤ, pos, negsuc}
+use lib.Signed.{leZ}
+use Rattle.plane.specs.Point.{Point, limit, coordinateInRange, inRange, gap, dist}
+use Rattle.plane.proofs.Test.{and-parts}
+use Rattle.plane.proofs.Whole.{plus, minus, one-sided, atmost-value, gap-le}
+
+-- A coordinate in range by natural numbers.
+pub range-values : (z : ℤ) → T (coordinateInRange z) → (plus z ≤ 30000) × (minus z ≤ 30000)
+range-values z t =
+    let h = and-parts (leZ (negsuc 29999) z) (leZ z (pos limit)) t in
+    ⊎-elim (λ e. (omega arith, omega (arith, atmost-value (negsuc 29999) z (h .0)))) (λ e. (omega (arith, atmost-value z (pos limit) (h .1)), omega arith)) (one-sided z)
+
+gap-range : (a b : ℤ) → T (coordinateInRange a) → T (coordinateInRange b) → gap a b ≤ 60000
+gap-range a b s t =
+    let h = range-values a s in
+    let k = range-values b t in
+    gap-le a b 60000 (omega arith) (omega arith)
+
+pub dist-range : (p q : Point) → T (inRange p) → T (inRange q) → dist p q ≤ 120000
+unfolding dist
+dist-range p q s t =
+    let h = and-parts (coordinateInRange (p .x)) (coordinateInRange (p .y)) s in
+    let k = and-parts (coordinateInRange (q .x)) (coordinateInRange (q .y)) t in
+    omega (arith, gap-range (p .x) (q .x) (h .0) (k .0), gap-range (p .y) (q .y) (h .1) (k .1))

@@ -1,0 +1,33 @@
+-- Laws of the tests: a choice by a test, both of two tests, an order by two keys.
+use mathlib.Core.Logic.{_⊎_, inl, inr}
+use mathlib.Core.Bool.{Bool, true, false, not, _&&_}
+use lib.Dec.{T}
+use Rattle.plane.specs.Test.{if, thenBy}
+
+-- What holds of both arms holds of a choice by a test.
+pub by-test : {B : Type 0} (P : B → Type 0) (b : Bool) (x y : Unit {0} → B) → (T b → P (x tt)) → (T (not b) → P (y tt)) → P (if b x y)
+by-test P true x y f g = f tt
+by-test P false x y f g = g tt
+
+pub and-parts : (a b : Bool) → T (a && b) → T a × T b
+and-parts true b t = (tt, t)
+and-parts false b t = absurd t
+
+pub and-both : (a b : Bool) → T a → T b → T (a && b)
+and-both true b s t = t
+and-both false b s t = absurd s
+
+-- What an order by two keys says.
+pub thenBy-cases : (l m : Bool) (n : Unit {0} → Bool) → T (thenBy l m n) → T l ⊎ (T (not l) × T (not m) × T (n tt))
+thenBy-cases true m n t = inl tt
+thenBy-cases false true n t = absurd t
+thenBy-cases false false n t = inr (tt, tt, t)
+
+pub thenBy-first : (l m : Bool) (n : Unit {0} → Bool) → T l → T (thenBy l m n)
+thenBy-first true m n t = tt
+thenBy-first false m n t = absurd t
+
+pub thenBy-next : (l m : Bool) (n : Unit {0} → Bool) → T (not l) → T (not m) → T (n tt) → T (thenBy l m n)
+thenBy-next true m n a b t = absurd a
+thenBy-next false true n a b t = absurd b
+thenBy-next false false n a b t = t

@@ -1,0 +1,42 @@
+-- Edges (document 01: runs) and their order.
+use mathlib.Core.Bool.{Bool}
+use Prim.Native.Nat.{ℕ}
+use lib.Dec.{T, ltb}
+use Rattle.spanning.specs.Graph.{Graph}
+use Rattle.plane.specs.Test.{if, thenBy}
+use Rattle.plane.specs.Point.{Point, lower, Lower, dist, pointDec}
+
+-- An edge (document 01: a run) as its lower and its higher end. `Rising` says that they are so; "a run joins two different points".
+pub record Edge : Type 0 where
+  pub lo : Point
+  pub hi : Point
+
+abbrev pub Rising : Edge → Type 0
+Rising e = Lower (e .lo) (e .hi)
+
+-- The edge between two points, whichever is lower.
+unfoldable pub joining : Point → Point → Edge
+joining p q = if (lower p q) (λ _. record { lo = p; hi = q }) (λ _. record { lo = q; hi = p })
+
+-- The length of a run.
+abbrev pub edgeLength : Edge → ℕ
+edgeLength e = dist (e .lo) (e .hi)
+
+-- The order by the ends: the lower end first, then the higher. It is the listing order of runs ("runs rise by first then
+-- second byte", the numbers of their ends), and it decides among runs of equal length.
+unfoldable pub listedBefore : Edge → Edge → Bool
+listedBefore r s = thenBy (lower (r .lo) (s .lo)) (lower (s .lo) (r .lo)) (λ _. lower (r .hi) (s .hi))
+
+-- "Run r comes before run s if it is shorter; at equal length, if its lower end is lower; at the same lower end, if its higher end is lower."
+unfoldable pub before : Edge → Edge → Bool
+before r s =
+    let m = edgeLength r in
+    let n = edgeLength s in
+    thenBy (ltb m n) (ltb n m) (λ _. listedBefore r s)
+
+abbrev pub Before : Edge → Edge → Type 0
+Before r s = T (before r s)
+
+-- Points and edges as a graph.
+unfoldable pub planar : Graph Point Edge
+planar = record { lo = λ e. e .lo; hi = λ e. e .hi; dec = pointDec }

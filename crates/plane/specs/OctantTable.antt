@@ -1,0 +1,48 @@
+-- Document 01's examples of octants, as two tables.
+use mathlib.Core.Path.{_≡_}
+use mathlib.Core.Option.{Option, none, some}
+use mathlib.Core.List.{List, [], _∷_}
+use Prim.Native.Nat.{ℕ}
+use lib.IntN.{ℤ, pos, negsuc}
+use Rattle.plane.specs.Point.{Point, gap, dist}
+use Rattle.plane.specs.Octant.{conditions, firstTrue, octant}
+use Rattle.plane.specs.Nearest.{nearest}
+
+-- The octants of a list of differences.
+unfoldable pub octants : List Point → List ℕ
+unfolding conditions firstTrue octant
+octants [] = []
+octants (d ∷ l) = octant (d .x) (d .y) ∷ octants l
+
+abbrev pub at : ℤ → ℤ → Point
+at x y = record { x = x; y = y }
+
+-- 11. "differences (1,0), (1,1), (0,1), (−1,1): octants 0, 1, 2, 3"
+abbrev pub Deck11 : Type 0
+Deck11 = octants (at (pos 1) (pos 0) ∷ at (pos 1) (pos 1) ∷ at (pos 0) (pos 1) ∷ at (negsuc 0) (pos 1) ∷ []) ≡ 0 ∷ 1 ∷ 2 ∷ 3 ∷ []
+
+-- The borders of all eight octants in turn, and a difference inside each; 8 is the answer for no difference.
+abbrev pub Borders : Type 0
+Borders =
+    octants (at (negsuc 0) (pos 0) ∷ at (negsuc 0) (negsuc 0) ∷ at (pos 0) (negsuc 0) ∷ at (pos 1) (negsuc 0)
+    ∷ at (pos 2) (pos 1) ∷ at (pos 1) (pos 2) ∷ at (negsuc 0) (pos 2) ∷ at (negsuc 1) (pos 1)
+    ∷ at (negsuc 1) (negsuc 0) ∷ at (negsuc 0) (negsuc 1) ∷ at (pos 1) (negsuc 1) ∷ at (pos 2) (negsuc 0) ∷ at (pos 0) (pos 0) ∷ [])
+    ≡ 4 ∷ 5 ∷ 6 ∷ 7 ∷ 0 ∷ 1 ∷ 2 ∷ 3 ∷ 4 ∷ 5 ∷ 6 ∷ 7 ∷ 8 ∷ []
+
+-- The nearest of the points in each octant, from octant 0 on.
+unfoldable pub star : Point → List Point → List (Option Point)
+unfolding gap dist conditions nearest
+star p ps =
+    nearest 0 p ps ∷ nearest 1 p ps ∷ nearest 2 p ps ∷ nearest 3 p ps ∷ nearest 4 p ps ∷ nearest 5 p ps
+    ∷ nearest 6 p ps ∷ nearest 7 p ps ∷ []
+
+-- "Where (0,0) joins (2,−2), (2,2) and (5,0), its run to (5,0) ties at length 5 [..] and comes first": octant 0 must offer (5,0).
+abbrev pub Joined : Type 0
+Joined =
+    star (at (pos 0) (pos 0)) (at (pos 2) (negsuc 1) ∷ at (pos 2) (pos 2) ∷ at (pos 5) (pos 0) ∷ [])
+    ≡ some (at (pos 5) (pos 0)) ∷ some (at (pos 2) (pos 2)) ∷ none ∷ none ∷ none ∷ none ∷ none ∷ some (at (pos 2) (negsuc 1)) ∷ []
+
+-- Two points at the same distance in one octant: the lower is the nearest.
+abbrev pub LowerOfEquals : Type 0
+LowerOfEquals =
+    nearest 0 (at (pos 0) (pos 0)) (at (pos 5) (pos 2) ∷ at (pos 6) (pos 1) ∷ at (pos 7) (pos 0) ∷ []) ≡ some (at (pos 5) (pos 2))

@@ -1,0 +1,69 @@
+-- Points, when they are in range, which is lower, and their distance.
+use mathlib.Core.Path.{_≡_, refl, ap, subst⁻¹}
+use mathlib.Core.Bool.{Bool, true, false, _&&_}
+use Prim.Native.Nat.{ℕ, _+_}
+use lib.Dec.{T, eqb, eqb→eq, eqb-refl}
+use lib.IntN.{ℤ, pos, negsuc, natAbs, _-ℤ_}
+use lib.Signed.{ltZ, leZ}
+use Rattle.plane.specs.Test.{thenBy}
+
+-- A point (document 01: a pair x, y of whole centimetres), here any pair of whole numbers.
+pub record Point : Type 0 where
+  pub x : ℤ
+  pub y : ℤ
+
+-- The largest coordinate: "each from −30,000 to 30,000".
+abbrev pub limit : ℕ
+limit = 30000
+
+-- A coordinate in range.
+abbrev pub coordinateInRange : ℤ → Bool
+coordinateInRange z = leZ (negsuc 29999) z && leZ z (pos limit)
+
+-- A point in range.
+abbrev pub inRange : Point → Bool
+inRange p = coordinateInRange (p .x) && coordinateInRange (p .y)
+
+-- "Point a is lower than b if its x is smaller, or the x are equal and its y is smaller."
+unfoldable pub lower : Point → Point → Bool
+lower a b = thenBy (ltZ (a .x) (b .x)) (ltZ (b .x) (a .x)) (λ _. ltZ (a .y) (b .y))
+
+abbrev pub Lower : Point → Point → Type 0
+Lower a b = T (lower a b)
+
+-- The distance along one axis.
+unfoldable pub gap : ℤ → ℤ → ℕ
+gap a b = natAbs (a -ℤ b)
+
+-- The distance of two points, |x1 − x2| + |y1 − y2|.
+unfoldable pub dist : Point → Point → ℕ
+dist p q = gap (p .x) (q .x) + gap (p .y) (q .y)
+
+-- Whether two whole numbers are equal, as a test that computes.
+abbrev pub sameZ : ℤ → ℤ → Bool
+sameZ (pos a) (pos b) = eqb a b
+sameZ (pos a) (negsuc b) = false
+sameZ (negsuc a) (pos b) = false
+sameZ (negsuc a) (negsuc b) = eqb a b
+
+pub sameZ-eq : (a b : ℤ) → T (sameZ a b) → a ≡ b
+sameZ-eq (pos a) (pos b) t = ap pos (eqb→eq a b t)
+sameZ-eq (pos a) (negsuc b) t = absurd t
+sameZ-eq (negsuc a) (pos b) t = absurd t
+sameZ-eq (negsuc a) (negsuc b) t = ap negsuc (eqb→eq a b t)
+
+pub sameZ-refl : (a : ℤ) → T (sameZ a a)
+sameZ-refl (pos a) = eqb-refl a
+sameZ-refl (negsuc a) = eqb-refl a
+
+-- Two points are told apart by their coordinates.
+unfoldable pub pointDec : Discrete Point
+pointDec p q = byX (sameZ (p .x) (q .x)) (sameZ-eq (p .x) (q .x)) (λ e. subst⁻¹ (λ (z : ℤ). T (sameZ z (q .x))) (ap (λ (r : Point). r .x) e) (sameZ-refl (q .x)))
+  where
+    byY : (b : Bool) → (T b → p .y ≡ q .y) → (p ≡ q → T b) → p .x ≡ q .x → Dec (p ≡ q)
+    byY true f g ex = let ey = f tt in yes (λ i. record { x = ex i; y = ey i })
+    byY false f g ex = no (λ e. g e)
+
+    byX : (b : Bool) → (T b → p .x ≡ q .x) → (p ≡ q → T b) → Dec (p ≡ q)
+    byX true f g = byY (sameZ (p .y) (q .y)) (sameZ-eq (p .y) (q .y)) (λ e. subst⁻¹ (λ (z : ℤ). T (sameZ z (q .y))) (ap (λ (r : Point). r .y) e) (sameZ-refl (q .y))) (f tt)
+    byX false f g = no (λ e. g e)

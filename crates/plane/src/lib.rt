@@ -1,0 +1,1 @@
+// The plane of a deck: points, distances, the orders and the octants.

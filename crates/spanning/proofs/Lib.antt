@@ -1,0 +1,14 @@
+pub mod Conn
+pub mod Component
+pub mod Sorted
+pub mod Forest
+pub mod Kruskal
+pub mod Rank
+pub mod Least
+pub mod Cover
+pub mod Member
+pub mod Rename
+pub mod Totals
+pub mod Count
+pub mod Degree
+pub mod Tree

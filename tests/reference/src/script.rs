@@ -1,0 +1,172 @@
+//! Scripts of calls: one call a line, one answer line for each. Document 01
+//! has no scripts; they carry the same calls to several planners.
+
+use crate::file::{read, write_into, LONGEST};
+use crate::listing::listing;
+use crate::plane::{octant, Point};
+use crate::session::{call, counts, degree_at, edge_at, length};
+use crate::session::{Call, Reply, State};
+
+/// The longest line of a script, without its line feed.
+pub const LONGEST_LINE: usize = 2_000;
+
+/// The answers to a script, a line feed after each, from the empty deck. The
+/// bytes after the last line feed are a line too, if there are any.
+pub fn play(script: &[u8]) -> String {
+    let mut state = State::default();
+    let mut answers = String::new();
+    for line in script.split(|&byte| byte == b'\n') {
+        if let Some(answer) = answer_line(&mut state, line) {
+            answers += &answer;
+            answers += "\n";
+        }
+    }
+    answers
+}
+
+/// The answer to one line, or none for an empty line or a comment. A line too
+/// long, a word that is no call and a number of more than 32 bits are errors.
+pub fn answer_line(state: &mut State, line: &[u8]) -> Option<String> {
+    if line.len() > LONGEST_LINE {
+        return Some("error".to_string());
+    }
+    if line.is_empty() || line[0] == b'#' {
+        return None;
+    }
+    let words: Vec<&str> = match std::str::from_utf8(line) {
+        Ok(text) => text.split_ascii_whitespace().collect(),
+        Err(_) => Vec::new(),
+    };
+    let answer = answer_call(state, &words)
+        .or_else(|| answer_file(state, &words))
+        .or_else(|| answer_question(state, &words));
+    Some(answer.unwrap_or("error".to_string()))
+}
+
+/// The answer to a call that may change the deck.
+fn answer_call(state: &mut State, words: &[&str]) -> Option<String> {
+    let asked = match words {
+        ["add", x, y] => Call::Add(number(x)?, number(y)?),
+        ["withdraw", x, y] => Call::Withdraw(number(x)?, number(y)?),
+        ["round"] => Call::Round,
+        ["finish"] => Call::Finish,
+        _ => return None,
+    };
+    let (next, reply) = call(state, asked);
+    *state = next;
+    Some(reply_line(reply))
+}
+
+/// The line of a script that asks for a call.
+pub fn call_line(call: Call) -> String {
+    match call {
+        Call::Add(x, y) => format!("add {x} {y}"),
+        Call::Withdraw(x, y) => format!("withdraw {x} {y}"),
+        Call::Round => "round".to_string(),
+        Call::Finish => "finish".to_string(),
+    }
+}
+
+/// The answer line for a reply.
+pub fn reply_line(reply: Reply) -> String {
+    match reply {
+        Reply::Done => "ok".to_string(),
+        Reply::Refused(number) => refused(number),
+        Reply::Finished => "finished".to_string(),
+        Reply::Tap { x, y, gain } => format!("tap {x} {y} fall {gain}"),
+        Reply::Rounds(rounds) => format!("rounds {rounds}"),
+    }
+}
+
+/// The answer to a reading or a writing. A refused file leaves an empty deck;
+/// without a capacity the buffer is as long as the longest file.
+fn answer_file(state: &mut State, words: &[&str]) -> Option<String> {
+    match words {
+        ["read", hex] => match read(&bytes_of(hex)?) {
+            Ok(deck) => {
+                *state = deck;
+                Some("ok".to_string())
+            }
+            Err(number) => {
+                *state = State::default();
+                Some(refused(number))
+            }
+        },
+        ["write"] => Some(answer_write(state, LONGEST)),
+        ["write", capacity] => Some(answer_write(state, size(capacity)?)),
+        _ => None,
+    }
+}
+
+fn answer_write(state: &State, capacity: usize) -> String {
+    let mut buffer = vec![0; capacity.min(LONGEST)];
+    match write_into(state, &mut buffer) {
+        Ok(length) => format!("file {length} {}", hex_of(&buffer[..length])),
+        Err(number) => refused(number),
+    }
+}
+
+/// The answer to a question.
+fn answer_question(state: &State, words: &[&str]) -> Option<String> {
+    let answer = match words {
+        ["length"] => length(state).map(|length| format!("length {length}")),
+        ["counts"] => counts(state).map(|(p, t, r)| format!("counts {p} {t} {r}")),
+        ["run", place] => answer_run(state, size(place)?),
+        ["degree", x, y] => {
+            let point = Point::new(number(x)?, number(y)?);
+            degree_at(state, point).map(|degree| format!("degree {degree}"))
+        }
+        ["octant", dx, dy] => Ok(format!("octant {}", octant(number(dx)?, number(dy)?)?)),
+        ["list"] => Ok(listing(state).trim_end().replace('\n', " / ")),
+        _ => return None,
+    };
+    Some(answer.unwrap_or_else(refused))
+}
+
+fn answer_run(state: &State, place: usize) -> Result<String, u8> {
+    Ok(match edge_at(state, place)? {
+        Some(edge) => {
+            let (a, b) = (edge.lower, edge.higher);
+            format!("run {} {} {} {} {}", a.x, a.y, b.x, b.y, edge.length())
+        }
+        None => "no run".to_string(),
+    })
+}
+
+fn refused(number: u8) -> String {
+    format!("refused {number}")
+}
+
+/// A whole number of 32 bits, signed: digits, a minus sign before them if it
+/// is negative.
+fn number(word: &str) -> Option<i64> {
+    if word.starts_with('+') {
+        return None;
+    }
+    word.parse::<i32>().ok().map(i64::from)
+}
+
+/// A number that is not negative.
+fn size(word: &str) -> Option<usize> {
+    usize::try_from(number(word)?).ok()
+}
+
+/// The bytes of pairs of hexadecimal digits, `-` for none.
+pub fn bytes_of(hex: &str) -> Option<Vec<u8>> {
+    if hex == "-" {
+        return Some(Vec::new());
+    }
+    if hex.len() % 2 != 0 || !hex.bytes().all(|byte| byte.is_ascii_hexdigit()) {
+        return None;
+    }
+    let byte = |i: usize| u8::from_str_radix(&hex[2 * i..2 * i + 2], 16).ok();
+    (0..hex.len() / 2).map(byte).collect()
+}
+
+/// Pairs of hexadecimal digits for bytes, `-` for none.
+pub fn hex_of(bytes: &[u8]) -> String {
+    if bytes.is_empty() {
+        return "-".to_string();
+    }
+    bytes.iter().map(|byte| format!("{byte:02x}")).collect()
+}

@@ -1,0 +1,260 @@
+//! The calls and questions on a deck.
+
+use crate::plane::{Edge, Point};
+use crate::tree::{degree, length as tree_length, listing_order, tree};
+
+/// The greatest number of pins.
+pub const MOST_PINS: usize = 64;
+
+/// A deck between calls (document 01: deck), both lists rising. Its tree is
+/// worked out from them whenever it is needed.
+#[derive(Clone, Debug, Default, PartialEq, Eq, Hash)]
+pub struct State {
+    pub pins: Vec<Point>,
+    /// The Steiner points (document 01: taps).
+    pub steiner: Vec<Point>,
+}
+
+/// A call that may change the deck (document 01: add, withdraw, round, run to
+/// the end).
+#[derive(Clone, Copy, Debug, PartialEq, Eq, Hash)]
+pub enum Call {
+    Add(i64, i64),
+    Withdraw(i64, i64),
+    Round,
+    Finish,
+}
+
+/// The answer to a call.
+#[derive(Clone, Copy, Debug, PartialEq, Eq, Hash)]
+pub enum Reply {
+    Done,
+    Refused(u8),
+    /// A round that found no candidate of positive saving.
+    Finished,
+    /// A round that added a tap; the gain is the fall in length.
+    Tap {
+        x: i64,
+        y: i64,
+        gain: i64,
+    },
+    /// A run to the end, with the number of rounds that added a tap.
+    Rounds(usize),
+}
+
+impl State {
+    /// The state with these pins and Steiner points, in any order.
+    pub fn new(mut pins: Vec<Point>, mut steiner: Vec<Point>) -> State {
+        pins.sort();
+        steiner.sort();
+        State { pins, steiner }
+    }
+
+    /// All points held, rising.
+    pub fn points(&self) -> Vec<Point> {
+        let mut points = [self.pins.clone(), self.steiner.clone()].concat();
+        points.sort();
+        points
+    }
+
+    /// The tree of the points held.
+    pub fn tree(&self) -> Vec<Edge> {
+        tree(&self.points())
+    }
+}
+
+/// Whether the state is valid (document 01: sound). Unused places do not exist
+/// here, and the tree is always that of the points.
+pub fn is_valid(state: &State) -> bool {
+    let points = state.points();
+    state.pins.len() <= MOST_PINS
+        && points.iter().all(|point| point.in_range())
+        && rises(&state.pins)
+        && rises(&state.steiner)
+        && rises(&points)
+        && lowest_idle(state).is_none()
+}
+
+/// Whether each point is lower than the next one.
+pub fn rises(points: &[Point]) -> bool {
+    points.windows(2).all(|pair| pair[0] < pair[1])
+}
+
+/// The prune that ends each change (document 01: sweep).
+pub fn prune(mut state: State) -> State {
+    while let Some(place) = lowest_idle(&state) {
+        state.steiner.remove(place);
+    }
+    state
+}
+
+/// The place of the lowest Steiner point of at most two edges in the tree.
+fn lowest_idle(state: &State) -> Option<usize> {
+    let edges = state.tree();
+    let idle = |&tap: &Point| degree(&edges, tap) <= 2;
+    state.steiner.iter().position(idle)
+}
+
+/// One call: the deck that follows and the answer.
+pub fn call(state: &State, call: Call) -> (State, Reply) {
+    match call {
+        Call::Add(x, y) => add(state, Point::new(x, y)),
+        Call::Withdraw(x, y) => withdraw(state, Point::new(x, y)),
+        Call::Round => round(state),
+        Call::Finish => finish(state),
+    }
+}
+
+/// Adds a pin. Checks 11, 7, 8, 10.
+pub fn add(state: &State, point: Point) -> (State, Reply) {
+    if !is_valid(state) {
+        return (state.clone(), Reply::Refused(11));
+    }
+    if !point.in_range() {
+        return (state.clone(), Reply::Refused(7));
+    }
+    if state.pins.contains(&point) {
+        return (state.clone(), Reply::Refused(8));
+    }
+    if state.pins.len() == MOST_PINS {
+        return (state.clone(), Reply::Refused(10));
+    }
+    (prune(with_pin(state, point)), Reply::Done)
+}
+
+/// The state with one more pin, before the prune. A Steiner point that stands
+/// there becomes the pin.
+pub fn with_pin(state: &State, point: Point) -> State {
+    let mut pins = state.pins.clone();
+    pins.push(point);
+    State::new(pins, without(&state.steiner, point))
+}
+
+/// Withdraws a pin. Checks 11, 9.
+pub fn withdraw(state: &State, point: Point) -> (State, Reply) {
+    if !is_valid(state) {
+        return (state.clone(), Reply::Refused(11));
+    }
+    if !state.pins.contains(&point) {
+        return (state.clone(), Reply::Refused(9));
+    }
+    (prune(without_pin(state, point)), Reply::Done)
+}
+
+/// The state with one pin less, before the prune.
+pub fn without_pin(state: &State, point: Point) -> State {
+    State::new(without(&state.pins, point), state.steiner.clone())
+}
+
+fn without(points: &[Point], point: Point) -> Vec<Point> {
+    points.iter().copied().filter(|&p| p != point).collect()
+}
+
+/// The candidates of a round, rising: crossings of an x and a y of points
+/// held, at places not held.
+pub fn candidates(points: &[Point]) -> Vec<Point> {
+    let mut found = Vec::new();
+    for a in points {
+        for b in points {
+            let crossing = Point::new(a.x, b.y);
+            if !points.contains(&crossing) {
+                found.push(crossing);
+            }
+        }
+    }
+    found.sort();
+    found.dedup();
+    found
+}
+
+/// The saving of a candidate: the tree's length now less that of the tree with
+/// it.
+pub fn saving(points: &[Point], now: i64, candidate: Point) -> i64 {
+    let mut more = points.to_vec();
+    more.push(candidate);
+    now - tree_length(&tree(&more))
+}
+
+/// The lowest candidate of greatest saving and that saving, if it is positive.
+pub fn best_candidate(state: &State) -> Option<(Point, i64)> {
+    let points = state.points();
+    let now = tree_length(&tree(&points));
+    let mut best: Option<(Point, i64)> = None;
+    for candidate in candidates(&points) {
+        let saved = saving(&points, now, candidate);
+        if saved > best.map_or(0, |(_, most)| most) {
+            best = Some((candidate, saved));
+        }
+    }
+    best
+}
+
+/// The state with one more Steiner point, before the prune.
+pub fn with_steiner(state: &State, point: Point) -> State {
+    let mut steiner = state.steiner.clone();
+    steiner.push(point);
+    State::new(state.pins.clone(), steiner)
+}
+
+/// One round. Check 11.
+pub fn round(state: &State) -> (State, Reply) {
+    if !is_valid(state) {
+        return (state.clone(), Reply::Refused(11));
+    }
+    let Some((tap, _)) = best_candidate(state) else {
+        return (state.clone(), Reply::Finished);
+    };
+    let next = prune(with_steiner(state, tap));
+    let gain = tree_length(&state.tree()) - tree_length(&next.tree());
+    let (x, y) = (tap.x, tap.y);
+    (next, Reply::Tap { x, y, gain })
+}
+
+/// Rounds until finished (document 01: run to the end). Check 11.
+pub fn finish(state: &State) -> (State, Reply) {
+    let mut now = state.clone();
+    let mut rounds = 0;
+    loop {
+        let (next, reply) = round(&now);
+        match reply {
+            Reply::Tap { .. } => rounds += 1,
+            Reply::Finished => return (next, Reply::Rounds(rounds)),
+            _ => return (next, reply),
+        }
+        now = next;
+    }
+}
+
+/// The length of the deck. Check 11, as in every question.
+pub fn length(state: &State) -> Result<i64, u8> {
+    valid(state)?;
+    Ok(tree_length(&state.tree()))
+}
+
+/// The numbers of pins, Steiner points and edges.
+pub fn counts(state: &State) -> Result<(usize, usize, usize), u8> {
+    valid(state)?;
+    let edges = state.tree().len();
+    Ok((state.pins.len(), state.steiner.len(), edges))
+}
+
+/// The edge at a place in the listing order, places from 0, if there is one.
+pub fn edge_at(state: &State, place: usize) -> Result<Option<Edge>, u8> {
+    valid(state)?;
+    Ok(listing_order(&state.tree()).get(place).copied())
+}
+
+/// The number of edges at a point, 0 where none is held.
+pub fn degree_at(state: &State, point: Point) -> Result<usize, u8> {
+    valid(state)?;
+    Ok(degree(&state.tree(), point))
+}
+
+/// Refuses a state that is not valid.
+pub fn valid(state: &State) -> Result<(), u8> {
+    if is_valid(state) {
+        Ok(())
+    } else {
+        Err(11)
+    }
+}

@@ -1,0 +1,171 @@
+//! The script interpreter.
+
+use reference::file::{read, write};
+use reference::generate::{script, Random, KINDS};
+use reference::listing::list_program;
+use reference::plane::Point;
+use reference::script::{bytes_of, hex_of, play};
+use reference::session::State;
+
+/// Each line of the script beside its answer.
+fn answers(pairs: &[(&str, &str)]) {
+    let script: String = pairs.iter().map(|(line, _)| format!("{line}\n")).collect();
+    let want: String = pairs
+        .iter()
+        .map(|(_, answer)| format!("{answer}\n"))
+        .collect();
+    assert_eq!(play(script.as_bytes()), want);
+}
+
+const EXAMPLE: &str = "4445434b03001e0000000c0000002a000000040000002e00000006000000\
+                       00000000050008000a00000005000000000101020103";
+const EMPTY: &str = "4445434b03001e000000000000001e000000000000001e00000000000000";
+
+#[test]
+fn the_example_deck() {
+    answers(&[
+        ("counts", "counts 0 0 0"),
+        ("length", "length 0"),
+        ("list", "deck 0 0 0"),
+        ("run 0", "no run"),
+        ("round", "finished"),
+        ("finish", "rounds 0"),
+        ("add 0 0", "ok"),
+        ("add 5 8", "ok"),
+        ("add 10 0", "ok"),
+        ("length", "length 23"),
+        ("round", "tap 5 0 fall 5"),
+        ("round", "finished"),
+        ("counts", "counts 3 1 3"),
+        ("run 1", "run 5 0 5 8 8"),
+        ("run 3", "no run"),
+        ("degree 5 0", "degree 3"),
+        ("degree 99999 0", "degree 0"),
+        (
+            "list",
+            "deck 3 1 18 / tap 5 0 / run 0 0 5 0 5 / run 5 0 5 8 8 / run 5 0 10 0 5",
+        ),
+        ("write", &format!("file 52 {EXAMPLE}")),
+        ("write 52", &format!("file 52 {EXAMPLE}")),
+        ("write 51", "refused 12"),
+        ("write 2147483647", &format!("file 52 {EXAMPLE}")),
+    ]);
+}
+
+#[test]
+fn refusals() {
+    answers(&[
+        ("add 30001 0", "refused 7"),
+        ("add 0 -30001", "refused 7"),
+        ("add 30000 -30000", "ok"),
+        ("add 30000 -30000", "refused 8"),
+        ("withdraw 0 0", "refused 9"),
+        ("withdraw -2147483648 2147483647", "refused 9"),
+        ("counts", "counts 1 0 0"),
+        ("withdraw 30000 -30000", "ok"),
+        ("write", &format!("file 30 {EMPTY}")),
+        ("write 29", "refused 12"),
+        ("write 0", "refused 12"),
+    ]);
+}
+
+#[test]
+fn reading() {
+    answers(&[
+        (&format!("read {EXAMPLE}"), "ok"),
+        ("finish", "rounds 0"),
+        ("counts", "counts 3 1 3"),
+        (&format!("read {EMPTY}"), "ok"),
+        ("counts", "counts 0 0 0"),
+        (&format!("read {EXAMPLE}"), "ok"),
+        ("read -", "refused 1"),
+        ("counts", "counts 0 0 0"),
+        (&format!("read {EXAMPLE}"), "ok"),
+        ("read 0", "error"),
+        ("read 0g", "error"),
+        ("read", "error"),
+        ("counts", "counts 3 1 3"),
+        (&format!("read {}", EXAMPLE.to_uppercase()), "ok"),
+        (&format!("read {EXAMPLE}00"), "refused 2"),
+        (&format!("read {}", "0".repeat(1_994)), "refused 1"),
+    ]);
+}
+
+#[test]
+fn octants_and_errors() {
+    answers(&[
+        ("octant 1 0", "octant 0"),
+        ("octant 1 1", "octant 1"),
+        ("octant 0 1", "octant 2"),
+        ("octant -1 1", "octant 3"),
+        ("octant -2147483648 -2147483648", "octant 5"),
+        ("octant 0 0", "error"),
+        ("octant 2147483648 0", "error"),
+        ("add 1", "error"),
+        ("add 1 2 3", "error"),
+        ("add 1 x", "error"),
+        ("add +1 2", "error"),
+        ("add 2147483648 2", "error"),
+        ("add 1.0 2", "error"),
+        ("run -1", "error"),
+        ("write -1", "error"),
+        ("Round", "error"),
+        (" ", "error"),
+        ("round now", "error"),
+        ("counts", "counts 0 0 0"),
+    ]);
+}
+
+#[test]
+fn lines() {
+    assert_eq!(play(b""), "");
+    assert_eq!(play(b"\n\n# add 1 1\n#\ncounts"), "counts 0 0 0\n");
+    assert_eq!(play(b"counts\r\n  counts  \n"), "counts 0 0 0\n".repeat(2));
+    assert_eq!(play(b"\xff\ncounts\n"), "error\ncounts 0 0 0\n");
+    let long = |length: usize| format!("add 1 1{}\nlength\n", " ".repeat(length - 7));
+    assert_eq!(play(long(2_000).as_bytes()), "ok\nlength 0\n");
+    assert_eq!(play(long(2_001).as_bytes()), "error\nlength 0\n");
+    let comment = format!("#{}\n", "x".repeat(2_000));
+    assert_eq!(play(comment.as_bytes()), "error\n");
+}
+
+#[test]
+fn hexadecimal_digits() {
+    let all: Vec<u8> = (0..=255).collect();
+    assert_eq!(bytes_of(&hex_of(&all)), Some(all));
+    assert_eq!(hex_of(&[]), "-");
+    assert_eq!(bytes_of("-"), Some(Vec::new()));
+    assert_eq!(bytes_of("+f"), None);
+    assert_eq!(bytes_of("0aFf"), Some(vec![10, 255]));
+}
+
+/// The listing that the last file of a script gives is the last listing.
+#[test]
+fn random_scripts() {
+    let mut random = Random::new(61);
+    for kind in KINDS {
+        for _ in 0..60 {
+            let text = script(&mut random, kind, 10) + "finish\nlist\nwrite\n";
+            let answers = play(text.as_bytes());
+            let lines: Vec<&str> = answers.lines().collect();
+            assert_eq!(lines.len(), text.lines().count());
+            let words: Vec<&str> = lines[lines.len() - 1].split(' ').collect();
+            let bytes = bytes_of(words[2]).unwrap();
+            assert_eq!(words[1], bytes.len().to_string());
+            let listed = list_program(&bytes).trim_end().replace('\n', " / ");
+            assert_eq!(lines[lines.len() - 2], listed);
+            assert!(lines
+                .iter()
+                .all(|line| *line != "error" || text.contains("octant 0 0")));
+        }
+    }
+}
+
+#[test]
+fn a_script_and_a_file_agree() {
+    let pin = Point::new(3, -4);
+    let state = State::new(vec![pin], Vec::new());
+    let answer = format!("file 34 {}\n", hex_of(&write(&state)));
+    assert_eq!(play(b"add 3 -4\nwrite\n"), format!("ok\n{answer}"));
+    assert_eq!(read(&write(&state)), Ok(state));
+}

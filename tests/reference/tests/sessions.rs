@@ -1,0 +1,150 @@
+//! Random lists of calls: what document 01 says of every deck and every call.
+
+use reference::file::{read, write};
+use reference::generate::*;
+use reference::plane::Point;
+use reference::session::*;
+use reference::tree::{degree, tree};
+
+/// The two sets after a call's change, taken step by step from the words of
+/// document 01, the sweep by the tree's own degrees.
+fn reckoned(state: &State, asked: Call) -> State {
+    let (mut pins, mut taps) = (state.pins.clone(), state.steiner.clone());
+    match asked {
+        Call::Add(x, y) => {
+            pins.push(Point::new(x, y));
+            taps.retain(|tap| *tap != Point::new(x, y));
+        }
+        Call::Withdraw(x, y) => pins.retain(|pin| *pin != Point::new(x, y)),
+        _ => taps.extend(best_candidate(state).map(|(tap, _)| tap)),
+    }
+    loop {
+        let edges = tree(&[pins.clone(), taps.clone()].concat());
+        let few = taps.iter().filter(|tap| degree(&edges, **tap) < 3);
+        let Some(&lowest) = few.min() else {
+            return State::new(pins, taps);
+        };
+        taps.retain(|tap| *tap != lowest);
+    }
+}
+
+/// One call, with what must hold of it. The answer, for counting.
+fn checked(state: &State, asked: Call) -> (State, Reply) {
+    let (next, reply) = call(state, asked);
+    assert!(is_valid(&next), "{state:?} {asked:?}");
+    let (pins, taps, runs) = counts(&next).unwrap();
+    assert!(taps <= pins.saturating_sub(2), "{next:?}");
+    assert_eq!(runs, (pins + taps).saturating_sub(1));
+    match reply {
+        Reply::Refused(_) | Reply::Finished => assert_eq!(next, *state),
+        Reply::Done => assert_eq!(next, reckoned(state, asked)),
+        Reply::Tap { gain, .. } => {
+            assert_eq!(next, reckoned(state, asked));
+            let saved = best_candidate(state).unwrap().1;
+            assert!(gain >= saved && saved > 0);
+            assert_eq!(length(&next), Ok(length(state).unwrap() - gain));
+        }
+        Reply::Rounds(rounds) => finishes(state, &next, rounds),
+    }
+    (next, reply)
+}
+
+/// A run to the end is its rounds.
+fn finishes(state: &State, end: &State, rounds: usize) {
+    let mut now = state.clone();
+    for _ in 0..rounds {
+        let (next, reply) = round(&now);
+        assert!(matches!(reply, Reply::Tap { .. }));
+        now = next;
+    }
+    assert_eq!(round(&now), (end.clone(), Reply::Finished));
+}
+
+/// Plays lists of a kind and counts the answers.
+fn play(random: &mut Random, kind: Kind, lists: usize) -> [usize; 5] {
+    let mut seen = [0; 5];
+    for n in 0..lists {
+        let full = full_state(random, kind, 5);
+        let start = if n % 2 == 0 { State::default() } else { full };
+        let mut state = start.clone();
+        for asked in call_list(random, kind, &start, 10) {
+            let (next, reply) = checked(&state, asked);
+            seen[match reply {
+                Reply::Done => 0,
+                Reply::Refused(_) => 1,
+                Reply::Finished => 2,
+                Reply::Tap { .. } => 3,
+                Reply::Rounds(_) => 4,
+            }] += 1;
+            state = next;
+        }
+        assert_eq!(read(&write(&state)), Ok(state));
+    }
+    seen
+}
+
+#[test]
+fn lists_of_every_kind() {
+    let mut random = Random::new(51);
+    for kind in KINDS {
+        let seen = play(&mut random, kind, 1_500);
+        let taps = if kind == Kind::Collinear { 0 } else { 100 };
+        assert!(seen[0] > 1_000 && seen[1] > 100, "{kind:?} {seen:?}");
+        assert!(
+            seen[2] > 50 && seen[3] >= taps && seen[4] > 100,
+            "{kind:?} {seen:?}"
+        );
+    }
+}
+
+#[test]
+fn every_refusal_of_a_call_arises() {
+    let mut random = Random::new(52);
+    let mut seen = [0; 13];
+    for kind in KINDS {
+        for _ in 0..100 {
+            let mut state = State::default();
+            for asked in call_list(&mut random, kind, &state.clone(), 16) {
+                let (next, reply) = call(&state, asked);
+                if let Reply::Refused(number) = reply {
+                    seen[number as usize] += 1;
+                }
+                state = next;
+            }
+        }
+    }
+    assert!(seen[7] > 50 && seen[8] > 50 && seen[9] > 50, "{seen:?}");
+    assert_eq!(seen[11], 0);
+}
+
+#[test]
+fn the_order_of_entry_does_not_matter() {
+    let mut random = Random::new(53);
+    for kind in KINDS {
+        for _ in 0..200 {
+            let pins = pins(&mut random, kind, 10);
+            let mut other = pins.clone();
+            for i in (1..other.len()).rev() {
+                other.swap(i, random.range(0, i as i64) as usize);
+            }
+            let enter = |pins: &[Point]| {
+                let one = |state: State, pin: &Point| add(&state, *pin).0;
+                pins.iter().fold(State::default(), one)
+            };
+            assert_eq!(finish(&enter(&pins)), finish(&enter(&other)));
+        }
+    }
+}
+
+#[test]
+fn a_finished_deck_may_be_longer_than_its_pins_alone() {
+    let mut random = Random::new(54);
+    let mut longer = 0;
+    for _ in 0..2_000 {
+        let state = full_state(&mut random, Kind::Small, 7);
+        let end = finish(&state).0;
+        let alone = State::new(end.pins.clone(), Vec::new());
+        longer += usize::from(length(&end) > length(&alone));
+    }
+    assert!(longer > 0);
+}
