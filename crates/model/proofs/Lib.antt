@@ -1,8 +1,12 @@
 pub mod Bounds
+pub mod Bytes
 pub mod Candidate
 pub mod Cover
 pub mod Decks
 pub mod Demand3
+pub mod FileParts
+pub mod FileRoundTrip
+pub mod FileSize
 pub mod FileValid
 pub mod Grid
 pub mod Joining

@@ -1,6 +1,6 @@
 -- Kruskal's tree over all edges is THE tree of document 01: a tree, least among all trees, first among equals, and the only
 -- such. And any list of edges between the points that connects them is at least as long.
-use mathlib.Core.Path.{_≡_, refl, sym, subst}
+use mathlib.Core.Path.{_≡_, refl, sym, ap, subst}
 use mathlib.Core.Logic.{_⊎_, inl, inr, ⊎-elim, _↔_}
 use mathlib.Core.List.{List, [], _∷_, _++_, map, List·Memᴰ, List·Memᴰ·head as head, List·Memᴰ·tail as tail, List·Memᴰ·cases-cons as cases, List·Memᴰ·not-nil as not-nil, Memᴰ·append-left, Memᴰ·append-right, List·Memᴰ·append-cases}
 use Prim.Native.Nat.{ℕ, _+_, _≤_}
@@ -11,12 +11,13 @@ use Rattle.spanning.specs.Kruskal.{kruskal}
 use Rattle.spanning.proofs.Conn.{conn-edge, conn-sym, conn-mono, conn-bind}
 use Rattle.spanning.proofs.Least.{Spanning, least, least-first, unique-least}
 use Rattle.spanning.proofs.Kruskal.{kruskal-in, kruskal-sorted}
-use Rattle.spanning.proofs.Cover.{cover}
+use Rattle.spanning.proofs.Sorted.{sorted-ext}
 use Rattle.spanning.proofs.Tree.{Links, tree-spanning, spanning-tree, kruskal-tree}
-use Rattle.plane.specs.Point.{Point, Lower}
+use Rattle.plane.specs.Point.{Point, lower, Lower}
 use Rattle.plane.specs.Edge.{Edge, Rising, edgeLength, before, Before, planar}
 use Rattle.plane.proofs.Order.{lower-order, before-order, before-length}
 use Rattle.plane.proofs.Metric.{dist-sym}
+use Rattle.model.specs.Set.{sort}
 use Rattle.model.specs.Tree.{pairs, edges, mst, lengthOf, treeLength, RunTree, TheTree}
 use Rattle.model.proofs.Set.{sort-in, sort-sorted}
 
@@ -123,3 +124,11 @@ module _ (ps : List Point) (rising : Sorted Lower ps) where
       back : (u : List Edge) → Spanning planar Before (edges ps) u → RunTree ps u
       back u s =
           record { tree = spanning-tree edges-link s; rising = λ e i. edges-in e .0 (s .inside e i) .2; sorted = s .sorted }
+
+-- The tree depends on the set of points and not on the order in which they came.
+pub any-order : (l m : List Point) → ((p : Point) → List·Memᴰ p l ↔ List·Memᴰ p m) → mst (sort lower l) ≡ mst (sort lower m)
+any-order l m h =
+    ap mst
+    (sorted-ext lower-order (sort lower l) (sort lower m) (sort-sorted lower lower-order l) (sort-sorted lower lower-order m)
+    (λ p i. sort-in lower lower-order m p .1 (h p .0 (sort-in lower lower-order l p .0 i)))
+    (λ p i. sort-in lower lower-order l p .1 (h p .1 (sort-in lower lower-order m p .0 i))))

@@ -91,23 +91,28 @@ module _ {P E : Type 0} (G : Graph P E) {before : E → E → Type 0} (order : S
       (λ k. conn-mono (λ g. past-up before (order .trans x f e (s .0 f k) (m .1))) (kept-spans (x ∷ F) es e f (s .1) (k, m .1)))
       (cases (m .0)))
 
-  -- Edges that earlier edges close may be left out.
-  pub thin :
+  -- A part that has every edge kept of the whole gives the same tree.
+  pub sandwich :
       (A B : List E) → Sorted before A → Sorted before B → ((e : E) → In A e → In B e)
-      → ((e : E) → In B e → In A e ⊎ Conn G (Earlier before B e) (G .hi e) (G .lo e))
-      → kruskal G [] A ≡ kruskal G [] B
-  thin A B s t sub rest =
+      → ((e : E) → In (kruskal G [] B) e → In A e) → kruskal G [] A ≡ kruskal G [] B
+  sandwich A B s t sub kept =
       sorted-ext order (kruskal G [] A) (kruskal G [] B) (kruskal-sorted G before [] A s) (kruskal-sorted G before [] B t)
       (λ e m. let h = in-kruskal A e s .0 m in
       in-kruskal B e t .1 (sub e (h .0), λ c. h .1 (conn-mono (λ f k. (kept f (k .0), k .1)) (fewer e c))))
       (λ e m. let h = in-kruskal B e t .0 m in
       in-kruskal A e s .1 (kept e m, λ c. h .1 (conn-mono (λ f k. (sub f (k .0), k .1)) c)))
     where
-      kept : (e : E) → In (kruskal G [] B) e → In A e
-      kept e m = let h = in-kruskal B e t .0 m in ⊎-elim (λ k. k) (λ c. absurd (h .1 c)) (rest e (h .0))
-
       fewer : (e : E) {u v : P} → Conn G (Earlier before B e) v u → Conn G (Earlier before (kruskal G [] B) e) v u
       fewer e = conn-bind (λ f k. conn-mono (λ g. ⊎-elim (λ m. absurd (not-nil m)) (λ j. j)) (kept-spans [] B e f t k))
+
+  -- Edges that earlier edges close may be left out.
+  pub thin :
+      (A B : List E) → Sorted before A → Sorted before B → ((e : E) → In A e → In B e)
+      → ((e : E) → In B e → In A e ⊎ Conn G (Earlier before B e) (G .hi e) (G .lo e))
+      → kruskal G [] A ≡ kruskal G [] B
+  thin A B s t sub rest =
+      sandwich A B s t sub
+      (λ e m. let h = in-kruskal B e t .0 m in ⊎-elim (λ k. k) (λ c. absurd (h .1 c)) (rest e (h .0)))
 
   -- An edge that is kept among more edges is kept among fewer.
   pub kept-fewer :

@@ -1,0 +1,2 @@
+pub mod AllKeys
+pub mod Keys

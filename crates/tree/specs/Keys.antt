@@ -1,0 +1,70 @@
+-- Edges between numbered points as single numbers, and the trees of the first n points by them. `at` gives the point of a number.
+use mathlib.Core.Path.{_≡_}
+use mathlib.Core.Bool.{Bool}
+use mathlib.Core.List.{List, [], _∷_, _++_}
+use Prim.Native.Nat.{ℕ, zero, suc, _+_, _*_, _/_, _%_, min}
+use native.Mathlib.Decide.{ℕ-discrete}
+use lib.Dec.{ltb}
+use Rattle.spanning.specs.Graph.{Graph, total}
+use Rattle.spanning.specs.Kruskal.{kruskal}
+use Rattle.plane.specs.Test.{if}
+use Rattle.plane.specs.Point.{Point, dist}
+use Rattle.plane.specs.Edge.{Edge}
+use Rattle.plane.specs.Nearest.{inOctantOf}
+use Rattle.model.specs.Set.{union}
+
+-- An edge of length d between the points i and j, i the smaller: one comparison of keys compares lengths, then i, then j.
+abbrev pub key : ℕ → ℕ → ℕ → ℕ
+key d i j = (d * 128 + i) * 128 + j
+
+-- The length and the two numbers of a key.
+abbrev pub weight : ℕ → ℕ
+weight k = k / 16384
+
+abbrev pub low : ℕ → ℕ
+low k = k / 128 % 128
+
+abbrev pub high : ℕ → ℕ
+high k = k % 128
+
+-- Numbers and keys as a graph.
+unfoldable pub keyGraph : Graph ℕ ℕ
+keyGraph = record { lo = low; hi = high; dec = ℕ-discrete }
+
+-- The edge between the points of a key.
+abbrev pub edgeOf : (ℕ → Point) → ℕ → Edge
+edgeOf at k = record { lo = at (low k); hi = at (high k) }
+
+-- The first n points.
+unfoldable pub tab : {A : Type 0} → (ℕ → A) → ℕ → List A
+tab f zero = []
+tab f (suc n) = tab f n ++ (f n ∷ [])
+
+-- The keys from the first j points to the point c, whose number is n.
+unfoldable pub rays : (ℕ → Point) → Point → ℕ → ℕ → List ℕ
+rays at c n zero = []
+rays at c n (suc j) = key (dist (at j) c) j n ∷ rays at c n j
+
+-- The keys of all edges between the first n points, least first.
+unfoldable pub allKeys : (ℕ → Point) → ℕ → List ℕ
+allKeys at zero = []
+allKeys at (suc n) = union ltb (rays at (at n) n n) (allKeys at n)
+
+-- The keys of the tree of the first n points.
+unfoldable pub treeKeys : (ℕ → Point) → ℕ → List ℕ
+treeKeys at n = kruskal keyGraph [] (allKeys at n)
+
+-- The keys of the tree of the first n points and c, whose number is n.
+unfoldable pub joinedKeys : (ℕ → Point) → Point → ℕ → List ℕ
+joinedKeys at c n = kruskal keyGraph [] (union ltb (rays at c n n) (allKeys at n))
+
+-- No key: larger than every key.
+abbrev pub noKey : ℕ
+noKey = 4294967295
+
+-- The least key from one of the first j points in octant o of c to c, or no key.
+unfoldable pub leastKey : (ℕ → Point) → Point → ℕ → ℕ → ℕ → ℕ
+leastKey at c n o zero = noKey
+leastKey at c n o (suc j) =
+    let rest = leastKey at c n o j in
+    if (inOctantOf o c (at j)) (λ _. min (key (dist (at j) c) j n) rest) (λ _. rest)

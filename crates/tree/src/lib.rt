@@ -1,0 +1,1 @@
+// The one routine that joins points by the least cable.
