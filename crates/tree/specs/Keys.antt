@@ -68,3 +68,12 @@ leastKey at c n o zero = noKey
 leastKey at c n o (suc j) =
     let rest = leastKey at c n o j in
     if (inOctantOf o c (at j)) (λ _. min (key (dist (at j) c) j n) rest) (λ _. rest)
+
+-- The least keys of the eight octants, from octant 0 on.
+unfoldable pub octantKeys : (ℕ → Point) → Point → ℕ → List ℕ
+octantKeys at c n = tab (λ (o : ℕ). leastKey at c n o n) 8
+
+-- The keys of a list that are keys.
+unfoldable pub offered : List ℕ → List ℕ
+offered [] = []
+offered (k ∷ l) = if (ltb k noKey) (λ _. k ∷ offered l) (λ _. offered l)
