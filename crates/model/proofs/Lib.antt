@@ -15,6 +15,7 @@ pub mod Removal
 pub mod Replace
 pub mod Round
 pub mod Set
+pub mod SetMap
 pub mod Step
 pub mod Tree
 pub mod Validity

@@ -1,4 +1,5 @@
 -- Laws of the tests: a choice by a test, both of two tests, an order by two keys.
+use mathlib.Core.Path.{_≡_, refl}
 use mathlib.Core.Logic.{_⊎_, inl, inr}
 use mathlib.Core.Bool.{Bool, true, false, not, _&&_}
 use lib.Dec.{T}
@@ -31,3 +32,10 @@ pub thenBy-next : (l m : Bool) (n : Unit {0} → Bool) → T (not l) → T (not 
 thenBy-next true m n a b t = absurd a
 thenBy-next false true n a b t = absurd b
 thenBy-next false false n a b t = t
+
+-- Two tests that pass together are equal.
+pub same-test : (a b : Bool) → (T a → T b) → (T b → T a) → a ≡ b
+same-test true true f g = refl
+same-test true false f g = absurd (f tt)
+same-test false true f g = absurd (g tt)
+same-test false false f g = refl

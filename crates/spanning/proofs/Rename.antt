@@ -1,11 +1,12 @@
 -- Renaming the vertices and edges of a graph, one to one on the vertices used, renames Kruskal's result: the representatives
 -- go along, so that each test comes out the same.
 use mathlib.Core.Path.{_≡_, refl, sym, _∙_, ap, ap₂, subst}
-use mathlib.Core.Logic.{_↔_, ⊎-elim, dite}
+use mathlib.Core.Logic.{_↔_, inl, inr, ⊎-elim, dite}
 use mathlib.Core.List.{List, [], _∷_, map, List·Memᴰ·head as head, List·Memᴰ·tail as tail, List·Memᴰ·cases-cons as cases}
-use Prim.Native.Nat.{ℕ, _+_}
-use Rattle.spanning.specs.Graph.{Graph, In, total}
+use Prim.Native.Nat.{ℕ, suc, _+_}
+use Rattle.spanning.specs.Graph.{Graph, In, total, degree}
 use Rattle.spanning.specs.Kruskal.{comp, Closed, closed?, kruskal}
+use Rattle.spanning.proofs.Degree.{Touches, touches?, degree-touch, degree-away}
 use Rattle.spanning.proofs.Component.{comp-hit, comp-miss, kruskal-skip, kruskal-keep}
 
 -- The edge ψ e runs between the images of the ends of e, and those ends satisfy Q.
@@ -84,6 +85,24 @@ module _
     where
       more : (f : E) → In (e ∷ F) f → Renamed G G′ φ ψ Q f
       more f m = ⊎-elim (λ p. k f (head p)) (h f) (cases m)
+
+  -- The number of edges at an image is that at the vertex.
+  pub degree-rename : (F : List E) → ((e : E) → In F e → Renamed G G′ φ ψ Q e) → (u : P) → Q u → degree G′ (φ u) (map ψ F) ≡ degree G u F
+  unfolding degree
+  degree-rename [] h u q = refl
+  degree-rename (e ∷ F) h u q = go (touches? G u e) (degree-rename F (λ f m. h f (tail m)) u q)
+    where
+      r : Renamed G G′ φ ψ Q e
+      r = h e (head refl)
+
+      go : Dec (Touches G u e) → degree G′ (φ u) (map ψ F) ≡ degree G u F → degree G′ (φ u) (ψ e ∷ map ψ F) ≡ degree G u (e ∷ F)
+      go (yes t) rec =
+          degree-touch G′ (φ u) (ψ e) (map ψ F) (⊎-elim (λ p. inl (ap φ p ∙ sym (r .lo))) (λ p. inr (ap φ p ∙ sym (r .hi))) t)
+          ∙ ap suc rec ∙ sym (degree-touch G u e F t)
+      go (no n) rec =
+          degree-away G′ (φ u) (ψ e) (map ψ F)
+          (λ t. n (⊎-elim (λ p. inl (one u (G .lo e) q (r .lo-in) (p ∙ r .lo))) (λ p. inr (one u (G .hi e) q (r .hi-in) (p ∙ r .hi))) t))
+          ∙ rec ∙ sym (degree-away G u e F n)
 
 -- The total weight along a renaming that keeps the weights.
 pub total-rename :

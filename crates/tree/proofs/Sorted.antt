@@ -7,16 +7,17 @@ use Prim.Native.Nat.{ℕ, zero, suc, _+_, _≤_, _<_}
 use native.Mathlib.Decide.{ℕ-discrete, decLt}
 use native.Mathlib.Omega.{arith}
 use lib.Dec.{T, ltb, ltb→lt}
-use Rattle.spanning.specs.Graph.{Graph, In}
+use Rattle.spanning.specs.Graph.{Graph, In, degree}
 use Rattle.spanning.specs.Order.{StrictTotal, Sorted}
 use Rattle.spanning.specs.Kruskal.{kruskal}
 use Rattle.spanning.proofs.Sorted.{sorted-ext}
-use Rattle.spanning.proofs.Rename.{Renamed, kruskal-rename}
+use Rattle.spanning.proofs.Rename.{Renamed, kruskal-rename, degree-rename}
+use Rattle.spanning.proofs.Kruskal.{kruskal-in}
 use Rattle.plane.specs.Point.{Point, Lower, dist}
 use Rattle.plane.specs.Edge.{Edge, Rising, edgeLength, listedBefore, Before, planar}
 use Rattle.plane.proofs.Order.{lower-order, before-order, shorter-before}
 use Rattle.plane.proofs.Joining.{level, listed-lo, listed-hi}
-use Rattle.model.specs.Tree.{edges, mst}
+use Rattle.model.specs.Tree.{edges, mst, edgesAt}
 use Rattle.model.proofs.Tree.{edges-in, edges-sorted}
 use Rattle.model.proofs.Candidate.{map-in}
 use Rattle.tree.specs.Keys.{key, low, high, keyGraph, edgeOf, tab, allKeys, treeKeys}
@@ -141,17 +142,30 @@ module _ (at : ℕ → Point) (n : ℕ) (small : n ≤ 128) (rises : Rises at n)
       go (no l) (yes m) = absurd (lower-order .irrefl (at v) (subst (λ (z : Point). Lower (at v) z) e (rises v u m hu)))
       go (no l) (no m) = omega arith
 
-  -- The keys of the tree are the edges of THE tree.
-  pub tree-keys-mst : map (edgeOf at) (treeKeys at n) ≡ mst (tab at n)
-  unfolding treeKeys mst keyGraph planar
-  tree-keys-mst =
-      sym (kruskal-rename keyGraph planar at (edgeOf at) (λ (i : ℕ). i < n) one-to-one [] (allKeys at n) (λ e i. absurd (not-nil i))
-      (λ k i. let r = all-keys-in at n k .0 i in
+  -- A key's edge runs between the points of its numbers.
+  renamed : (k : ℕ) → List·Memᴰ k (allKeys at n) → Renamed keyGraph planar at (edgeOf at) (λ (i : ℕ). i < n) k
+  unfolding keyGraph planar
+  renamed k i =
+      let r = all-keys-in at n k .0 i in
       let e = key-ends at n k small r in
       record {
         lo = refl;
         hi = refl;
         lo-in = subst⁻¹ (λ (z : ℕ). z < n) (e .0) (omega (arith, r .less, r .below));
         hi-in = subst⁻¹ (λ (z : ℕ). z < n) (e .1) (r .below);
-      }))
+      }
+
+  -- The keys of the tree are the edges of THE tree.
+  pub tree-keys-mst : map (edgeOf at) (treeKeys at n) ≡ mst (tab at n)
+  unfolding treeKeys mst
+  tree-keys-mst =
+      sym (kruskal-rename keyGraph planar at (edgeOf at) (λ (i : ℕ). i < n) one-to-one [] (allKeys at n) (λ e i. absurd (not-nil i)) renamed)
       ∙ ap (kruskal planar []) mapped-edges
+
+  -- The number of keys at a number is that of the edges at its point.
+  pub tree-keys-degree : (i : ℕ) → i < n → degree keyGraph i (treeKeys at n) ≡ edgesAt (at i) (mst (tab at n))
+  unfolding treeKeys
+  tree-keys-degree i h =
+      sym (degree-rename keyGraph planar at (edgeOf at) (λ (j : ℕ). j < n) one-to-one (kruskal keyGraph [] (allKeys at n))
+      (λ k m. renamed k (kruskal-in keyGraph [] (allKeys at n) k m)) i h)
+      ∙ ap (degree planar (at i)) tree-keys-mst

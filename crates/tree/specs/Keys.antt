@@ -12,6 +12,7 @@ use Rattle.plane.specs.Point.{Point, dist}
 use Rattle.plane.specs.Edge.{Edge}
 use Rattle.plane.specs.Nearest.{inOctantOf}
 use Rattle.model.specs.Set.{union}
+use Rattle.model.specs.File.{numberOf}
 
 -- An edge of length d between the points i and j, i the smaller: one comparison of keys compares lengths, then i, then j.
 abbrev pub key : ℕ → ℕ → ℕ → ℕ
@@ -77,3 +78,11 @@ octantKeys at c n = tab (λ (o : ℕ). leastKey at c n o n) 8
 unfoldable pub offered : List ℕ → List ℕ
 offered [] = []
 offered (k ∷ l) = if (ltb k noKey) (λ _. k ∷ offered l) (λ _. offered l)
+
+-- The two numbers of a key as one number, which compares by the first and then the second: the listing order.
+abbrev pub endsOf : ℕ → ℕ
+endsOf k = k % 16384
+
+-- The same of an edge between two of the points.
+abbrev pub endsAt : List Point → Edge → ℕ
+endsAt ps e = numberOf ps (e .lo) * 128 + numberOf ps (e .hi)
