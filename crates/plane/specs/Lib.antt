@@ -4,4 +4,5 @@ pub mod Nearest
 pub mod Octant
 pub mod OctantTable
 pub mod Point
+pub mod Stored
 pub mod Test

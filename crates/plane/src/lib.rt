@@ -1,1 +1,93 @@
 // The plane of a deck: points, distances, the orders and the octants.
+//
+// A stored coordinate is a u16 that holds the coordinate plus 30,000. Every function here takes all values of its parameters,
+// also stored coordinates above 60,000, which no point in range has.
+pub mod octants;
+
+ghost use mathlib.Core.Path.{_≡_};
+ghost use Prim.Native.Nat.{_/_, _%_, _≤_};
+ghost use Rattle.plane.specs.Coordinate.{coordinate, signed16, word16};
+ghost use Rattle.plane.specs.Point.{dist, gap, lower};
+ghost use Rattle.plane.specs.Stored.{pointAt, storedOf};
+
+// A coordinate that was checked: as it is stored, or out of range.
+pub enum Coordinate {
+    Stored(u16),
+    OutOfRange,
+}
+
+// The distance along one axis.
+fn apart(a: u16, b: u16) -> u16
+    ensures { λ r. ⌜ r ≡ gap (coordinate a) (coordinate b) ⌝ }
+{
+    if a < b { b - a } else { a - b }
+}
+
+// The distance of two points.
+pub fn distance(ax: u16, ay: u16, bx: u16, by: u16) -> u32
+    ensures { λ r. ⌜ r ≡ dist (pointAt ax ay) (pointAt bx by) ⌝ }
+    ensures { λ r. ⌜ r ≤ 131070 ⌝ }
+{
+    apart(ax, bx) as u32 + apart(ay, by) as u32
+}
+
+// Whether a is lower than b.
+pub fn is_lower(ax: u16, ay: u16, bx: u16, by: u16) -> bool
+    ensures { λ r. ⌜ r ≡ lower (pointAt ax ay) (pointAt bx by) ⌝ }
+{
+    if ax == bx { ay < by } else { ax < bx }
+}
+
+// The 16 bits of a coordinate in two's complement, from its stored form.
+fn word(u: u16) -> u32
+    ensures { λ r. ⌜ r ≡ word16 (coordinate u) ⌝ }
+    ensures { λ r. ⌜ r ≤ 65535 ⌝ }
+{
+    (u as u32 + 35536) % 65536
+}
+
+// The low byte of a coordinate in a file.
+pub fn low_byte(u: u16) -> u8
+    ensures { λ r. ⌜ r ≡ word16 (coordinate u) % 256 ⌝ }
+{
+    (word(u) % 256) as u8
+}
+
+// The high byte of a coordinate in a file.
+pub fn high_byte(u: u16) -> u8
+    ensures { λ r. ⌜ r ≡ word16 (coordinate u) / 256 ⌝ }
+{
+    (word(u) / 256) as u8
+}
+
+// The coordinate of two file bytes. Its 16 bits plus 30,000, where they go round after 65,535, are its stored form.
+pub fn from_bytes(low: u8, high: u8) -> Coordinate
+    ensures { λ r. ⌜ r ≡ storedOf (signed16 low high) ⌝ }
+{
+    let u = (low as u32 + 256 * (high as u32) + 30000) % 65536;
+    if u <= 60000 {
+        Coordinate::Stored(u as u16)
+    } else {
+        Coordinate::OutOfRange
+    }
+}
+
+// The stored form of a whole number.
+pub fn from_signed(z: i32) -> Coordinate
+    ensures { λ r. ⌜ r ≡ storedOf z ⌝ }
+{
+    if z < -30000 {
+        return Coordinate::OutOfRange;
+    }
+    if 30000 < z {
+        return Coordinate::OutOfRange;
+    }
+    Coordinate::Stored((z + 30000) as u16)
+}
+
+// The whole number of a stored coordinate.
+pub fn to_signed(u: u16) -> i32
+    ensures { λ r. ⌜ r ≡ coordinate u ⌝ }
+{
+    u as i32 - 30000
+}

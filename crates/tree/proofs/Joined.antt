@@ -18,9 +18,10 @@ use Rattle.model.specs.Set.{put, union}
 use Rattle.model.specs.Tree.{treeLength}
 use Rattle.model.proofs.Set.{put-in, put-sorted}
 use Rattle.tree.specs.Keys.{weight, keyGraph, tab, rays, allKeys, treeKeys, joinedKeys}
+use Rattle.tree.specs.Build.{Rises}
 use Rattle.tree.proofs.AllKeys.{rays-same, all-keys-same}
 use Rattle.tree.proofs.Join.{tab-in}
-use Rattle.tree.proofs.Sorted.{Rises, ps-sorted, one-to-one}
+use Rattle.tree.proofs.Sorted.{ps-sorted, one-to-one}
 use Rattle.tree.proofs.Total.{tree-keys-total}
 
 -- The points with c behind the first n.

@@ -1,7 +1,17 @@
 pub mod AllKeys
+pub mod Degrees
+pub mod Front
+pub mod Growth
 pub mod Join
 pub mod Joined
 pub mod Keys
+pub mod Labels
+pub mod Listing
 pub mod Numbers
+pub mod OctantKeys
+pub mod Pass
+pub mod Place
 pub mod Sorted
+pub mod Star
+pub mod Step
 pub mod Total

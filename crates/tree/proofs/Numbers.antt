@@ -23,9 +23,10 @@ use Rattle.model.proofs.SetMap.{union-map}
 use Rattle.model.proofs.Tree.{mst-run-tree}
 use Rattle.model.proofs.FileSize.{number-rises, number-below}
 use Rattle.tree.specs.Keys.{key, low, high, keyGraph, edgeOf, tab, allKeys, treeKeys, endsOf, endsAt}
+use Rattle.tree.specs.Build.{Rises}
 use Rattle.tree.proofs.AllKeys.{KeyAt, all-keys-in, key-ends}
 use Rattle.tree.proofs.Join.{tab-in}
-use Rattle.tree.proofs.Sorted.{Rises, tab-sorted, ps-sorted, one-to-one, tree-keys-mst}
+use Rattle.tree.proofs.Sorted.{tab-sorted, ps-sorted, one-to-one, tree-keys-mst}
 
 pub tab-length : {A : Type 0} (f : ℕ → A) (n : ℕ) → length (tab f n) ≡ n
 unfolding tab

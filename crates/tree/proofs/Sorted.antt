@@ -21,6 +21,7 @@ use Rattle.model.specs.Tree.{edges, mst, edgesAt}
 use Rattle.model.proofs.Tree.{edges-in, edges-sorted}
 use Rattle.model.proofs.Candidate.{map-in}
 use Rattle.tree.specs.Keys.{key, low, high, keyGraph, edgeOf, tab, allKeys, treeKeys}
+use Rattle.tree.specs.Build.{Rises}
 use Rattle.tree.proofs.Keys.{key-low, key-high}
 use Rattle.tree.proofs.AllKeys.{KeyAt, all-keys-in, all-keys-sorted, key-ends}
 use Rattle.tree.proofs.Join.{tab-in}
@@ -31,10 +32,6 @@ sorted-snoc R (x ∷ l) a s h = (
   λ b i. ⊎-elim (s .0 b) (λ j. ⊎-elim (λ e. subst⁻¹ (R x) e (h x (head refl))) (λ k. absurd (not-nil k)) (cases j)) (List·Memᴰ·append-cases l i),
   sorted-snoc R l a (s .1) (λ b i. h b (tail i)),
 )
-
--- The first n points rise with their numbers.
-abbrev pub Rises : (ℕ → Point) → ℕ → Type 0
-Rises at n = (i j : ℕ) → i < j → j < n → Lower (at i) (at j)
 
 pub tab-sorted : (at : ℕ → Point) (n : ℕ) → Rises at n → Sorted Lower (tab at n)
 unfolding tab

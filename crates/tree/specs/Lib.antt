@@ -1,1 +1,4 @@
+pub mod Build
+pub mod Front
+pub mod Held
 pub mod Keys

@@ -1,0 +1,1 @@
+// The working form of a deck: its points as codes, their coordinates, and the keys of the tree.

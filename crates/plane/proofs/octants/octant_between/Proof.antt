@@ -1,0 +1,74 @@
+-- `plane::octants::octant_between` meets its contract: each arm is a half turn, told by the order by y and then by x, in which the
+-- tests counted are the rays that the difference has reached.
+use mathlib.Core.Path.{sym, ap, _∙_}
+use Prim.Native.Nat.{ℕ, _+_}
+use native.Mathlib.Omega.{arith}
+use borrow.Author.Needs.{needs}
+use Rattle.plane.proofs.Between.{between-upper, between-under, between-none}
+use Rattle.plane.proofs.octants.octant_between.Statement.{statement}
+use Rattle.plane.proofs.octants.octant_between.Tie as tie
+
+add-x-more : tie.Need-add-x-more
+add-x-more c = search needs
+
+add-y-more : tie.Need-add-y-more
+add-y-more c = search needs
+
+add-far : tie.Need-add-far
+add-far c = search needs
+
+add-near : tie.Need-add-near
+add-near c = search needs
+
+passes-requires : tie.Need-passes-requires
+passes-requires c κs = search needs
+
+passes-requires-2 : tie.Need-passes-requires-2
+passes-requires-2 c κs = search needs
+
+is-lower-requires : tie.Need-is-lower-requires
+is-lower-requires c κs = search needs
+
+is-lower-requires-2 : tie.Need-is-lower-requires-2
+is-lower-requires-2 c κs = search needs
+
+add-result : tie.Need-add-result
+add-result c = omega (arith, c .before .before .before .before .passes2 .ensures .1)
+
+returns : tie.Need-returns
+returns c =
+    let at-passes = c .before .before .before in
+    let s = at-passes .before .args in
+    (at-passes .passes .ensures .0 ∙ between-upper (s .ax) (s .ay) (s .bx) (s .by) (sym (c .before .is-lower .ensures) ∙ c .if1 .taken), omega (arith, at-passes .passes .ensures .1))
+
+returns-2 : tie.Need-returns-2
+returns-2 c =
+    let at-passes2 = c .before .before .before .before in
+    let s = at-passes2 .before .before .args in
+    (ap (λ (n : ℕ). n + 4) (at-passes2 .passes2 .ensures .0) ∙ between-under (s .ax) (s .ay) (s .bx) (s .by) (sym (c .before .is-lower2 .ensures) ∙ c .if2 .taken), omega (arith, at-passes2 .passes2 .ensures .1))
+
+returns-3 : tie.Need-returns-3
+returns-3 c =
+    let at-is-lower = c .before .before .before in
+    let s = at-is-lower .before .before .before .args in (
+      between-none (s .ax) (s .ay) (s .bx) (s .by) (sym (at-is-lower .is-lower .ensures) ∙ c .before .before .if1 .left)
+          (sym (c .before .is-lower2 .ensures) ∙ c .if2 .left),
+      omega arith,
+    )
+
+pub octant-between-spec : {M : Type 1} → statement M
+octant-between-spec =
+    tie.close
+    (tie.spec
+    add-x-more
+    add-y-more
+    add-far
+    add-near
+    passes-requires
+    passes-requires-2
+    is-lower-requires
+    is-lower-requires-2
+    add-result
+    returns
+    returns-2
+    returns-3)

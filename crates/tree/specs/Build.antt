@@ -1,0 +1,45 @@
+-- What building a tree asks: points that rise with their places, few enough, and for a join the tree so far.
+use mathlib.Core.Path.{_≡_}
+use mathlib.Core.List.{List}
+use Prim.Native.Nat.{ℕ, _+_, _≤_, _<_}
+use lib.ListN.{length, take}
+use Rattle.plane.specs.Point.{Point, lower, Lower}
+use Rattle.plane.specs.Stored.{pointAt}
+use Rattle.model.specs.Set.{put}
+use Rattle.model.specs.Tree.{treeLength}
+use Rattle.tree.specs.Held.{held}
+use Rattle.tree.specs.Keys.{tab, treeKeys}
+
+-- The first n points rise with their numbers.
+abbrev pub Rises : (ℕ → Point) → ℕ → Type 0
+Rises at n = (i j : ℕ) → i < j → j < n → Lower (at i) (at j)
+
+pub record BuildRequires (xs ys : List ℕ) (n room : ℕ) : Type 0 where
+  pub inXs : n ≤ length xs
+  pub inYs : n ≤ length ys
+  pub few : n ≤ 128
+  pub fits : n + 8 ≤ room
+  pub rises : Rises (held xs ys) n
+
+pub record JoinRequires (xs ys : List ℕ) (n : ℕ) (keys : List ℕ) (m : ℕ) : Type 0 where
+  pub inXs : n < length xs
+  pub inYs : n < length ys
+  pub few : n < 128
+  pub fits : n + 8 ≤ length keys
+  pub rises : Rises (held xs ys) (n + 1)
+  pub within : m ≤ length keys
+  pub tree : take m keys ≡ treeKeys (held xs ys) n
+  pub count : m ≡ length (treeKeys (held xs ys) n)
+
+pub record WithRequires (xs ys : List ℕ) (n : ℕ) (keys : List ℕ) (m x y : ℕ) : Type 0 where
+  pub inXs : n ≤ length xs
+  pub inYs : n ≤ length ys
+  pub few : n < 128
+  pub rises : Rises (held xs ys) n
+  pub within : m ≤ length keys
+  pub tree : take m keys ≡ treeKeys (held xs ys) n
+  pub apart : (i : ℕ) → i < n → ¬ (pointAt x y ≡ held xs ys i)
+
+-- The length of the tree of the first n points and the point at (x, y).
+abbrev pub lengthWith : List ℕ → List ℕ → ℕ → ℕ → ℕ → ℕ
+lengthWith xs ys n x y = treeLength (put lower (pointAt x y) (tab (held xs ys) n))

@@ -1,0 +1,84 @@
+// Kruskal's pass over a list of keys: of each key in turn, whether its two numbers are connected already by the keys that
+// were kept before. Each of the 128 numbers has a label, and two numbers are connected exactly if they have the same one.
+ghost use mathlib.Core.Path.{_≡_};
+ghost use mathlib.Core.List.{[]};
+ghost use Prim.Native.Nat.{ℕ, _≤_, _<_};
+ghost use lib.ListN.{length, take, getD};
+ghost use Rattle.spanning.specs.Kruskal.{kruskal};
+ghost use Rattle.tree.specs.Keys.{keyGraph, weight};
+ghost use Rattle.tree.specs.Front.{moved, Spans};
+
+// What a pass kept: how many keys, and the sum of their lengths.
+pub struct Spanned {
+    pub count: usize,
+    pub total: u64,
+}
+
+// The length of a key, with its bound.
+fn length_of(k: u64) -> u64
+    ensures { λ r. ⌜ (r ≡ weight k) × (r < 1125899906842624) ⌝ }
+{
+    k / 16384
+}
+
+// The label c, with b in the place of a.
+fn choice(c: u8, a: u8, b: u8) -> u8
+    ensures { λ r. ⌜ r ≡ moved a b c ⌝ }
+{
+    if c == a { b } else { c }
+}
+
+// Puts the label b in the place of the label a, everywhere.
+fn relabel(labels: &mut [u8], a: u8, b: u8)
+    requires { ⌜ length (now labels) ≡ 128 ⌝ }
+    ensures { λ _. ⌜ ((u : ℕ) → u < 128 → getD (now (labels .exit)) u 0 ≡ moved a b (getD (now (labels .entry)) u 0)) ⌝ }
+{
+    let mut i = 0;
+    while i < 128 {
+        labels[i] = choice(labels[i], a, b);
+        i += 1;
+    }
+}
+
+// Gives each number its own label.
+fn separate(labels: &mut [u8])
+    requires { ⌜ length (now labels) ≡ 128 ⌝ }
+    ensures { λ _. ⌜ ((u : ℕ) → u < 128 → getD (now (labels .exit)) u 0 ≡ u) ⌝ }
+{
+    let mut i = 0;
+    let mut own: u8 = 0;
+    while i < 128 {
+        labels[i] = own;
+        own += 1;
+        i += 1;
+    }
+}
+
+// Writes those of the first `count` keys that Kruskal's method keeps to the front of `out`, in their order. The keys need be in
+// no order here. A key is below 2^64, so the total of 1,024 lengths fits.
+pub fn span(keys: &[u64], count: usize, out: &mut [u64]) -> Spanned
+    requires { ⌜ (count ≤ length (now keys)) × (count ≤ length (now out)) × (count ≤ 1024) ⌝ }
+    ensures { λ r. ⌜ Spans (kruskal keyGraph [] (take count (now (keys .entry)))) (now (out .entry)) (now (out .exit)) (r .count) (r .total) ⌝ }
+{
+    let mut labels = [0u8; 128];
+    separate(&mut labels);
+    let mut n = 0;
+    let mut total: u64 = 0;
+    let mut i = 0;
+    while i < count {
+        let k = keys[i];
+        let length = length_of(k);
+        let low = (k / 128 % 128) as usize;
+        let high = (k % 128) as usize;
+        let a = labels[low];
+        let b = labels[high];
+        i += 1;
+        if a != b {
+            total += length;
+            out[n] = k;
+            n += 1;
+            relabel(&mut labels, a, b);
+        }
+    }
+    Spanned { count: n, total }
+}
