@@ -1,1 +1,3 @@
+pub mod Arranging
 pub mod Codes
+pub mod Unpacking

@@ -1,0 +1,147 @@
+-- From arranged codes to a working form in order: the codes merged are the points of the state, their coordinates rise, and the
+-- keys built are those of the tree.
+use mathlib.Core.Path.{_≡_, refl, sym, ap, ap₂, _∙_, subst, subst⁻¹}
+use mathlib.Core.Logic.{_⊎_, inl, inr, ⊎-elim, _↔_}
+use mathlib.Core.Bool.{Bool, true, false, not, _&&_}
+use mathlib.Core.List.{List, [], _∷_, map, List·Memᴰ, List·Memᴰ·head as head, List·Memᴰ·tail as tail, List·Memᴰ·not-nil as not-nil}
+use Prim.Native.Nat.{ℕ, zero, suc, _+_, _/_, _%_, _≤_, _<_}
+use native.Mathlib.Omega.{arith}
+use lib.Dec.{T, leb, leb→le, ltb, ltb→lt, lt→ltb}
+use lib.ListN.{length, take, drop, getD, length-map, List·getD-map}
+use lib.Seq.{ext-getD, getD-take, length-take-le}
+use Rattle.spanning.specs.Order.{StrictTotal, Sorted}
+use Rattle.plane.specs.Stored.{pointAt}
+use Rattle.plane.specs.Point.{Point, inRange, lower, Lower}
+use Rattle.plane.proofs.Test.{and-parts}
+use Rattle.plane.proofs.Order.{nat-order, lower-order}
+use Rattle.model.specs.Set.{union, rising}
+use Rattle.model.specs.State.{State, points, Placed}
+use Rattle.model.proofs.Set.{union-in, union-sorted, rising-sorted, union-length}
+use Rattle.model.proofs.Candidate.{map-in}
+use Rattle.sets.specs.Array.{Written}
+use Rattle.sets.proofs.Results.{written-part}
+use Rattle.tree.specs.Front.{Front}
+use Rattle.tree.specs.Held.{held}
+use Rattle.tree.specs.Keys.{tab, treeKeys}
+use Rattle.tree.specs.Build.{Rises, BuildRequires}
+use Rattle.tree.proofs.Numbers.{tab-length}
+use Rattle.tree.proofs.OctantKeys.{tab-get, tab-same}
+use Rattle.tree.proofs.Front.{front-take}
+use Rattle.plan.specs.Code.{code, pointOf, isCode}
+use Rattle.plan.specs.declared.Plan.{Plan}
+use Rattle.plan.specs.Work.{Codes, Arranged, Planned, stateAt, stateOf}
+use Rattle.plan.proofs.Codes.{code-point, code-order, range-code, points-union, points-rising}
+
+abbrev Less : ℕ → ℕ → Type 0
+Less a b = T (ltb a b)
+
+-- Elements of a rising list rise with their places.
+pub get-in : (l : List ℕ) (i : ℕ) → i < length l → List·Memᴰ (getD l i 0) l
+get-in [] i h = absurd (omega arith)
+get-in (a ∷ l) zero h = head refl
+get-in (a ∷ l) (suc i) h = tail (get-in l i (omega arith))
+
+pub get-rises : (l : List ℕ) → Sorted Less l → (i j : ℕ) → i < j → j < length l → getD l i 0 < getD l j 0
+get-rises [] s i j h k = absurd (omega arith)
+get-rises (a ∷ l) s zero zero h k = absurd (omega arith)
+get-rises (a ∷ l) s zero (suc j) h k = ltb→lt a (getD l j 0) (s .0 (getD l j 0) (get-in l j (omega arith)))
+get-rises (a ∷ l) s (suc i) zero h k = absurd (omega arith)
+get-rises (a ∷ l) s (suc i) (suc j) h k = get-rises l (s .1) i j (omega arith) (omega arith)
+
+-- A table of a list's images is the list of images.
+pub tab-list : (f : ℕ → Point) (l : List ℕ) → tab (λ (i : ℕ). f (getD l i 0)) (length l) ≡ map f l
+tab-list f l =
+    ext-getD (f 0) (tab (λ (i : ℕ). f (getD l i 0)) (length l)) (map f l) (tab-length (λ (i : ℕ). f (getD l i 0)) (length l) ∙ sym (length-map l f))
+    (λ i h. tab-get (λ (j : ℕ). f (getD l j 0)) (length l) i (f 0) (omega (arith, h, tab-length (λ (j : ℕ). f (getD l j 0)) (length l))) ∙ sym (List·getD-map f l i 0))
+
+sorted-of : (l : List ℕ) → rising ltb l ≡ true → Sorted Less l
+sorted-of l e = rising-sorted ltb nat-order l .0 (subst⁻¹ T e tt)
+
+module _ (pins : List ℕ) (p : ℕ) (steiner : List ℕ) (t : ℕ) (a : Arranged pins p steiner t) where
+  abbrev all : List ℕ
+  all = union ltb (take p pins) (take t steiner)
+
+  all-sorted : Sorted Less all
+  all-sorted = union-sorted ltb nat-order (take p pins) (take t steiner) (sorted-of (take t steiner) (a .steinerCodes .rise))
+
+  all-codes : (k : ℕ) → List·Memᴰ k all → T (isCode k)
+  all-codes k i = ⊎-elim (a .pinCodes .codes k) (a .steinerCodes .codes k) (union-in ltb nat-order (take p pins) (take t steiner) k .0 i)
+
+  pub all-count : length (union ltb (take p pins) (take t steiner)) ≡ p + t
+  all-count =
+      union-length ltb nat-order (take p pins) (take t steiner) (sorted-of (take p pins) (a .pinCodes .rise)) (a .apart)
+      ∙ ap₂ _+_ (length-take-le p pins (omega (arith, a .pinCodes .few, a .pinCodes .size))) (length-take-le t steiner (omega (arith, a .steinerCodes .few, a .steinerCodes .size)))
+
+  pub all-few : p + t ≤ 127
+  all-few = omega (arith, a .pinCodes .few, a .room)
+
+  -- The state is placed.
+  pub arranged-placed : Placed (stateAt pins p steiner t)
+  arranged-placed =
+      record {
+      pinsRange = range (take p pins) (a .pinCodes .codes);
+      steinerRange = range (take t steiner) (a .steinerCodes .codes);
+      pinsRise = rise (take p pins) (a .pinCodes .rise);
+      steinerRise = rise (take t steiner) (a .steinerCodes .rise);
+      apart = λ q i j. let x = map-in pointOf (take p pins) q .0 i in
+          let y = map-in pointOf (take t steiner) q .0 j in
+          a .apart (x .0) (x .1) (subst⁻¹ (λ (z : ℕ). List·Memᴰ z (take t steiner)) (sym (code-point (x .0)) ∙ ap code (sym (x .2) ∙ y .2) ∙ code-point (y .0)) (y .1)) }
+    where
+      range : (l : List ℕ) → ((k : ℕ) → List·Memᴰ k l → T (isCode k)) → (q : Point) → List·Memᴰ q (map pointOf l) → T (inRange q)
+      range l h q i = let x = map-in pointOf l q .0 i in subst⁻¹ (λ (z : Point). T (inRange z)) (x .2) (subst⁻¹ T (range-code (x .0)) (h (x .0) (x .1)))
+      rise : (l : List ℕ) → rising ltb l ≡ true → Sorted Lower (map pointOf l)
+      rise l e = rising-sorted lower lower-order (map pointOf l) .0 (subst T (sym e ∙ points-rising l) tt)
+
+  -- Codes merged and unpacked.
+  module _ (codes₀ codes xs ys : List ℕ) (n : ℕ) (w : Written all codes₀ codes n)
+      (u : (i : ℕ) → i < n → (getD xs i 0 ≡ getD codes i 0 / 65536 % 65536) × (getD ys i 0 ≡ getD codes i 0 % 65536)) where
+    merged : take n codes ≡ all
+    merged = written-part all codes₀ codes n w
+
+    count-is : n ≡ length all
+    count-is = w .count
+
+    get-is : (i : ℕ) → i < n → getD codes i 0 ≡ getD all i 0
+    get-is i h = sym (getD-take n codes i 0 h) ∙ ap (λ (l : List ℕ). getD l i 0) merged
+
+    held-is : (i : ℕ) → i < n → held xs ys i ≡ pointOf (getD all i 0)
+    held-is i h =
+        let k = getD all i 0 in
+        let c = and-parts (leb (k / 65536) 60000) (leb (k % 65536) 60000) (all-codes k (get-in all i (omega (arith, count-is)))) in
+        let ex : getD xs i 0 ≡ k / 65536 = omega (arith, u i h .0, get-is i h, leb→le (k / 65536) 60000 (c .0)) in
+        let ey : getD ys i 0 ≡ k % 65536 = omega (arith, u i h .1, get-is i h) in
+        ap₂ pointAt ex ey
+
+    pub held-rises : Rises (held xs ys) n
+    held-rises i j l m =
+        subst⁻¹ (λ (z : Point). Lower z (held xs ys j)) (held-is i (omega arith))
+        (subst⁻¹ (λ (z : Point). Lower (pointOf (getD all i 0)) z) (held-is j m)
+        (subst T (code-order (getD all i 0) (getD all j 0)) (lt→ltb (getD all i 0) (getD all j 0) (get-rises all all-sorted i j l (omega (arith, count-is))))))
+
+    held-points : tab (held xs ys) n ≡ points (stateAt pins p steiner t)
+    unfolding points
+    held-points =
+        tab-same (held xs ys) (λ (i : ℕ). pointOf (getD all i 0)) n held-is ∙ ap (tab (λ (i : ℕ). pointOf (getD all i 0))) count-is
+        ∙ tab-list pointOf all ∙ points-union (take p pins) (take t steiner)
+
+    pub build-allowed : (room : ℕ) → room ≡ 136 → n ≤ length xs → n ≤ length ys → BuildRequires xs ys n room
+    build-allowed room e hx hy =
+        record { inXs = hx; inYs = hy; few = few; fits = omega (arith, few′); rises = held-rises }
+      where
+        few′ : n ≤ 127
+        few′ = omega (arith, count-is, all-count, all-few)
+        few : n ≤ 128
+        few = omega (arith, few′)
+
+    pub planned-of : (keys₀ keys : List ℕ) (m : ℕ) → Front (treeKeys (held xs ys) n) keys₀ keys m
+        → Planned (record { pins = pins; npins = p; steiner = steiner; nsteiner = t; codes = codes; xs = xs; ys = ys; npoints = n; keys = keys; nkeys = m })
+    planned-of keys₀ keys m f =
+        record {
+        arranged = a;
+        codes = merged;
+        count = sym (tab-length (held xs ys) n) ∙ ap length held-points;
+        few = omega (arith, count-is, all-count, all-few);
+        points = held-points;
+        rises = held-rises;
+        tree = front-take f;
+        keyCount = f .count }
