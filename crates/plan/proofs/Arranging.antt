@@ -27,6 +27,7 @@ use Rattle.tree.specs.Build.{Rises, BuildRequires}
 use Rattle.tree.proofs.Numbers.{tab-length}
 use Rattle.tree.proofs.OctantKeys.{tab-get, tab-same}
 use Rattle.tree.proofs.Front.{front-take}
+use Rattle.tree.proofs.Step.{keys-most}
 use Rattle.plan.specs.Code.{code, pointOf, isCode}
 use Rattle.plan.specs.declared.Plan.{Plan}
 use Rattle.plan.specs.Work.{Codes, Arranged, Planned, stateAt, stateOf}
@@ -79,16 +80,18 @@ module _ (pins : List ℕ) (p : ℕ) (steiner : List ℕ) (t : ℕ) (a : Arrange
   pub arranged-placed : Placed (stateAt pins p steiner t)
   arranged-placed =
       record {
-      pinsRange = range (take p pins) (a .pinCodes .codes);
-      steinerRange = range (take t steiner) (a .steinerCodes .codes);
-      pinsRise = rise (take p pins) (a .pinCodes .rise);
-      steinerRise = rise (take t steiner) (a .steinerCodes .rise);
-      apart = λ q i j. let x = map-in pointOf (take p pins) q .0 i in
-          let y = map-in pointOf (take t steiner) q .0 j in
-          a .apart (x .0) (x .1) (subst⁻¹ (λ (z : ℕ). List·Memᴰ z (take t steiner)) (sym (code-point (x .0)) ∙ ap code (sym (x .2) ∙ y .2) ∙ code-point (y .0)) (y .1)) }
+        pinsRange = range (take p pins) (a .pinCodes .codes);
+        steinerRange = range (take t steiner) (a .steinerCodes .codes);
+        pinsRise = rise (take p pins) (a .pinCodes .rise);
+        steinerRise = rise (take t steiner) (a .steinerCodes .rise);
+        apart = λ q i j. let x = map-in pointOf (take p pins) q .0 i in
+            let y = map-in pointOf (take t steiner) q .0 j in
+            a .apart (x .0) (x .1) (subst⁻¹ (λ (z : ℕ). List·Memᴰ z (take t steiner)) (sym (code-point (x .0)) ∙ ap code (sym (x .2) ∙ y .2) ∙ code-point (y .0)) (y .1));
+      }
     where
       range : (l : List ℕ) → ((k : ℕ) → List·Memᴰ k l → T (isCode k)) → (q : Point) → List·Memᴰ q (map pointOf l) → T (inRange q)
       range l h q i = let x = map-in pointOf l q .0 i in subst⁻¹ (λ (z : Point). T (inRange z)) (x .2) (subst⁻¹ T (range-code (x .0)) (h (x .0) (x .1)))
+
       rise : (l : List ℕ) → rising ltb l ≡ true → Sorted Lower (map pointOf l)
       rise l e = rising-sorted lower lower-order (map pointOf l) .0 (subst T (sym e ∙ points-rising l) tt)
 
@@ -130,6 +133,7 @@ module _ (pins : List ℕ) (p : ℕ) (steiner : List ℕ) (t : ℕ) (a : Arrange
       where
         few′ : n ≤ 127
         few′ = omega (arith, count-is, all-count, all-few)
+
         few : n ≤ 128
         few = omega (arith, few′)
 
@@ -137,11 +141,13 @@ module _ (pins : List ℕ) (p : ℕ) (steiner : List ℕ) (t : ℕ) (a : Arrange
         → Planned (record { pins = pins; npins = p; steiner = steiner; nsteiner = t; codes = codes; xs = xs; ys = ys; npoints = n; keys = keys; nkeys = m })
     planned-of keys₀ keys m f =
         record {
-        arranged = a;
-        codes = merged;
-        count = sym (tab-length (held xs ys) n) ∙ ap length held-points;
-        few = omega (arith, count-is, all-count, all-few);
-        points = held-points;
-        rises = held-rises;
-        tree = front-take f;
-        keyCount = f .count }
+          arranged = a;
+          codes = merged;
+          count = sym (tab-length (held xs ys) n) ∙ ap length held-points;
+          few = omega (arith, count-is, all-count, all-few);
+          points = held-points;
+          rises = held-rises;
+          tree = front-take f;
+          keyCount = f .count;
+          keysFew = omega (arith, f .count, count-is, all-count, all-few, keys-most (held xs ys) n (omega (arith, count-is, all-count, all-few)) held-rises);
+        }

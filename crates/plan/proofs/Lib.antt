@@ -1,3 +1,5 @@
 pub mod Arranging
 pub mod Codes
+pub mod Sweeping
 pub mod Unpacking
+pub mod Weakness

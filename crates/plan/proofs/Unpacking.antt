@@ -30,11 +30,12 @@ pub unpacked-more : (codes : List ℕ) (n : ℕ) (xs₀ ys₀ xs ys : List ℕ) 
     → Unpacked codes n xs₀ ys₀ (set xs i (getD codes i 0 / 65536 % 65536)) (set ys i (getD codes i 0 % 65536)) (i + 1)
 unpacked-more codes n xs₀ ys₀ xs ys i u h hx hy =
     record {
-    within = omega arith;
-    sizeX = simp length-set (u .sizeX);
-    sizeY = simp length-set (u .sizeY);
-    onX = filled-more (λ (j : ℕ). getD codes j 0 / 65536 % 65536) xs i (getD codes i 0 / 65536 % 65536) (omega (arith, u .sizeX)) refl (u .onX);
-    onY = filled-more (λ (j : ℕ). getD codes j 0 % 65536) ys i (getD codes i 0 % 65536) (omega (arith, u .sizeY)) refl (u .onY) }
+      within = omega arith;
+      sizeX = simp length-set (u .sizeX);
+      sizeY = simp length-set (u .sizeY);
+      onX = filled-more (λ (j : ℕ). getD codes j 0 / 65536 % 65536) xs i (getD codes i 0 / 65536 % 65536) (omega (arith, u .sizeX)) refl (u .onX);
+      onY = filled-more (λ (j : ℕ). getD codes j 0 % 65536) ys i (getD codes i 0 % 65536) (omega (arith, u .sizeY)) refl (u .onY);
+    }
 
 pub unpacked-end : (codes : List ℕ) (n : ℕ) (xs₀ ys₀ xs ys : List ℕ) (i : ℕ) → Unpacked codes n xs₀ ys₀ xs ys i → n ≤ i
     → (j : ℕ) → j < n → (getD xs j 0 ≡ getD codes j 0 / 65536 % 65536) × (getD ys j 0 ≡ getD codes j 0 % 65536)

@@ -46,3 +46,4 @@ pub record Planned (w : Plan) : Type 0 where
   pub rises : Rises (held (w .xs) (w .ys)) (w .npoints)
   pub tree : take (w .nkeys) (w .keys) ≡ treeKeys (held (w .xs) (w .ys)) (w .npoints)
   pub keyCount : w .nkeys ≡ length (treeKeys (held (w .xs) (w .ys)) (w .npoints))
+  pub keysFew : w .nkeys ≤ 127

@@ -1,5 +1,7 @@
 // The working form of a deck: its pins and Steiner points as codes, all its points with their coordinates, and the keys of
 // their tree.
+pub mod prune;
+
 ghost use mathlib.Core.Path.{_≡_};
 ghost use mathlib.Core.Bool.{true};
 ghost use Prim.Native.Nat.{ℕ, _/_, _%_, _≤_, _<_};

@@ -1,0 +1,98 @@
+-- `plan::prune::prune` meets its contract. The invariant: what is left to sweep leads to the definition's result.
+use mathlib.Core.Path.{_≡_, refl, _∙_}
+use Prim.Native.Nat.{_≤_}
+use native.Mathlib.Omega.{arith}
+use borrow.Author.Needs.{needs}
+use lib.ListN.{length}
+use Rattle.plan.proofs.Sweeping.{Sweeping, sweeping-start, sweeping-arranged, sweeping-less, sweeping-more, sweeping-end}
+use Rattle.plan.proofs.prune.prune.Statement.{statement}
+use Rattle.plan.proofs.prune.prune.Tie as tie
+use Rattle.plan.proofs.prune.prune.Reads as reads
+use Rattle.plan.proofs.prune.prune.Lts as lts
+use Rattle.plan.proofs.arrange.Reads as arrange-reads
+use Rattle.plan.proofs.prune.weakest.Reads as weakest-reads
+use Rattle.sets.proofs.out.Reads as out-reads
+
+abbrev Inv-loop : tie.InvT-loop
+Inv-loop pins npins nsteiner rest₀ t₀ w₀ j₀ rest t w j = Sweeping pins npins rest₀ t₀ rest t w j × (length rest ≡ 64) × (t ≤ 64)
+
+abbrev μ-loop : tie.MeasureT-loop
+μ-loop pins npins nsteiner rest₀ t₀ w₀ j₀ rest t w j = t
+
+-- src/prune.rt:46:9
+arrange-requires : tie.Need-arrange-requires Inv-loop μ-loop
+arrange-requires c κs = c .pre
+
+-- src/prune.rt:47:9
+weakest-requires : tie.Need-weakest-requires Inv-loop μ-loop
+weakest-requires c κs = c .arrange .ensures .0
+
+-- src/prune.rt:48:5
+loop-holds : tie.Need-loop-holds Inv-loop μ-loop
+loop-holds c =
+    let p = c .before .before .pre in
+    let a = c .before .before .args in
+    let h : a .nsteiner ≤ length (a .steiner) = omega (arith, p .steinerCodes .few, p .steinerCodes .size) in
+    (sweeping-start _ _ _ _ _ _ h (c .before .arrange .ensures) (c .weakest .ensures), p .steinerCodes .size, p .steinerCodes .few)
+
+-- src/prune.rt:49:17
+mul-k : tie.Need-mul-k Inv-loop μ-loop
+mul-k c = search needs
+
+-- src/prune.rt:49:17
+array-read-k : tie.Need-array-read-k Inv-loop μ-loop
+array-read-k c = search needs
+
+-- src/prune.rt:50:23
+slice-aggregate-out : tie.Need-slice-aggregate-out Inv-loop μ-loop
+slice-aggregate-out c = search needs
+
+-- src/prune.rt:50:9
+out-requires : tie.Need-out-requires Inv-loop μ-loop
+out-requires c κs = search needs
+
+-- src/prune.rt:51:9
+arrange-requires-2 : tie.Need-arrange-requires-2 Inv-loop μ-loop
+arrange-requires-2 c κs =
+    let l = c .before .before .before .before .loop in
+    sweeping-arranged _ _ _ _ _ _ _ _ (l .inv .0) _ _ _ (c .before .out .ensures) (c .before .out .kept .0)
+
+-- src/prune.rt:52:9
+weakest-requires-2 : tie.Need-weakest-requires-2 Inv-loop μ-loop
+weakest-requires-2 c κs = c .arrange2 .ensures .0
+
+-- src/prune.rt:48:5
+loop-less : tie.Need-loop-less Inv-loop μ-loop
+loop-less c =
+    let l = c .before .before .before .before .before .before .loop in
+    omega (arith, sweeping-less _ _ _ _ _ _ _ _ (l .inv .0) _ _ _ (omega arith) refl (c .before .before .before .out .ensures))
+
+-- src/prune.rt:48:5
+loop-again : tie.Need-loop-again Inv-loop μ-loop
+loop-again c =
+    let l = c .before .before .before .before .before .before .loop in
+    let less = sweeping-less _ _ _ _ _ _ _ _ (l .inv .0) _ _ _ (omega arith) refl (c .before .before .before .out .ensures) in
+    (sweeping-more _ _ _ _ _ _ _ _ (l .inv .0) _ _ _ _ _ (omega arith) refl (c .before .before .before .out .ensures) (c .before .arrange2 .ensures) (c .weakest2 .ensures), c .before .before .before .out .kept .0 ∙ l .inv .1, omega (arith, less, l .inv .2))
+
+-- src/prune.rt:40:1
+returns : tie.Need-returns Inv-loop μ-loop
+returns c = sweeping-end _ _ _ _ _ _ _ _ (c .before .loop .inv .0) (c .loop-test .left)
+
+pub prune-spec : {M : Type 1} → statement M
+prune-spec =
+    tie.close
+    (tie.spec
+    Inv-loop
+    μ-loop
+    arrange-requires
+    weakest-requires
+    loop-holds
+    mul-k
+    array-read-k
+    slice-aggregate-out
+    out-requires
+    arrange-requires-2
+    weakest-requires-2
+    loop-less
+    loop-again
+    returns)

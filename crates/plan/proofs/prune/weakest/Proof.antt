@@ -1,0 +1,45 @@
+-- `plan::prune::weakest` meets its contract, by that of `first_weak`.
+use mathlib.Core.Path.{_≡_}
+use native.Mathlib.Omega.{arith}
+use lib.ListN.{length}
+use borrow.Author.Needs.{needs}
+use Rattle.plan.proofs.prune.weakest.Statement.{statement}
+use Rattle.plan.proofs.prune.weakest.Tie as tie
+use Rattle.plan.proofs.prune.weakest.Reads as reads
+use Rattle.plan.proofs.prune.weakest.Lts as lts
+use Rattle.plan.proofs.prune.first_weak.Reads as first-weak-reads
+
+-- src/prune.rt:35:16
+slice-aggregate-first-weak : tie.Need-slice-aggregate-first-weak
+slice-aggregate-first-weak c = search needs
+
+-- src/prune.rt:35:35
+slice-aggregate-first-weak-2 : tie.Need-slice-aggregate-first-weak-2
+slice-aggregate-first-weak-2 c = search needs
+
+-- src/prune.rt:35:51
+slice-aggregate-first-weak-3 : tie.Need-slice-aggregate-first-weak-3
+slice-aggregate-first-weak-3 c = search needs
+
+-- src/prune.rt:35:5
+first-weak-requires : tie.Need-first-weak-requires
+first-weak-requires c κs =
+    let p = c .before .before .before .before .before .before .pre in
+    let w = c .before .before .before .before .before .before .args .w in
+    let hc : length (w .codes) ≡ 128 = search needs in
+    let hk : length (w .keys) ≡ 136 = search needs in
+    (omega (arith, p .few), omega (arith, p .keysFew), omega (arith, p .arranged .steinerCodes .few, p .arranged .steinerCodes .size))
+
+-- src/prune.rt:28:1
+returns : tie.Need-returns
+returns c = search needs
+
+pub weakest-spec : {M : Type 1} → statement M
+weakest-spec =
+    tie.close
+    (tie.spec
+    slice-aggregate-first-weak
+    slice-aggregate-first-weak-2
+    slice-aggregate-first-weak-3
+    first-weak-requires
+    returns)
