@@ -36,11 +36,11 @@ unfolding points
 points-rise s h = union-sorted lower lower-order (s .pins) (s .steiner) h
 
 -- What the search for a Steiner point of at most two edges finds: none, or the lowest.
-data Weakest (t : List Edge) (l : List Point) : Option Point → Type 0 where
+pub data Weakest (t : List Edge) (l : List Point) : Option Point → Type 0 where
   all-strong : ((q : Point) → List·Memᴰ q l → 3 ≤ edgesAt q t) → Weakest t l none
   weak : (q : Point) → List·Memᴰ q l → edgesAt q t ≤ 2 → Weakest t l (some q)
 
-weakest-view : (t : List Edge) (l : List Point) → Weakest t l (weakest t l)
+pub weakest-view : (t : List Edge) (l : List Point) → Weakest t l (weakest t l)
 unfolding weakest
 weakest-view t [] = all-strong (λ q i. absurd (not-nil i))
 weakest-view t (a ∷ l) =

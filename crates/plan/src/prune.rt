@@ -25,7 +25,7 @@ fn first_weak(codes: &[u64], n: usize, keys: &[u64], m: usize, steiner: &[u64], 
 }
 
 // The same of a working form.
-fn weakest(w: Plan) -> usize
+pub fn weakest(w: Plan) -> usize
     requires { ⌜ Planned w ⌝ }
     ensures { λ r. ⌜ r ≡ firstWeak (take (w .npoints) (w .codes)) (take (w .nkeys) (w .keys)) (take (w .nsteiner) (w .steiner)) ⌝ }
 {
