@@ -1,0 +1,70 @@
+-- The deck of a working form is the deck of its state.
+use mathlib.Core.Path.{_≡_, refl, sym, ap, ap₂, _∙_, subst, subst⁻¹}
+use mathlib.Core.List.{List, [], _∷_, _++_, map}
+use Prim.Native.Nat.{ℕ, zero, suc, _+_, _-_, _≤_, _<_}
+use native.Mathlib.Omega.{arith}
+use lib.Dec.{ltb}
+use lib.ListN.{length, take, drop, replicate, length-map, take-append-drop}
+use lib.Seq.{length-take-le}
+use Rattle.plane.specs.Edge.{listedBefore}
+use Rattle.model.specs.Set.{sort}
+use Rattle.model.specs.Tree.{mst}
+use Rattle.model.specs.State.{State, points}
+use Rattle.model.specs.Question.{listed}
+use Rattle.tree.specs.Front.{Front}
+use Rattle.tree.specs.Held.{held}
+use Rattle.tree.specs.Keys.{tab, treeKeys, endsOf, endsAt}
+use Rattle.tree.proofs.Numbers.{ends-listed}
+use Rattle.plan.specs.Code.{code, pointOf}
+use Rattle.plan.specs.declared.Plan.{Plan}
+use Rattle.plan.specs.Work as work
+use Rattle.plan.proofs.Codes.{map-points}
+use Rattle.deck.specs.declared.Deck.{Deck}
+use Rattle.deck.specs.Form.{row, deckOf}
+
+zeros : ℕ → List ℕ
+zeros n = replicate n 0
+
+drop-zeros : (n m : ℕ) → drop m (zeros n) ≡ zeros (n - m)
+unfolding zeros
+drop-zeros n zero = let e : n ≡ n - 0 = omega arith in ap zeros e
+drop-zeros zero (suc m) = let e : 0 ≡ 0 - suc m = omega arith in ap zeros e
+drop-zeros (suc n) (suc m) = let e : n - m ≡ suc n - suc m = omega arith in drop-zeros n m ∙ ap zeros e
+
+-- A set of codes with zeros behind is the row of its points' codes.
+pub codes-row : (a : List ℕ) (n : ℕ) → work.Codes a n 64 → a ≡ row 64 (map code (map pointOf (take n a)))
+codes-row a n c =
+    sym (take-append-drop n a) ∙ ap (λ (l : List ℕ). take n a ++ l) (c .rest) ∙ ap (λ (z : ℕ). take n a ++ replicate (64 - z) 0) (sym full)
+    ∙ ap (row 64) (sym (map-points (take n a)))
+  where
+    full : length (take n a) ≡ n
+    full = length-take-le n a (omega (arith, c .few, c .size))
+
+pub codes-count : (a : List ℕ) (n : ℕ) → work.Codes a n 64 → n ≡ length (map pointOf (take n a))
+codes-count a n c = sym (length-map (take n a) pointOf ∙ length-take-le n a (omega (arith, c .few, c .size)))
+
+-- The ends of the keys are those of the state's runs in the listing order.
+pub plan-ends : (w : Plan) → work.Planned w → sort ltb (map endsOf (take (w .nkeys) (w .keys))) ≡ map (endsAt (points (work.stateOf w))) (listed (work.stateOf w))
+unfolding listed
+plan-ends w p =
+    ap (λ (l : List ℕ). sort ltb (map endsOf l)) (p .tree)
+    ∙ sym (ends-listed (held (w .xs) (w .ys)) (w .npoints) (omega (arith, p .few)) (p .rises))
+    ∙ ap (λ l. map (endsAt l) (sort listedBefore (mst l))) (p .points)
+
+pub plan-deck : (w : Plan) → work.Planned w → (ends : List ℕ) (r : ℕ) → Front (sort ltb (map endsOf (take (w .nkeys) (w .keys)))) (replicate 128 0) ends r
+    → record { pins = w .pins; npins = w .npins; steiner = w .steiner; nsteiner = w .nsteiner; ends = ends } ≡ deckOf (work.stateOf w)
+unfolding deckOf zeros
+plan-deck w p ends r f =
+    λ i. record {
+      pins = codes-row (w .pins) (w .npins) (p .arranged .pinCodes) i;
+      npins = codes-count (w .pins) (w .npins) (p .arranged .pinCodes) i;
+      steiner = codes-row (w .steiner) (w .nsteiner) (p .arranged .steinerCodes) i;
+      nsteiner = codes-count (w .steiner) (w .nsteiner) (p .arranged .steinerCodes) i;
+      ends = listing i;
+    }
+  where
+    L : List ℕ
+    L = sort ltb (map endsOf (take (w .nkeys) (w .keys)))
+
+    listing : ends ≡ row 128 (map (endsAt (points (work.stateOf w))) (listed (work.stateOf w)))
+    listing = f .front ∙ ap (λ (l : List ℕ). L ++ l) (drop-zeros 128 (length L)) ∙ ap (row 128) (plan-ends w p)

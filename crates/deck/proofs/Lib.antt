@@ -1,0 +1,4 @@
+pub mod Checking
+pub mod Forms
+pub mod FromPlan
+pub mod Scans

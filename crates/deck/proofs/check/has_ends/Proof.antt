@@ -1,0 +1,33 @@
+-- `deck::check::has_ends` meets its contract: both have 128 places.
+use mathlib.Core.Path.{_≡_}
+use native.Mathlib.Omega.{arith}
+use lib.ListN.{length}
+use borrow.Author.Needs.{needs}
+use Rattle.deck.proofs.check.has_ends.Statement.{statement}
+use Rattle.deck.proofs.check.has_ends.Tie as tie
+use Rattle.deck.proofs.check.has_ends.Reads as reads
+use Rattle.deck.proofs.check.has_ends.Lts as lts
+use Rattle.deck.proofs.check.is_same.Reads as is-same-reads
+
+-- src/check.rt:94:13
+slice-aggregate-is-same : tie.Need-slice-aggregate-is-same
+slice-aggregate-is-same c = search needs
+
+-- src/check.rt:94:17
+slice-aggregate-is-same-2 : tie.Need-slice-aggregate-is-same-2
+slice-aggregate-is-same-2 c = search needs
+
+-- src/check.rt:94:5
+is-same-requires : tie.Need-is-same-requires
+is-same-requires c κs =
+    let h : length (c .before .before .before .before .args .d .ends) ≡ 128 = search needs in
+    let k : length (c .before .before .before .before .args .e .ends) ≡ 128 = search needs in
+    omega (arith, h, k)
+
+-- src/check.rt:89:1
+returns : tie.Need-returns
+returns c = search needs
+
+pub has-ends-spec : {M : Type 1} → statement M
+has-ends-spec =
+    tie.close (tie.spec slice-aggregate-is-same slice-aggregate-is-same-2 is-same-requires returns)

@@ -1,0 +1,19 @@
+-- `deck::check::unsound` meets its contract: a deck without points has a working form.
+use Rattle.deck.proofs.Checking.{none-arranged}
+use borrow.Author.Needs.{needs}
+use Rattle.deck.proofs.check.unsound.Statement.{statement}
+use Rattle.deck.proofs.check.unsound.Tie as tie
+use Rattle.deck.proofs.check.unsound.Reads as reads
+use Rattle.deck.proofs.check.unsound.Lts as lts
+use Rattle.plan.proofs.arrange.Reads as arrange-reads
+
+-- src/check.rt:113:15
+arrange-requires : tie.Need-arrange-requires
+arrange-requires c κs = none-arranged
+
+-- src/check.rt:108:1
+returns : tie.Need-returns
+returns c = search needs
+
+pub unsound-spec : {M : Type 1} → statement M
+unsound-spec = tie.close (tie.spec arrange-requires returns)

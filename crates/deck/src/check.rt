@@ -1,0 +1,170 @@
+// Check 11: whether a deck is sound, with its working form where it is.
+use super::Deck;
+use plan::Plan;
+ghost use mathlib.Core.Path.{_≡_};
+ghost use mathlib.Core.Bool.{Bool, _&&_};
+ghost use Prim.Native.Nat.{_≤_};
+ghost use lib.Dec.{ltb, leb, eqb};
+ghost use lib.ListN.{length, take, drop};
+ghost use Rattle.model.specs.Set.{rising, all, has};
+ghost use Rattle.model.specs.File.{sameBytes};
+ghost use Rattle.sets.specs.Array.{allZero};
+ghost use Rattle.plan.specs.Code.{isCode};
+ghost use Rattle.plan.specs.Work as work;
+ghost use Rattle.deck.specs.Form.{deckOf, sound};
+ghost use Rattle.deck.specs.Check.{ordered, noneIn, arranged, Checks};
+
+pub struct Checked {
+    pub ok: bool,
+    pub plan: Plan,
+}
+
+// Whether a number is the code of a point in range.
+fn is_code(k: u64) -> bool
+    ensures { λ r. ⌜ r ≡ isCode k ⌝ }
+{
+    if k / 65536 <= 60000 {
+        k % 65536 <= 60000
+    } else {
+        false
+    }
+}
+
+// Whether the first n numbers are all codes of points in range.
+fn are_codes(a: &[u64], n: usize) -> bool
+    requires { ⌜ n ≤ length (now a) ⌝ }
+    ensures { λ r. ⌜ r ≡ all isCode (take n (now (a .entry))) ⌝ }
+{
+    let mut i = 0;
+    while i < n {
+        if !is_code(a[i]) {
+            return false;
+        }
+        i += 1;
+    }
+    true
+}
+
+// Whether none of the first n numbers of a is among the first m of b.
+fn none_in(a: &[u64], n: usize, b: &[u64], m: usize) -> bool
+    requires { ⌜ (n ≤ length (now a)) × (m ≤ length (now b)) ⌝ }
+    ensures { λ r. ⌜ r ≡ noneIn (take m (now (b .entry))) (take n (now (a .entry))) ⌝ }
+{
+    let mut i = 0;
+    while i < n {
+        if sets::has(b, m, a[i]) {
+            return false;
+        }
+        i += 1;
+    }
+    true
+}
+
+// Whether the first n places hold a set of codes and the others zeros.
+fn is_ordered(a: &[u64], n: usize) -> bool
+    requires { ⌜ n ≤ length (now a) ⌝ }
+    ensures { λ r. ⌜ r ≡ ordered (now (a .entry)) n ⌝ }
+{
+    if !are_codes(a, n) {
+        return false;
+    }
+    if !sets::rises(a, n) {
+        return false;
+    }
+    sets::zeros_from(a, n)
+}
+
+// Whether two slices of one length hold the same numbers.
+fn is_same(a: &[u64], b: &[u64]) -> bool
+    requires { ⌜ length (now a) ≡ length (now b) ⌝ }
+    ensures { λ r. ⌜ r ≡ sameBytes (now (a .entry)) (now (b .entry)) ⌝ }
+{
+    let mut i = 0;
+    while i < a.len() {
+        if a[i] != b[i] {
+            return false;
+        }
+        i += 1;
+    }
+    true
+}
+
+// Whether two decks have the same ends.
+fn has_ends(d: Deck, e: Deck) -> bool
+    ensures { λ r. ⌜ r ≡ sameBytes (d .ends) (e .ends) ⌝ }
+{
+    let a = d.ends;
+    let b = e.ends;
+    is_same(&a, &b)
+}
+
+// The deck of a working form.
+pub fn deck_of(w: Plan) -> Deck
+    requires { ⌜ work.Planned w ⌝ }
+    ensures { λ r. ⌜ r ≡ deckOf (work.stateOf w) ⌝ }
+{
+    let keys = w.keys;
+    let mut ends = [0u64; 128];
+    tree::list::listing(&keys, w.nkeys, &mut ends);
+    let pins = w.pins;
+    let steiner = w.steiner;
+    Deck {
+        pins,
+        npins: w.npins,
+        steiner,
+        nsteiner: w.nsteiner,
+        ends,
+    }
+}
+
+// The answer for a deck that is not sound.
+fn unsound() -> Checked
+    ensures { λ r. ⌜ r .ok ≡ Bool.false ⌝ }
+{
+    Checked {
+        ok: false,
+        plan: plan::arrange([0u64; 64], 0, [0u64; 64], 0),
+    }
+}
+
+// Whether the pins and the Steiner points are sets of codes apart from each other, few enough.
+fn is_arranged(d: Deck) -> bool
+    ensures { λ r. ⌜ r ≡ arranged d ⌝ }
+{
+    let npins = d.npins;
+    let nsteiner = d.nsteiner;
+    if 64 < npins {
+        return false;
+    }
+    if 62 < nsteiner {
+        return false;
+    }
+    let pins = d.pins;
+    if !is_ordered(&pins, npins) {
+        return false;
+    }
+    let steiner = d.steiner;
+    if !is_ordered(&steiner, nsteiner) {
+        return false;
+    }
+    none_in(&pins, npins, &steiner, nsteiner)
+}
+
+// Check 11: whether the deck is that of a valid state, places that are not used included.
+pub fn check(d: Deck) -> Checked
+    ensures { λ r. ⌜ Checks d r ⌝ }
+{
+    if !is_arranged(d) {
+        return unsound();
+    }
+    let pins = d.pins;
+    let steiner = d.steiner;
+    let w = plan::arrange(pins, d.npins, steiner, d.nsteiner);
+    if plan::prune::weakest(w) < d.nsteiner {
+        return unsound();
+    }
+    if !has_ends(d, deck_of(w)) {
+        return unsound();
+    }
+    Checked { ok: true, plan: w }
+}
