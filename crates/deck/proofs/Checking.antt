@@ -29,17 +29,13 @@ use Rattle.plan.specs.declared.Plan.{Plan}
 use Rattle.plan.specs.Work as work
 use Rattle.plan.proofs.Codes.{code-is, code-point, map-codes, points-rising}
 use Rattle.plan.proofs.Arranging.{arranged-placed}
-use Rattle.plan.proofs.Sweeping.{Found, none-weak, at, found, planned-degree}
+use Rattle.plan.proofs.Sweeping.{true-of, Found, none-weak, at, found, planned-degree}
 use Rattle.deck.specs.declared.Deck.{Deck}
 use Rattle.deck.specs.declared.check.Checked.{Checked}
 use Rattle.deck.specs.Form.{row, deckOf, stateOf, Sound, sound}
 use Rattle.deck.specs.Check.{ordered, noneIn, arranged, Checks}
 use Rattle.deck.proofs.Forms.{row-take, row-drop, row-length, sound-is}
 use Rattle.deck.proofs.FromPlan.{codes-row, codes-count}
-
-pub true-of : (b : Bool) → T b → b ≡ true
-true-of true t = refl
-true-of false t = absurd t
 
 pub false-of : (b : Bool) → ¬ T b → b ≡ false
 false-of true n = absurd (n tt)

@@ -1,4 +1,5 @@
 pub mod Arranging
+pub mod Changing
 pub mod Codes
 pub mod Sweeping
 pub mod Unpacking

@@ -94,7 +94,7 @@ unfolding pruneFrom
 prune-stop zero s e = refl
 prune-stop (suc k) s e = ap (λ (o : Option Point). elim o as (λ _. State) [ none ↦ s | some z ↦ pruneFrom k (without z s) (mst (points (without z s))) ]) e
 
-true-of : (b : Bool) → T b → b ≡ true
+pub true-of : (b : Bool) → T b → b ≡ true
 true-of true t = refl
 true-of false t = absurd t
 

@@ -1,5 +1,6 @@
 // The working form of a deck: its pins and Steiner points as codes, all its points with their coordinates, and the keys of
 // their tree.
+pub mod change;
 pub mod prune;
 
 ghost use mathlib.Core.Path.{_≡_};

@@ -1,0 +1,126 @@
+-- A code put into arranged codes or taken out of them leaves arranged codes, and the state changes by the same point.
+use mathlib.Core.Path.{_≡_, refl, sym, ap, _∙_, subst, subst⁻¹}
+use mathlib.Core.Logic.{_⊎_, ⊎-elim}
+use mathlib.Core.Bool.{true}
+use mathlib.Core.List.{List, [], _∷_, map, List·Memᴰ}
+use Prim.Native.Nat.{ℕ, zero, suc, _+_, _-_, _≤_, _<_}
+use native.Mathlib.Numerals.{unary-clauses}
+use native.Mathlib.Omega.{arith}
+use lib.Dec.{T, ltb}
+use lib.ListN.{length, take, drop, replicate}
+use lib.Seq.{length-take-le, drop-drop}
+use Rattle.plane.specs.Point.{Point, lower}
+use Rattle.plane.proofs.Order.{nat-order}
+use Rattle.model.specs.Set.{put, out, rising}
+use Rattle.model.specs.State.{State, insert, remove, prune}
+use Rattle.model.specs.Round.{withSteiner}
+use Rattle.model.proofs.Set.{put-in, put-sorted, out-in, rising-sorted}
+use Rattle.sets.specs.Array.{Written, Removed}
+use Rattle.sets.proofs.Results.{written-part, written-behind, removed-part, put-most, put-least, out-most}
+use Rattle.plan.specs.Code.{pointOf, isCode}
+use Rattle.plan.specs.Work.{Codes, Arranged, stateAt}
+use Rattle.plan.proofs.Codes.{points-put, points-out}
+use Rattle.plan.proofs.Sweeping.{true-of, codes-out}
+
+drop-zeros : (m n : ℕ) → drop m (replicate {A = ℕ} n 0) ≡ replicate (n - m) 0
+drop-zeros zero n = simp unary-clauses refl
+drop-zeros (suc m) zero = ap (λ (z : ℕ). replicate z 0) none
+  where
+    none : 0 ≡ 0 - suc m
+    none = omega arith
+drop-zeros (suc m) (suc n) = drop-zeros m n ∙ ap (λ (z : ℕ). replicate z 0) less
+  where
+    less : n - m ≡ suc n - suc m
+    less = omega arith
+
+-- A code put in leaves arranged codes.
+codes-put : (a a′ : List ℕ) (n r room k : ℕ) → Codes a n room → T (isCode k) → n < room → Written (put ltb k (take n a)) a a′ r → length a′ ≡ length a → Codes a′ r room
+codes-put a a′ n r room k c t h x same =
+    record {
+      size = same ∙ c .size;
+      few = omega (arith, x .count, put-most k (take n a), full);
+      codes = λ q i. ⊎-elim (λ e. subst⁻¹ (λ (z : ℕ). T (isCode z)) e t) (c .codes q) (put-in ltb nat-order k q (take n a) .0 (subst (λ (l : List ℕ). List·Memᴰ q l) part i));
+      rise = ap (rising ltb) part ∙ rises;
+      rest =
+          written-behind (put ltb k (take n a)) a a′ r x ∙ ap (λ (z : ℕ). drop z a) (sym sum) ∙ sym (drop-drop (r - n) n a)
+          ∙ ap (drop (r - n)) (c .rest) ∙ drop-zeros (r - n) (room - n) ∙ ap (λ (z : ℕ). replicate z 0) left;
+    }
+  where
+    part : take r a′ ≡ put ltb k (take n a)
+    part = written-part (put ltb k (take n a)) a a′ r x
+
+    full : length (take n a) ≡ n
+    full = length-take-le n a (omega (arith, c .few, c .size))
+
+    rises : rising ltb (put ltb k (take n a)) ≡ true
+    rises = true-of (rising ltb (put ltb k (take n a))) (rising-sorted ltb nat-order (put ltb k (take n a)) .1 (put-sorted ltb nat-order k (take n a) (rising-sorted ltb nat-order (take n a) .0 (subst⁻¹ T (c .rise) tt))))
+
+    more : n ≤ r
+    more = omega (arith, x .count, put-least k (take n a), full)
+
+    sum : n + (r - n) ≡ r
+    sum = omega (arith, more)
+
+    left : room - n - (r - n) ≡ room - r
+    left = omega (arith, more)
+
+-- A pin joins.
+module _ (pins : List ℕ) (p : ℕ) (steiner : List ℕ) (t : ℕ) (w : Arranged pins p steiner t) (k : ℕ) where
+  pub insert-arranged : (pins′ : List ℕ) (p′ : ℕ) (steiner′ : List ℕ) (t′ : ℕ) → T (isCode k) → p < 64 → Written (put ltb k (take p pins)) pins pins′ p′
+      → Removed (out ltb k (take t steiner)) steiner steiner′ t t′ → length pins′ ≡ length pins → length steiner′ ≡ length steiner → Arranged pins′ p′ steiner′ t′
+  insert-arranged pins′ p′ steiner′ t′ c h x y same kept =
+      record {
+        pinCodes = codes-put pins pins′ p p′ 64 k (w .pinCodes) c h x same;
+        steinerCodes = codes-out steiner steiner′ t t′ 64 k (w .steinerCodes) y kept;
+        room = omega (arith, w .room, y .count, out-most k (take t steiner), length-take-le t steiner (omega (arith, w .steinerCodes .few, w .steinerCodes .size)));
+        apart = λ q i j.
+            let m = out-in ltb nat-order k q (take t steiner) .0 (subst (λ (l : List ℕ). List·Memᴰ q l) (removed-part (out ltb k (take t steiner)) steiner steiner′ t t′ y) j) in
+            ⊎-elim (λ e. m .1 e) (λ i. w .apart q i (m .0)) (put-in ltb nat-order k q (take p pins) .0 (subst (λ (l : List ℕ). List·Memᴰ q l) (written-part (put ltb k (take p pins)) pins pins′ p′ x) i));
+      }
+
+  pub insert-state : (pins′ : List ℕ) (p′ : ℕ) (steiner′ : List ℕ) (t′ : ℕ) → Written (put ltb k (take p pins)) pins pins′ p′
+      → Removed (out ltb k (take t steiner)) steiner steiner′ t t′ → prune (stateAt pins′ p′ steiner′ t′) ≡ insert (pointOf k) (stateAt pins p steiner t)
+  unfolding insert
+  insert-state pins′ p′ steiner′ t′ x y =
+      λ i. prune (record {
+        pins = (ap (map pointOf) (written-part (put ltb k (take p pins)) pins pins′ p′ x) ∙ points-put k (take p pins)) i;
+        steiner = (ap (map pointOf) (removed-part (out ltb k (take t steiner)) steiner steiner′ t t′ y) ∙ points-out k (take t steiner)) i;
+      })
+
+  -- A pin leaves.
+  pub remove-arranged : (pins′ : List ℕ) (p′ : ℕ) → Removed (out ltb k (take p pins)) pins pins′ p p′ → length pins′ ≡ length pins → Arranged pins′ p′ steiner t
+  remove-arranged pins′ p′ x same =
+      record {
+        pinCodes = codes-out pins pins′ p p′ 64 k (w .pinCodes) x same;
+        steinerCodes = w .steinerCodes;
+        room = w .room;
+        apart = λ q i j. w .apart q (out-in ltb nat-order k q (take p pins) .0 (subst (λ (l : List ℕ). List·Memᴰ q l) (removed-part (out ltb k (take p pins)) pins pins′ p p′ x) i) .0) j;
+      }
+
+  pub remove-state : (pins′ : List ℕ) (p′ : ℕ) → Removed (out ltb k (take p pins)) pins pins′ p p′ → prune (stateAt pins′ p′ steiner t) ≡ remove (pointOf k) (stateAt pins p steiner t)
+  unfolding remove
+  remove-state pins′ p′ x =
+      λ i. prune (record {
+        pins = (ap (map pointOf) (removed-part (out ltb k (take p pins)) pins pins′ p p′ x) ∙ points-out k (take p pins)) i;
+        steiner = map pointOf (take t steiner);
+      })
+
+  -- A Steiner point joins.
+  pub steiner-arranged : (steiner′ : List ℕ) (t′ : ℕ) → T (isCode k) → t < 63 → (List·Memᴰ k (take p pins) → ⊥) → Written (put ltb k (take t steiner)) steiner steiner′ t′
+      → length steiner′ ≡ length steiner → Arranged pins p steiner′ t′
+  steiner-arranged steiner′ t′ c h free x same =
+      record {
+        pinCodes = w .pinCodes;
+        steinerCodes = codes-put steiner steiner′ t t′ 64 k (w .steinerCodes) c (omega arith) x same;
+        room = omega (arith, x .count, put-most k (take t steiner), length-take-le t steiner (omega (arith, w .steinerCodes .few, w .steinerCodes .size)));
+        apart = λ q i j.
+            ⊎-elim (λ e. free (subst (λ (z : ℕ). List·Memᴰ z (take p pins)) e i)) (w .apart q i)
+            (put-in ltb nat-order k q (take t steiner) .0 (subst (λ (l : List ℕ). List·Memᴰ q l) (written-part (put ltb k (take t steiner)) steiner steiner′ t′ x) j));
+      }
+
+  pub steiner-state : (steiner′ : List ℕ) (t′ : ℕ) → Written (put ltb k (take t steiner)) steiner steiner′ t′ → prune (stateAt pins p steiner′ t′) ≡ prune (withSteiner (pointOf k) (stateAt pins p steiner t))
+  steiner-state steiner′ t′ x =
+      λ i. prune (record {
+        pins = map pointOf (take p pins);
+        steiner = (ap (map pointOf) (written-part (put ltb k (take t steiner)) steiner steiner′ t′ x) ∙ points-put k (take t steiner)) i;
+      })
