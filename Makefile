@@ -1,5 +1,6 @@
-# run: the listing of a sample deck. test: every test; the last line is the verdict of the prover.
-.PHONY: run test reference
+# run: the listing of a sample deck. test: every test; the last line is the verdict of the prover. bench: the time of scoring a
+# crossing, by the proved functions and by others.
+.PHONY: run test bench reference entries
 
 SAMPLE = samples/example.deck
 
@@ -9,7 +10,16 @@ run: reference
 reference:
 	@cd tests/reference && cargo build --release --offline --quiet
 
+# The proved functions as a library for Rust.
+entries:
+	rt staticlib tree_entries
+
 test:
 	rt fmt --check
 	cd tests/reference && cargo test --release --offline --quiet
+	rt staticlib tree_entries
+	cd tests/compare && cargo test --release --offline --quiet
 	rt ci
+
+bench: entries
+	cd tests/compare && cargo run --release --offline --quiet --bin bench

@@ -1,0 +1,36 @@
+-- What an entry answers, from whether it takes its input.
+use mathlib.Core.Path.{_≡_, refl, sym, ap, _∙_, subst}
+use mathlib.Core.Bool.{Bool}
+use mathlib.Core.List.{List, _++_, map}
+use Prim.Native.Nat.{ℕ, _+_, _≤_}
+use lib.Dec.{ltb}
+use lib.ListN.{length, take, drop}
+use lib.Seq.{take-length}
+use Rattle.model.specs.Set.{sort}
+use Rattle.tree.specs.Held.{held}
+use Rattle.tree.specs.Keys.{tab, endsOf}
+use Rattle.tree.specs.Build.{Rises}
+use Rattle.tree.specs.Front.{Front}
+use Rattle.tree.proofs.Numbers.{tab-length}
+use Rattle.tree_entries.specs.Answers.{Says, Points, Answer}
+
+pub answer-taken : {P : Type 0} {l before after : List ℕ} {r : ℕ} → P → Front l before after r → Answer P l before after r
+answer-taken p f = record { taken = λ _. f; refused = λ n. absurd (n p) }
+
+pub answer-refused : {P : Type 0} {l before : List ℕ} → ¬ P → Answer P l before before 18446744073709551615
+answer-refused n = record { taken = λ p. absurd (n p); refused = λ _. record { answer = refl; kept = refl } }
+
+-- Points of as many x as y, few enough: it is left whether they rise.
+pub points-say : (xs ys : List ℕ) (r : Bool) → length xs ≡ length ys → length xs ≤ 127 → Says (Rises (held xs ys) (length xs)) r → Says (Points xs ys) r
+points-say xs ys r e h s =
+    record { sure = λ t. record { same = e; few = h; rises = s .sure t }; not = λ f p. s .not f (p .rises) }
+
+-- A row of values at the front of an array.
+pub row-front : (f : ℕ → ℕ) (c : ℕ) (before after : List ℕ) → after ≡ tab f c ++ drop c before → Front (tab f c) before after c
+row-front f c before after e =
+    record { count = sym (tab-length f c); front = e ∙ ap (λ (k : ℕ). tab f c ++ drop k before) (sym (tab-length f c)) }
+
+-- The listing of as many keys as there are is that of them all.
+pub list-all : (keys before after : List ℕ) (r : ℕ) → Front (sort ltb (map endsOf (take (length keys) keys))) before after r
+    → Front (sort ltb (map endsOf keys)) before after r
+list-all keys before after r f = subst (λ (l : List ℕ). Front (sort ltb (map endsOf l)) before after r) (take-length keys) f

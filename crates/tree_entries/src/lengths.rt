@@ -1,0 +1,92 @@
+// The lengths of the tree with a point more, for many such points: the tree is built once, and each point is tried on it.
+use super::points::holds;
+use tree::build::build;
+use tree::build::length_with;
+ghost use mathlib.Core.Path.{_≡_};
+ghost use mathlib.Core.List.{_++_};
+ghost use Prim.Native.Nat.{_≤_};
+ghost use lib.ListN.{length, take, drop};
+ghost use Rattle.spanning.specs.Graph.{total};
+ghost use Rattle.tree.specs.Keys.{weight};
+ghost use Rattle.tree.specs.Build.{lengthWith};
+ghost use Rattle.tree_entries.specs.Answers.{Points, lengthsWith};
+ghost use Rattle.tree_entries.specs.Given.{Given, Tried};
+
+// The length of a key, with its bound.
+fn length_of(k: u64) -> u64
+    ensures { λ r. ⌜ (r ≡ weight k) × (r ≤ 1125899906842623) ⌝ }
+{
+    k / 16384
+}
+
+// The sum of the lengths of the first m keys.
+fn sum_of(keys: &[u64], m: usize) -> u64
+    requires { ⌜ (m ≤ length (now keys)) × (m ≤ 1024) ⌝ }
+    ensures { λ r. ⌜ r ≡ total weight (take m (now (keys .entry))) ⌝ }
+{
+    let mut sum: u64 = 0;
+    let mut i = 0;
+    while i < m {
+        sum += length_of(keys[i]);
+        i += 1;
+    }
+    sum
+}
+
+// The length of the tree of the first n points and the point at (x, y): `plain`, that of the tree, where it is one of them.
+fn length_at(
+    xs: &[u16],
+    ys: &[u16],
+    n: usize,
+    keys: &[u64],
+    m: usize,
+    plain: u64,
+    x: u16,
+    y: u16,
+) -> u64
+    requires { ⌜ Given (now xs) (now ys) n (now keys) m plain ⌝ }
+    ensures { λ r. ⌜ r ≡ lengthWith (now (xs .entry)) (now (ys .entry)) n x y ⌝ }
+{
+    if holds(xs, ys, n, x, y) {
+        return plain;
+    }
+    length_with(xs, ys, n, keys, m, x, y)
+}
+
+// Tries each crossing on a tree.
+fn try_each(
+    xs: &[u16],
+    ys: &[u16],
+    n: usize,
+    keys: &[u64],
+    m: usize,
+    plain: u64,
+    cx: &[u16],
+    cy: &[u16],
+    out: &mut [u64],
+)
+    requires { ⌜ Tried (now xs) (now ys) n (now keys) m plain (now cx) (now cy) (length (now out)) ⌝ }
+    ensures { λ _. ⌜ now (out .exit)
+        ≡ lengthsWith (now (xs .entry)) (now (ys .entry)) n (now (cx .entry)) (now (cy .entry)) (length (now (cx .entry)))
+        ++ drop (length (now (cx .entry))) (now (out .entry)) ⌝ }
+{
+    let mut i = 0;
+    while i < cx.len() {
+        out[i] = length_at(xs, ys, n, keys, m, plain, cx[i], cy[i]);
+        i += 1;
+    }
+}
+
+// Builds the tree, and tries each crossing on it.
+pub fn lengths(xs: &[u16], ys: &[u16], cx: &[u16], cy: &[u16], out: &mut [u64])
+    requires { ⌜ Points (now xs) (now ys) × (length (now cx) ≤ length (now cy)) × (length (now cx) ≤ length (now out)) ⌝ }
+    ensures { λ _. ⌜ now (out .exit)
+        ≡ lengthsWith (now (xs .entry)) (now (ys .entry)) (length (now (xs .entry))) (now (cx .entry)) (now (cy .entry)) (length (now (cx .entry)))
+        ++ drop (length (now (cx .entry))) (now (out .entry)) ⌝ }
+{
+    let n = xs.len();
+    let mut keys = [0u64; 144];
+    let m = build(xs, ys, n, &mut keys);
+    let plain = sum_of(&keys, m);
+    try_each(xs, ys, n, &keys, m, plain, cx, cy, out);
+}
