@@ -1,4 +1,6 @@
+pub mod Calling
 pub mod Checking
 pub mod Forms
 pub mod FromPlan
+pub mod Locating
 pub mod Scans

@@ -1,5 +1,7 @@
 // The deck: its pins, its Steiner points (document 01: taps) and the edges of its tree, with the calls and questions on it.
+pub mod calls;
 pub mod check;
+pub mod place;
 
 ghost use mathlib.Core.Path.{_≡_};
 ghost use Rattle.model.specs.State as state;

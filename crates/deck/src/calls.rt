@@ -1,0 +1,111 @@
+// The calls on a deck. Each hands back the deck that follows from the one it was given, beside its reply.
+use super::Deck;
+use super::check::check;
+use super::check::deck_of;
+use super::place::Place;
+use super::place::locate;
+use plan::Plan;
+ghost use mathlib.Core.Path.{_≡_};
+ghost use lib.Dec.{T};
+ghost use Rattle.model.specs.Call as call;
+ghost use Rattle.plan.specs.Code.{pointOf, isCode};
+ghost use Rattle.plan.specs.Work as work;
+ghost use Rattle.deck.specs.Form.{Sound, stateOf};
+ghost use Rattle.deck.specs.Calls.{answer, called, refusal};
+
+// What a call replies: done, or a refusal by its number; a round: finished, or the new Steiner point and the whole fall in
+// length; a run to the end: the number of rounds that added a Steiner point.
+pub enum Reply {
+    Done,
+    Refused(u8),
+    Finished,
+    Tap(i32, i32, u64),
+    Rounds(u64),
+}
+
+pub struct Outcome {
+    pub next: Deck,
+    pub reply: Reply,
+}
+
+// A refusal: the deck is handed back unchanged.
+fn refuse(d: Deck, number: u8) -> Outcome
+    ensures { λ r. ⌜ r ≡ refusal d number ⌝ }
+{
+    Outcome {
+        next: d,
+        reply: Reply::Refused(number),
+    }
+}
+
+// A call that changed the deck to that of a working form.
+fn done(w: Plan) -> Outcome
+    requires { ⌜ work.Planned w ⌝ }
+    ensures { λ r. ⌜ r ≡ answer (record { next = work.stateOf w; reply = call.done }) ⌝ }
+{
+    Outcome {
+        next: deck_of(w),
+        reply: Reply::Done,
+    }
+}
+
+// Adds a pin at a place in range to a sound deck, whose working form is w.
+fn add_at(d: Deck, w: Plan, k: u64) -> Outcome
+    requires { ⌜ Sound d ⌝ }
+    requires { ⌜ work.Planned w ⌝ }
+    requires { ⌜ work.stateOf w ≡ stateOf d ⌝ }
+    requires { ⌜ T (isCode k) ⌝ }
+    ensures { λ r. ⌜ r ≡ answer (call.step (stateOf d) (call.add (pointOf k))) ⌝ }
+{
+    let pins = w.pins;
+    let npins = w.npins;
+    if sets::has(&pins, npins, k) {
+        return refuse(d, 8);
+    }
+    if 64 <= npins {
+        return refuse(d, 10);
+    }
+    done(plan::change::insert(w, k))
+}
+
+// Withdraws a pin at a place in range from a sound deck, whose working form is w.
+fn withdraw_at(d: Deck, w: Plan, k: u64) -> Outcome
+    requires { ⌜ Sound d ⌝ }
+    requires { ⌜ work.Planned w ⌝ }
+    requires { ⌜ work.stateOf w ≡ stateOf d ⌝ }
+    ensures { λ r. ⌜ r ≡ answer (call.step (stateOf d) (call.withdraw (pointOf k))) ⌝ }
+{
+    let pins = w.pins;
+    if !sets::has(&pins, w.npins, k) {
+        return refuse(d, 9);
+    }
+    done(plan::change::remove(w, k))
+}
+
+// Adds a pin. Refusals in the order 11, 7, 8, 10.
+pub fn add(d: Deck, x: i32, y: i32) -> Outcome
+    ensures { λ r. ⌜ r ≡ called d (call.add (record { x = x; y = y })) ⌝ }
+{
+    let c = check(d);
+    if !c.ok {
+        return refuse(d, 11);
+    }
+    match locate(x, y) {
+        Place::OutOfRange => refuse(d, 7),
+        Place::At(k) => add_at(d, c.plan, k),
+    }
+}
+
+// Withdraws a pin. Refusals in the order 11, 9.
+pub fn withdraw(d: Deck, x: i32, y: i32) -> Outcome
+    ensures { λ r. ⌜ r ≡ called d (call.withdraw (record { x = x; y = y })) ⌝ }
+{
+    let c = check(d);
+    if !c.ok {
+        return refuse(d, 11);
+    }
+    match locate(x, y) {
+        Place::OutOfRange => refuse(d, 9),
+        Place::At(k) => withdraw_at(d, c.plan, k),
+    }
+}
