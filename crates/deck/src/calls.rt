@@ -82,30 +82,32 @@ fn withdraw_at(d: Deck, w: Plan, k: u64) -> Outcome
     done(plan::change::remove(w, k))
 }
 
-// Adds a pin. Refusals in the order 11, 7, 8, 10.
-pub fn add(d: Deck, x: i32, y: i32) -> Outcome
-    ensures { λ r. ⌜ r ≡ called d (call.add (record { x = x; y = y })) ⌝ }
-{
-    let c = check(d);
-    if !c.ok {
-        return refuse(d, 11);
+impl Deck {
+    // Adds a pin. Refusals in the order 11, 7, 8, 10.
+    pub fn add(self, x: i32, y: i32) -> Outcome
+        ensures { λ r. ⌜ r ≡ called self (call.add (record { x = x; y = y })) ⌝ }
+    {
+        let c = check(self);
+        if !c.ok {
+            return refuse(self, 11);
+        }
+        match locate(x, y) {
+            Place::OutOfRange => refuse(self, 7),
+            Place::At(k) => add_at(self, c.plan, k),
+        }
     }
-    match locate(x, y) {
-        Place::OutOfRange => refuse(d, 7),
-        Place::At(k) => add_at(d, c.plan, k),
-    }
-}
 
-// Withdraws a pin. Refusals in the order 11, 9.
-pub fn withdraw(d: Deck, x: i32, y: i32) -> Outcome
-    ensures { λ r. ⌜ r ≡ called d (call.withdraw (record { x = x; y = y })) ⌝ }
-{
-    let c = check(d);
-    if !c.ok {
-        return refuse(d, 11);
-    }
-    match locate(x, y) {
-        Place::OutOfRange => refuse(d, 9),
-        Place::At(k) => withdraw_at(d, c.plan, k),
+    // Withdraws a pin. Refusals in the order 11, 9.
+    pub fn withdraw(self, x: i32, y: i32) -> Outcome
+        ensures { λ r. ⌜ r ≡ called self (call.withdraw (record { x = x; y = y })) ⌝ }
+    {
+        let c = check(self);
+        if !c.ok {
+            return refuse(self, 11);
+        }
+        match locate(x, y) {
+            Place::OutOfRange => refuse(self, 9),
+            Place::At(k) => withdraw_at(self, c.plan, k),
+        }
     }
 }
