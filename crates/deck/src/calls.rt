@@ -59,10 +59,12 @@ fn add_at(d: Deck, w: Plan, k: u64) -> Outcome
 {
     let pins = w.pins;
     let npins = w.npins;
-    if sets::has(&pins, npins, k) {
+    let there = sets::has(&pins, npins, k);
+    let full = 64 <= npins;
+    if there {
         return refuse(d, 8);
     }
-    if 64 <= npins {
+    if full {
         return refuse(d, 10);
     }
     done(plan::change::insert(w, k))

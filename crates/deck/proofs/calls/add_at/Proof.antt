@@ -1,6 +1,7 @@
 -- `deck::calls::add_at` meets its contract: the tests for 8 and 10 in turn, else the pin joins.
 use mathlib.Core.Path.{sym, ap, _∙_, subst}
 use Prim.Native.Nat.{ℕ, _≤_, _<_}
+use borrow.Author.Tests.{leb-true, leb-false}
 use Rattle.model.specs.State.{insert}
 use Rattle.deck.proofs.Calling.{in-range, refused-is, answered-done, add-there, add-full, add-done, pin-there, pin-count}
 use borrow.Author.Needs.{needs}
@@ -42,7 +43,7 @@ returns-2 c =
     let q = c .before .before .before .before .before .before .pre in
     let d = c .before .before .before .before .before .before .args .d in
     let count = pin-count d _ (q .1 .0) (q .1 .1 .0) 0 in
-    c .refuse2 .ensures ∙ refused-is d (q .0) _ 10 (add-full _ _ (in-range _ (q .1 .1 .1)) (sym (pin-there d _ (q .1 .0) (q .1 .1 .0) _) ∙ sym (c .before .before .before .has .ensures) ∙ c .before .before .if1 .left) (subst (λ (z : ℕ). 64 ≤ z) count (c .before .if2 .taken)))
+    c .refuse2 .ensures ∙ refused-is d (q .0) _ 10 (add-full _ _ (in-range _ (q .1 .1 .1)) (sym (pin-there d _ (q .1 .0) (q .1 .1 .0) _) ∙ sym (c .before .before .before .has .ensures) ∙ c .before .before .if1 .left) (subst (λ (z : ℕ). 64 ≤ z) count (leb-true _ _ (c .before .if2 .taken))))
 
 -- src/calls.rt:66:10
 insert-requires : tie.Need-insert-requires
@@ -58,7 +59,7 @@ returns-3 c =
     let q = c .before .before .before .before .before .before .before .pre in
     let d = c .before .before .before .before .before .before .before .args .d in
     let count = pin-count d _ (q .1 .0) (q .1 .1 .0) 0 in
-    c .done .ensures ∙ answered-done _ _ _ (c .before .insert .ensures .1 ∙ ap (insert _) (q .1 .1 .0)) (add-done _ _ (in-range _ (q .1 .1 .1)) (sym (pin-there d _ (q .1 .0) (q .1 .1 .0) _) ∙ sym (c .before .before .before .before .has .ensures) ∙ c .before .before .before .if1 .left) (subst (λ (z : ℕ). z < 64) count (c .before .before .if2 .left)))
+    c .done .ensures ∙ answered-done _ _ _ (c .before .insert .ensures .1 ∙ ap (insert _) (q .1 .1 .0)) (add-done _ _ (in-range _ (q .1 .1 .1)) (sym (pin-there d _ (q .1 .0) (q .1 .1 .0) _) ∙ sym (c .before .before .before .before .has .ensures) ∙ c .before .before .before .if1 .left) (subst (λ (z : ℕ). z < 64) count (leb-false _ _ (c .before .before .if2 .left))))
 
 pub add-at-spec : {M : Type 1} → statement M
 add-at-spec =
