@@ -35,7 +35,7 @@ pub fn lines(values: &[u16], n: usize, to: &mut [u64]) -> usize
 }
 
 // The sum of the lengths of the first m keys.
-fn total_of(keys: &[u64], m: usize) -> u64
+pub fn total_of(keys: &[u64], m: usize) -> u64
     requires { ⌜ (m ≤ length (now keys)) × (m ≤ 1024) ⌝ }
     ensures { λ r. ⌜ r ≡ total weight (take m (now (keys .entry))) ⌝ }
 {

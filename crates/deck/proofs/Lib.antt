@@ -4,3 +4,4 @@ pub mod Forms
 pub mod FromPlan
 pub mod Locating
 pub mod Scans
+pub mod Searching

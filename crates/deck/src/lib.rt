@@ -2,6 +2,7 @@
 pub mod calls;
 pub mod check;
 pub mod place;
+pub mod rounds;
 
 ghost use mathlib.Core.Path.{_≡_};
 ghost use Rattle.model.specs.State as state;

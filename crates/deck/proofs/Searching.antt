@@ -1,0 +1,33 @@
+-- A working form has what the search for the best crossing asks for, and the search is over the points of its state.
+use mathlib.Core.Path.{_≡_, ap, _∙_}
+use mathlib.Core.List.{List}
+use Prim.Native.Nat.{ℕ, _≤_}
+use native.Mathlib.Omega.{arith}
+use lib.ListN.{length, take}
+use Rattle.spanning.specs.Graph.{total}
+use Rattle.model.specs.State.{points}
+use Rattle.model.specs.Tree.{treeLength}
+use Rattle.model.specs.Round.{best}
+use Rattle.tree.specs.Keys.{weight}
+use Rattle.plan.specs.declared.Plan.{Plan}
+use Rattle.plan.specs.Work.{Planned, stateOf}
+use Rattle.crossing.specs.Search.{TreeGiven, pointsOf, answerOf}
+use Rattle.crossing.proofs.Sum.{keys-length}
+
+module _ (w : Plan) (p : Planned w) (hx : length (w .xs) ≡ 128) (hy : length (w .ys) ≡ 128) (hk : length (w .keys) ≡ 136) where
+  pub given : TreeGiven (w .xs) (w .ys) (w .npoints) (w .keys) (w .nkeys)
+  given =
+      record {
+        inXs = omega (arith, p .few);
+        inYs = omega (arith, p .few);
+        few = omega (arith, p .few);
+        rises = p .rises;
+        within = omega (arith, p .keysFew);
+        tree = p .tree;
+      }
+
+  pub length-is : total weight (take (w .nkeys) (w .keys)) ≡ treeLength (points (stateOf w))
+  length-is = keys-length given ∙ ap treeLength (p .points)
+
+  pub best-is : answerOf (best (pointsOf (w .xs) (w .ys) (w .npoints))) ≡ answerOf (best (points (stateOf w)))
+  best-is = ap (λ ps. answerOf (best ps)) (p .points)
