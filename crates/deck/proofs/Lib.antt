@@ -5,3 +5,4 @@ pub mod FromPlan
 pub mod Locating
 pub mod Scans
 pub mod Searching
+pub mod Turning

@@ -1,3 +1,4 @@
 pub mod Calls
 pub mod Check
 pub mod Form
+pub mod Rounds

@@ -4,6 +4,7 @@ use super::check::check;
 use super::check::deck_of;
 use super::place::Place;
 use super::place::locate;
+use super::rounds::turn;
 use plan::Plan;
 ghost use mathlib.Core.Path.{_≡_};
 ghost use lib.Dec.{T};
@@ -110,6 +111,22 @@ impl Deck {
         match locate(x, y) {
             Place::OutOfRange => refuse(self, 9),
             Place::At(k) => withdraw_at(self, c.plan, k),
+        }
+    }
+
+    // One round. Refusal 11.
+    pub fn round(self) -> Outcome
+        ensures { λ r. ⌜ r ≡ called self call.oneRound ⌝ }
+    {
+        let c = check(self);
+        if !c.ok {
+            return refuse(self, 11);
+        }
+        let t = turn(c.plan);
+        let reply = t.reply;
+        Outcome {
+            next: deck_of(t.plan),
+            reply,
         }
     }
 }

@@ -1,12 +1,20 @@
 // The round on a working form.
+use super::calls::Reply;
 use crossing::found::Best;
 use plan::Plan;
 ghost use mathlib.Core.Path.{_≡_};
-ghost use Rattle.model.specs.State.{points};
+ghost use Rattle.model.specs.State.{Valid, points};
 ghost use Rattle.model.specs.Tree.{treeLength};
 ghost use Rattle.model.specs.Round as round;
 ghost use Rattle.plan.specs.Work as work;
 ghost use Rattle.crossing.specs.Search.{answerOf};
+ghost use Rattle.deck.specs.Rounds.{Turns};
+
+// A working form after a round, and what the round replies.
+pub struct Turned {
+    pub plan: Plan,
+    pub reply: Reply,
+}
 
 // The length of its tree.
 pub fn length_of(w: Plan) -> u64
@@ -26,4 +34,28 @@ pub fn best_of(w: Plan) -> Best
     let ys = w.ys;
     let keys = w.keys;
     crossing::best(&xs, &ys, w.npoints, &keys, w.nkeys)
+}
+
+// One round: finished, or the best crossing joins as a Steiner point and a sweep follows.
+pub fn turn(w: Plan) -> Turned
+    requires { ⌜ work.Planned w ⌝ }
+    requires { ⌜ Valid (work.stateOf w) ⌝ }
+    ensures { λ r. ⌜ Turns w r ⌝ }
+{
+    match best_of(w) {
+        Best::Nothing => Turned {
+            plan: w,
+            reply: Reply::Finished,
+        },
+        Best::At(u, v) => {
+            let next = plan::change::with_steiner(w, u as u64 * 65536 + v as u64);
+            let fall = length_of(w) - length_of(next);
+            let x = plane::to_signed(u);
+            let y = plane::to_signed(v);
+            Turned {
+                plan: next,
+                reply: Reply::Tap(x, y, fall),
+            }
+        }
+    }
 }

@@ -1,0 +1,136 @@
+-- A round on a working form is the model's: the crossing found is its best candidate.
+use mathlib.Core.Path.{_≡_, refl, sym, ap, ap₂, _∙_, subst, subst⁻¹}
+use mathlib.Core.Logic.{inl, ⊎-elim}
+use mathlib.Core.Option.{Option, none, some}
+use mathlib.Core.List.{List, List·Memᴰ}
+use Prim.Native.Nat.{ℕ, _+_, _*_, _-_, _≤_, _<_}
+use native.Mathlib.Omega.{arith}
+use lib.Dec.{T}
+use lib.ListN.{length}
+use lib.IntN.{ℤ}
+use Rattle.plane.specs.Point.{Point, lower, coordinateInRange}
+use Rattle.plane.proofs.Test.{and-parts}
+use Rattle.plane.proofs.Stored.{coordinate-biased}
+use Rattle.plane.specs.Coordinate.{coordinate, biased}
+use Rattle.model.specs.Set.{put}
+use Rattle.model.specs.State.{State, Valid, points, prune}
+use Rattle.model.specs.Tree.{treeLength}
+use Rattle.model.specs.Round.{RoundResult, finished, tap, withSteiner, best, round}
+use Rattle.model.proofs.Prune.{points-in, few-steiner}
+use Rattle.model.proofs.Candidate.{Candidate, Best, none-better, shortens, best-view, map-in}
+use Rattle.model.proofs.Round.{candidate-range, prune-shorter}
+use Rattle.plan.specs.declared.Plan.{Plan}
+use Rattle.plan.specs.Code.{code, pointOf, isCode}
+use Rattle.plan.specs.Work as work
+use Rattle.plan.proofs.Codes.{point-code, code-is}
+use Rattle.crossing.specs.declared.found.Best.the-variants.{Nothing, At}
+use Rattle.crossing.specs.Search.{answerOf}
+use Rattle.model.specs.Call.{answered, step, oneRound}
+use Rattle.deck.specs.declared.Deck.{Deck}
+use Rattle.deck.specs.declared.calls.Outcome.{Outcome}
+use Rattle.deck.specs.declared.rounds.Turned.{Turned}
+use Rattle.deck.specs.Form.{deckOf, stateOf}
+use Rattle.deck.specs.Rounds.{Turns}
+use Rattle.deck.specs.declared.calls.Reply.the-variants.{Finished, Tap}
+use Rattle.deck.specs.Calls.{replyOf, answer}
+use Rattle.deck.proofs.FromPlan.{codes-count}
+
+-- What a round answers for the best candidate.
+roundWith : State → Option Point → RoundResult
+roundWith s none = record { next = s; answer = finished }
+roundWith s (some c) = record { next = prune (withSteiner c s); answer = tap c (treeLength (points s) - treeLength (points (prune (withSteiner c s)))) }
+
+round-with : (s : State) (o : Option Point) → best (points s) ≡ o → round s ≡ roundWith s o
+unfolding round roundWith
+round-with s none e = ap (λ (o : Option Point). elim o as (λ _. RoundResult) [ none ↦ roundWith s none | some c ↦ roundWith s (some c) ]) e
+round-with s (some c) e = ap (λ (o : Option Point). elim o as (λ _. RoundResult) [ none ↦ roundWith s none | some d ↦ roundWith s (some d) ]) e
+
+-- No crossing was found: the round is finished.
+none-found : (o : Option Point) → answerOf o ≡ Nothing → o ≡ none
+none-found none e = refl
+none-found (some c) e = let z : _≡_ {A = ℕ} 0 1 = cc in absurd (omega arith)
+
+module _ (s : State) (e : answerOf (best (points s)) ≡ Nothing) where
+  stays : round s ≡ roundWith s none
+  stays = round-with s none (none-found (best (points s)) e)
+
+  pub next-stays : s ≡ round s .next
+  unfolding roundWith
+  next-stays = sym (ap (λ (r : RoundResult). r .next) stays)
+
+  pub reply-stays : Finished ≡ replyOf (answered (round s .answer))
+  unfolding roundWith replyOf
+  reply-stays = sym (ap (λ (r : RoundResult). replyOf (answered (r .answer))) stays)
+
+-- One was found: what is known of its code.
+pub record Joins (s : State) (u v : ℕ) : Type 0 where
+  pub isPlace : T (isCode (u * 65536 + v))
+  pub candidate : Candidate (points s) (pointOf (u * 65536 + v))
+  pub chosen : best (points s) ≡ some (pointOf (u * 65536 + v))
+  pub atX : coordinate u ≡ pointOf (u * 65536 + v) .x
+  pub atY : coordinate v ≡ pointOf (u * 65536 + v) .y
+  pub shorter : treeLength (put lower (pointOf (u * 65536 + v)) (points s)) < treeLength (points s)
+
+code-parts : (c : Point) (u v : ℕ) → biased (c .x) ≡ u → biased (c .y) ≡ v → code c ≡ u * 65536 + v
+unfolding code
+code-parts c u v x y = ap₂ (λ (a b : ℕ). a * 65536 + b) x y
+
+pub found-at : (s : State) → Valid s → (u v : ℕ) → answerOf (best (points s)) ≡ At u v → Joins s u v
+found-at s valid u v e = go (best-view (points s)) refl e
+  where
+    go : {o : Option Point} → Best (points s) o → best (points s) ≡ o → answerOf o ≡ At u v → Joins s u v
+    go (none-better f) b q = let z : _≡_ {A = ℕ} 0 1 = cc in absurd (omega arith)
+    go (shortens c h less) b q =
+        let x : biased (c .x) ≡ u = cc in
+        let y : biased (c .y) ≡ v = cc in
+        let r = candidate-range s (valid .placed) c h in
+        let ins = and-parts (coordinateInRange (c .x)) (coordinateInRange (c .y)) r in
+        let same : code c ≡ u * 65536 + v = code-parts c u v x y in
+        let back : c ≡ pointOf (u * 65536 + v) = sym (point-code c r) ∙ ap pointOf same in
+        record {
+          isPlace = subst (λ (z : ℕ). T (isCode z)) same (code-is c r);
+          candidate = subst (Candidate (points s)) back h;
+          chosen = b ∙ ap some back;
+          atX = ap coordinate (sym x) ∙ coordinate-biased (c .x) (ins .0) ∙ ap (λ (p : Point). p .x) back;
+          atY = ap coordinate (sym y) ∙ coordinate-biased (c .y) (ins .1) ∙ ap (λ (p : Point). p .y) back;
+          shorter = subst (λ (z : Point). treeLength (put lower z (points s)) < treeLength (points s)) back less;
+        }
+
+module _ (s : State) (u v : ℕ) (j : Joins s u v) where
+  joins : round s ≡ roundWith s (some (pointOf (u * 65536 + v)))
+  joins = round-with s (some (pointOf (u * 65536 + v))) (j .chosen)
+
+  pub next-joins : (s′ : State) → s′ ≡ prune (withSteiner (pointOf (u * 65536 + v)) s) → s′ ≡ round s .next
+  unfolding roundWith
+  next-joins s′ e = e ∙ sym (ap (λ (r : RoundResult). r .next) joins)
+
+  pub reply-joins : (s′ : State) (x y : ℤ) (m n : ℕ) → s′ ≡ prune (withSteiner (pointOf (u * 65536 + v)) s) → x ≡ coordinate u → y ≡ coordinate v → m ≡ treeLength (points s) → n ≡ treeLength (points s′)
+      → Tap x y (m - n) ≡ replyOf (answered (round s .answer))
+  unfolding roundWith replyOf
+  reply-joins s′ x y m n e ex ey em en =
+      (λ i. Tap ((ex ∙ j .atX) i) ((ey ∙ j .atY) i) (em i - (en ∙ ap (λ (z : State). treeLength (points z)) e) i))
+      ∙ sym (ap (λ (r : RoundResult). replyOf (answered (r .answer))) joins)
+
+  pub joins-free : List·Memᴰ (pointOf (u * 65536 + v)) (s .pins) → ⊥
+  joins-free i = j .candidate .2 (points-in s (pointOf (u * 65536 + v)) .1 (inl i))
+
+  pub joins-shorter : Valid s → treeLength (points (prune (withSteiner (pointOf (u * 65536 + v)) s))) ≤ treeLength (points s)
+  joins-shorter w = omega (arith, j .shorter, prune-shorter s w (pointOf (u * 65536 + v)) (j .candidate))
+
+-- There is room for one more Steiner point.
+pub steiner-room : (w : Plan) → work.Planned w → Valid (work.stateOf w) → w .nsteiner < 63
+steiner-room w p v =
+    ⊎-elim (λ e. omega (arith, count, e)) (λ h. omega (arith, count, h, v .few)) (few-steiner (work.stateOf w) v)
+  where
+    count : w .nsteiner ≡ length (work.stateOf w .steiner)
+    count = codes-count (w .steiner) (w .nsteiner) (p .arranged .steinerCodes)
+
+-- The round of a deck from that of its working form.
+pub round-answer : (d e : Deck) (w : Plan) (t : Turned) → work.stateOf w ≡ stateOf d → Turns w t → e ≡ deckOf (work.stateOf (t .plan))
+    → _≡_ {A = Outcome} (record { next = e; reply = t .reply }) (answer (step (stateOf d) oneRound))
+unfolding answer step
+round-answer d e w t same turns is =
+    λ i. record {
+      next = (is ∙ ap deckOf (turns .next ∙ ap (λ (z : State). round z .next) same)) i;
+      reply = (turns .reply ∙ ap (λ (z : State). replyOf (answered (round z .answer))) same) i;
+    }
