@@ -4,7 +4,7 @@ use super::check::check;
 use super::check::deck_of;
 use super::place::Place;
 use super::place::locate;
-use super::rounds::turn;
+use super::rounds::round_of;
 use plan::Plan;
 ghost use mathlib.Core.Path.{_≡_};
 ghost use lib.Dec.{T};
@@ -122,7 +122,7 @@ impl Deck {
         if !c.ok {
             return refuse(self, 11);
         }
-        let t = turn(c.plan);
+        let t = round_of(c.plan);
         let reply = t.reply;
         Outcome {
             next: deck_of(t.plan),

@@ -1,8 +1,8 @@
 // The deck: its pins, its Steiner points (document 01: taps) and the edges of its tree, with the calls and questions on it.
 pub mod calls;
-pub mod check;
-pub mod place;
-pub mod rounds;
+mod check;
+mod place;
+mod rounds;
 
 ghost use mathlib.Core.Path.{_≡_};
 ghost use Rattle.model.specs.State as state;

@@ -8,16 +8,16 @@ ghost use Rattle.model.specs.Tree.{treeLength};
 ghost use Rattle.model.specs.Round as round;
 ghost use Rattle.plan.specs.Work as work;
 ghost use Rattle.crossing.specs.Search.{answerOf};
-ghost use Rattle.deck.specs.Rounds.{Turns};
+ghost use Rattle.deck.specs.Rounds.{RoundOf};
 
 // A working form after a round, and what the round replies.
-pub struct Turned {
+pub struct Rounded {
     pub plan: Plan,
     pub reply: Reply,
 }
 
 // The length of its tree.
-pub fn length_of(w: Plan) -> u64
+fn length_of(w: Plan) -> u64
     requires { ⌜ work.Planned w ⌝ }
     ensures { λ r. ⌜ r ≡ treeLength (points (work.stateOf w)) ⌝ }
 {
@@ -26,7 +26,7 @@ pub fn length_of(w: Plan) -> u64
 }
 
 // The lowest crossing of greatest saving, if one saves more than 0.
-pub fn best_of(w: Plan) -> Best
+fn best_of(w: Plan) -> Best
     requires { ⌜ work.Planned w ⌝ }
     ensures { λ r. ⌜ r ≡ answerOf (round.best (points (work.stateOf w))) ⌝ }
 {
@@ -37,13 +37,13 @@ pub fn best_of(w: Plan) -> Best
 }
 
 // One round: finished, or the best crossing joins as a Steiner point and a sweep follows.
-pub fn turn(w: Plan) -> Turned
+pub fn round_of(w: Plan) -> Rounded
     requires { ⌜ work.Planned w ⌝ }
     requires { ⌜ Valid (work.stateOf w) ⌝ }
-    ensures { λ r. ⌜ Turns w r ⌝ }
+    ensures { λ r. ⌜ RoundOf w r ⌝ }
 {
     match best_of(w) {
-        Best::Nothing => Turned {
+        Best::Nothing => Rounded {
             plan: w,
             reply: Reply::Finished,
         },
@@ -52,7 +52,7 @@ pub fn turn(w: Plan) -> Turned
             let fall = length_of(w) - length_of(next);
             let x = plane::to_signed(u);
             let y = plane::to_signed(v);
-            Turned {
+            Rounded {
                 plan: next,
                 reply: Reply::Tap(x, y, fall),
             }

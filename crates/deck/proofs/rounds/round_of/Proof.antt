@@ -1,4 +1,4 @@
--- `deck::rounds::turn` meets its contract: the crossing found is the model's best candidate, and it joins as the model says.
+-- `deck::rounds::round_of` meets its contract: the crossing found is the model's best candidate, and it joins as the model says.
 use mathlib.Core.Path.{_≡_, refl, sym, ap, _∙_, subst₂}
 use Prim.Native.Nat.{ℕ, _≤_}
 use native.Mathlib.Omega.{arith}
@@ -8,12 +8,12 @@ use Rattle.model.specs.State.{State, points}
 use Rattle.model.specs.Tree.{treeLength}
 use Rattle.model.proofs.Candidate.{map-in}
 use Rattle.plan.specs.Code.{pointOf}
-use Rattle.deck.proofs.Turning.{steiner-room, next-stays, reply-stays, found-at, next-joins, reply-joins, joins-free, joins-shorter}
+use Rattle.deck.proofs.OneRound.{steiner-room, next-stays, reply-stays, found-at, next-joins, reply-joins, joins-free, joins-shorter}
 use borrow.Author.Needs.{needs}
-use Rattle.deck.proofs.rounds.turn.Statement.{statement}
-use Rattle.deck.proofs.rounds.turn.Tie as tie
-use Rattle.deck.proofs.rounds.turn.Reads as reads
-use Rattle.deck.proofs.rounds.turn.Lts as lts
+use Rattle.deck.proofs.rounds.round_of.Statement.{statement}
+use Rattle.deck.proofs.rounds.round_of.Tie as tie
+use Rattle.deck.proofs.rounds.round_of.Reads as reads
+use Rattle.deck.proofs.rounds.round_of.Lts as lts
 use Rattle.deck.proofs.rounds.best_of.Reads as best-of-reads
 use Rattle.deck.proofs.rounds.length_of.Reads as length-of-reads
 use Rattle.plan.proofs.change.with_steiner.Reads as with-steiner-reads
@@ -95,8 +95,8 @@ returns-2 c =
       reply = reply-joins _ _ _ j _ _ _ _ _ e (toZ-ofZ w32 _ (record { sfits = c .before .to-signed .ok }) ∙ c .before .to-signed .ensures) (toZ-ofZ w32 _ (record { sfits = c .to-signed2 .ok }) ∙ c .to-signed2 .ensures) (c .before .before .before .length-of .ensures) (c .before .before .length-of2 .ensures);
     }
 
-pub turn-spec : {M : Type 1} → statement M
-turn-spec =
+pub round-of-spec : {M : Type 1} → statement M
+round-of-spec =
     tie.close
     (tie.spec
     best-of-requires

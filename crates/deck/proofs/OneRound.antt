@@ -28,9 +28,9 @@ use Rattle.crossing.specs.Search.{answerOf}
 use Rattle.model.specs.Call.{answered, step, oneRound}
 use Rattle.deck.specs.declared.Deck.{Deck}
 use Rattle.deck.specs.declared.calls.Outcome.{Outcome}
-use Rattle.deck.specs.declared.rounds.Turned.{Turned}
+use Rattle.deck.specs.declared.rounds.Rounded.{Rounded}
 use Rattle.deck.specs.Form.{deckOf, stateOf}
-use Rattle.deck.specs.Rounds.{Turns}
+use Rattle.deck.specs.Rounds.{RoundOf}
 use Rattle.deck.specs.declared.calls.Reply.the-variants.{Finished, Tap}
 use Rattle.deck.specs.Calls.{replyOf, answer}
 use Rattle.deck.proofs.FromPlan.{codes-count}
@@ -126,11 +126,11 @@ steiner-room w p v =
     count = codes-count (w .steiner) (w .nsteiner) (p .arranged .steinerCodes)
 
 -- The round of a deck from that of its working form.
-pub round-answer : (d e : Deck) (w : Plan) (t : Turned) → work.stateOf w ≡ stateOf d → Turns w t → e ≡ deckOf (work.stateOf (t .plan))
+pub round-answer : (d e : Deck) (w : Plan) (t : Rounded) → work.stateOf w ≡ stateOf d → RoundOf w t → e ≡ deckOf (work.stateOf (t .plan))
     → _≡_ {A = Outcome} (record { next = e; reply = t .reply }) (answer (step (stateOf d) oneRound))
 unfolding answer step
-round-answer d e w t same turns is =
+round-answer d e w t same rounded is =
     λ i. record {
-      next = (is ∙ ap deckOf (turns .next ∙ ap (λ (z : State). round z .next) same)) i;
-      reply = (turns .reply ∙ ap (λ (z : State). replyOf (answered (round z .answer))) same) i;
+      next = (is ∙ ap deckOf (rounded .next ∙ ap (λ (z : State). round z .next) same)) i;
+      reply = (rounded .reply ∙ ap (λ (z : State). replyOf (answered (round z .answer))) same) i;
     }
