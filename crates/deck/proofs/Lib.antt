@@ -6,3 +6,4 @@ pub mod Locating
 pub mod OneRound
 pub mod Scans
 pub mod Searching
+pub mod ToEnd

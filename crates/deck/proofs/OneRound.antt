@@ -1,6 +1,7 @@
 -- A round on a working form is the model's: the crossing found is its best candidate.
 use mathlib.Core.Path.{_≡_, refl, sym, ap, ap₂, _∙_, subst, subst⁻¹}
 use mathlib.Core.Logic.{inl, ⊎-elim}
+use mathlib.Core.Bool.{true, false}
 use mathlib.Core.Option.{Option, none, some}
 use mathlib.Core.List.{List, List·Memᴰ}
 use Prim.Native.Nat.{ℕ, _+_, _*_, _-_, _≤_, _<_}
@@ -30,7 +31,7 @@ use Rattle.deck.specs.declared.Deck.{Deck}
 use Rattle.deck.specs.declared.calls.Outcome.{Outcome}
 use Rattle.deck.specs.declared.rounds.Rounded.{Rounded}
 use Rattle.deck.specs.Form.{deckOf, stateOf}
-use Rattle.deck.specs.Rounds.{RoundOf}
+use Rattle.deck.specs.Rounds.{adds, RoundOf}
 use Rattle.deck.specs.declared.calls.Reply.the-variants.{Finished, Tap}
 use Rattle.deck.specs.Calls.{replyOf, answer}
 use Rattle.deck.proofs.FromPlan.{codes-count}
@@ -57,6 +58,10 @@ module _ (s : State) (e : answerOf (best (points s)) ≡ Nothing) where
   pub next-stays : s ≡ round s .next
   unfolding roundWith
   next-stays = sym (ap (λ (r : RoundResult). r .next) stays)
+
+  pub added-stays : false ≡ adds (round s .answer)
+  unfolding roundWith
+  added-stays = sym (ap (λ (r : RoundResult). adds (r .answer)) stays)
 
   pub reply-stays : Finished ≡ replyOf (answered (round s .answer))
   unfolding roundWith replyOf
@@ -103,6 +108,10 @@ module _ (s : State) (u v : ℕ) (j : Joins s u v) where
   pub next-joins : (s′ : State) → s′ ≡ prune (withSteiner (pointOf (u * 65536 + v)) s) → s′ ≡ round s .next
   unfolding roundWith
   next-joins s′ e = e ∙ sym (ap (λ (r : RoundResult). r .next) joins)
+
+  pub added-joins : true ≡ adds (round s .answer)
+  unfolding roundWith
+  added-joins = sym (ap (λ (r : RoundResult). adds (r .answer)) joins)
 
   pub reply-joins : (s′ : State) (x y : ℤ) (m n : ℕ) → s′ ≡ prune (withSteiner (pointOf (u * 65536 + v)) s) → x ≡ coordinate u → y ≡ coordinate v → m ≡ treeLength (points s) → n ≡ treeLength (points s′)
       → Tap x y (m - n) ≡ replyOf (answered (round s .answer))

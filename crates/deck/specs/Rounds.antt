@@ -1,13 +1,26 @@
--- What a round on a working form leaves and replies, by the model.
+-- What a round and a run to the end on a working form leave and reply, by the model.
 use mathlib.Core.Path.{_≡_}
-use Rattle.model.specs.Round.{round}
+use mathlib.Core.Bool.{Bool, true, false}
+use Rattle.model.specs.Round.{RoundAnswer, finished, tap, round, finish}
 use Rattle.model.specs.Call.{answered}
 use Rattle.plan.specs.declared.Plan.{Plan}
 use Rattle.plan.specs.Work as work
 use Rattle.deck.specs.declared.rounds.Rounded.{Rounded}
+use Rattle.deck.specs.declared.rounds.Ended.{Ended}
 use Rattle.deck.specs.Calls.{replyOf}
+
+-- Whether a round added a Steiner point.
+abbrev pub adds : RoundAnswer → Bool
+adds finished = false
+adds (tap c fall) = true
 
 pub record RoundOf (w : Plan) (r : Rounded) : Type 0 where
   pub planned : work.Planned (r .plan)
   pub next : work.stateOf (r .plan) ≡ round (work.stateOf w) .next
+  pub added : r .added ≡ adds (round (work.stateOf w) .answer)
   pub reply : r .reply ≡ replyOf (answered (round (work.stateOf w) .answer))
+
+pub record FinishOf (w : Plan) (r : Ended) : Type 0 where
+  pub planned : work.Planned (r .plan)
+  pub final : work.stateOf (r .plan) ≡ finish (work.stateOf w) .final
+  pub count : r .count ≡ finish (work.stateOf w) .count

@@ -4,6 +4,7 @@ use super::check::check;
 use super::check::deck_of;
 use super::place::Place;
 use super::place::locate;
+use super::rounds::finish_of;
 use super::rounds::round_of;
 use plan::Plan;
 ghost use mathlib.Core.Path.{_≡_};
@@ -127,6 +128,20 @@ impl Deck {
         Outcome {
             next: deck_of(t.plan),
             reply,
+        }
+    }
+    // Rounds until finished. Refusal 11.
+    pub fn run_to_end(self) -> Outcome
+        ensures { λ r. ⌜ r ≡ called self call.runToEnd ⌝ }
+    {
+        let c = check(self);
+        if !c.ok {
+            return refuse(self, 11);
+        }
+        let e = finish_of(c.plan);
+        Outcome {
+            next: deck_of(e.plan),
+            reply: Reply::Rounds(e.count),
         }
     }
 }

@@ -1,4 +1,4 @@
-// The round on a working form.
+// The round and the run to the end on a working form.
 use super::calls::Reply;
 use crossing::found::Best;
 use plan::Plan;
@@ -8,12 +8,19 @@ ghost use Rattle.model.specs.Tree.{treeLength};
 ghost use Rattle.model.specs.Round as round;
 ghost use Rattle.plan.specs.Work as work;
 ghost use Rattle.crossing.specs.Search.{answerOf};
-ghost use Rattle.deck.specs.Rounds.{RoundOf};
+ghost use Rattle.deck.specs.Rounds.{RoundOf, FinishOf};
 
-// A working form after a round, and what the round replies.
+// A working form after a round, whether the round added a Steiner point, and what it replies.
 pub struct Rounded {
     pub plan: Plan,
+    pub added: bool,
     pub reply: Reply,
+}
+
+// A working form after a run to the end, and how many rounds added a Steiner point.
+pub struct Ended {
+    pub plan: Plan,
+    pub count: u64,
 }
 
 // The length of its tree.
@@ -45,6 +52,7 @@ pub fn round_of(w: Plan) -> Rounded
     match best_of(w) {
         Best::Nothing => Rounded {
             plan: w,
+            added: false,
             reply: Reply::Finished,
         },
         Best::At(u, v) => {
@@ -54,8 +62,26 @@ pub fn round_of(w: Plan) -> Rounded
             let y = plane::to_signed(v);
             Rounded {
                 plan: next,
+                added: true,
                 reply: Reply::Tap(x, y, fall),
             }
         }
     }
+}
+
+// Rounds until one is finished.
+pub fn finish_of(w: Plan) -> Ended
+    requires { ⌜ work.Planned w ⌝ }
+    requires { ⌜ Valid (work.stateOf w) ⌝ }
+    ensures { λ r. ⌜ FinishOf w r ⌝ }
+{
+    let mut at = w;
+    let mut count = 0u64;
+    let mut last = round_of(at);
+    while last.added {
+        at = last.plan;
+        count += 1;
+        last = round_of(at);
+    }
+    Ended { plan: at, count }
 }

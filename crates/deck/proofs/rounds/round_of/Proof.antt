@@ -8,7 +8,7 @@ use Rattle.model.specs.State.{State, points}
 use Rattle.model.specs.Tree.{treeLength}
 use Rattle.model.proofs.Candidate.{map-in}
 use Rattle.plan.specs.Code.{pointOf}
-use Rattle.deck.proofs.OneRound.{steiner-room, next-stays, reply-stays, found-at, next-joins, reply-joins, joins-free, joins-shorter}
+use Rattle.deck.proofs.OneRound.{steiner-room, next-stays, added-stays, reply-stays, found-at, next-joins, added-joins, reply-joins, joins-free, joins-shorter}
 use borrow.Author.Needs.{needs}
 use Rattle.deck.proofs.rounds.round_of.Statement.{statement}
 use Rattle.deck.proofs.rounds.round_of.Tie as tie
@@ -82,7 +82,7 @@ to-signed-requires-2 c κs = search needs
 returns : tie.Need-returns
 returns c =
     let e = sym (c .before .before .best-of .ensures) ∙ c .enum-told .given .1 in
-    record { planned = c .before .before .before .pre .0; next = next-stays _ e; reply = reply-stays _ e }
+    record { planned = c .before .before .before .pre .0; next = next-stays _ e; added = added-stays _ e; reply = reply-stays _ e }
 
 -- src/rounds.rt:40:1
 returns-2 : tie.Need-returns-2
@@ -92,6 +92,7 @@ returns-2 c =
     record {
       planned = c .before .before .before .before .with-steiner .ensures .0;
       next = next-joins _ _ _ j _ e;
+      added = added-joins _ _ _ j;
       reply = reply-joins _ _ _ j _ _ _ _ _ e (toZ-ofZ w32 _ (record { sfits = c .before .to-signed .ok }) ∙ c .before .to-signed .ensures) (toZ-ofZ w32 _ (record { sfits = c .to-signed2 .ok }) ∙ c .to-signed2 .ensures) (c .before .before .before .length-of .ensures) (c .before .before .length-of2 .ensures);
     }
 

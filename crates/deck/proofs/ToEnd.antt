@@ -1,0 +1,103 @@
+-- A run to the end on a working form is the model's: its rounds lead where the model's rounds lead, and there is one such place.
+use mathlib.Core.Path.{_≡_, refl, sym, ap, _∙_, subst, subst⁻¹}
+use mathlib.Core.Bool.{Bool, true, false}
+use Prim.Native.Nat.{ℕ, zero, suc, _+_, _≤_, _<_}
+use native.Mathlib.Omega.{arith}
+use Rattle.model.specs.State.{State, Valid}
+use Rattle.model.specs.Round.{RoundAnswer, finished, tap, round, finish}
+use Rattle.model.specs.Question.{lengthOfState}
+use Rattle.model.specs.Demand3.{RoundsTo, ended, added}
+use Rattle.model.proofs.Round.{round-valid, round-falls, finish-rounds}
+use Rattle.model.proofs.Demand3.{valid-kept}
+use Rattle.plan.specs.declared.Plan.{Plan}
+use Rattle.plan.specs.Work as work
+use Rattle.model.specs.Call.{step, runToEnd}
+use Rattle.deck.specs.declared.Deck.{Deck}
+use Rattle.deck.specs.declared.calls.Outcome.{Outcome}
+use Rattle.deck.specs.declared.calls.Reply.the-variants.{Rounds}
+use Rattle.deck.specs.Form.{deckOf, stateOf}
+use Rattle.deck.specs.Calls.{replyOf, answer}
+use Rattle.deck.specs.declared.rounds.Rounded.{Rounded}
+use Rattle.deck.specs.declared.rounds.Ended.{Ended}
+use Rattle.deck.specs.Rounds.{adds, RoundOf, FinishOf}
+
+-- Rounds alone lead to one state, by one number of them.
+same-end : {s r r′ : State} {k k′ : ℕ} → RoundsTo s k r → RoundsTo s k′ r′ → (k ≡ k′) × (r ≡ r′)
+same-end (ended e) (ended f) = (refl, refl)
+same-end (ended e) (added f b) = let z : _≡_ {A = ℕ} 0 1 = cc in absurd (omega arith)
+same-end (added e a) (ended f) = let z : _≡_ {A = ℕ} 0 1 = cc in absurd (omega arith)
+same-end (added e a) (added f b) = let h = same-end a b in (ap suc (h .0), h .1)
+
+is-finished : (a : RoundAnswer) → adds a ≡ false → a ≡ finished
+is-finished finished e = refl
+is-finished (tap c fall) e = let z : _≡_ {A = ℕ} 0 1 = cc in absurd (omega arith)
+
+-- While rounds go on: after `count` rounds that added a Steiner point the working form is `at`, and `t` is the round on it.
+pub record Running (w at : Plan) (t : Rounded) (count : ℕ) : Type 0 where
+  pub planned : work.Planned at
+  pub valid : Valid (work.stateOf at)
+  pub rounded : RoundOf at t
+  pub rest : (k : ℕ) (r : State) → RoundsTo (work.stateOf at) k r → RoundsTo (work.stateOf w) (count + k) r
+  pub left : lengthOfState (work.stateOf at) + count ≤ lengthOfState (work.stateOf w)
+  pub fits : lengthOfState (work.stateOf w) ≤ 15120000
+
+pub running-start : (w : Plan) (t : Rounded) → work.Planned w → Valid (work.stateOf w) → RoundOf w t → Running w w t 0
+running-start w t p v r =
+    record {
+      planned = p;
+      valid = v;
+      rounded = r;
+      rest = λ k e x. subst (λ (n : ℕ). RoundsTo (work.stateOf w) n e) (omega arith) x;
+      left = omega arith;
+      fits = valid-kept (work.stateOf w) v .length-fits;
+    }
+
+module _ (w at : Plan) (t : Rounded) (count : ℕ) (run : Running w at t count) where
+  abbrev s : State
+  s = work.stateOf at
+
+  -- The round added a Steiner point: the tree was shortened.
+  module _ (more : t .added ≡ true) where
+    falls : (a : RoundAnswer) → round s .answer ≡ a → adds a ≡ true
+        → (lengthOfState (round s .next) < lengthOfState s) × ((k : ℕ) (r : State) → RoundsTo (round s .next) k r → RoundsTo s (suc k) r)
+    falls finished e m = let z : _≡_ {A = ℕ} 0 1 = cc in absurd (omega arith)
+    falls (tap c fall) e m = let f = round-falls s (run .valid) c fall e in (omega (arith, f .0, f .1), λ k r x. added e x)
+
+    fell : (lengthOfState (round s .next) < lengthOfState s) × ((k : ℕ) (r : State) → RoundsTo (round s .next) k r → RoundsTo s (suc k) r)
+    fell = falls (round s .answer) refl (sym (run .rounded .added) ∙ more)
+
+    pub running-less : count < lengthOfState (work.stateOf w)
+    running-less = omega (arith, fell .0, run .left)
+
+    pub running-fits : count < 15120000
+    running-fits = omega (arith, running-less, run .fits)
+
+    pub running-next : work.Planned (t .plan) × Valid (work.stateOf (t .plan))
+    running-next = (run .rounded .planned, subst⁻¹ Valid (run .rounded .next) (round-valid s (run .valid)))
+
+    pub running-more : (u : Rounded) → RoundOf (t .plan) u → Running w (t .plan) u (count + 1)
+    running-more u r =
+        record {
+          planned = running-next .0;
+          valid = running-next .1;
+          rounded = r;
+          rest = λ k e x. subst (λ (n : ℕ). RoundsTo (work.stateOf w) n e) (omega arith) (run .rest (suc k) e (fell .1 k e (subst (λ (z : State). RoundsTo z k e) (run .rounded .next) x)));
+          left = omega (arith, fell .0, run .left, ap lengthOfState (run .rounded .next));
+          fits = run .fits;
+        }
+
+  pub running-end : Valid (work.stateOf w) → t .added ≡ false → FinishOf w (record { plan = at; count = count })
+  running-end v stop =
+      let f = is-finished (round s .answer) (sym (run .rounded .added) ∙ stop) in
+      let h = same-end (run .rest 0 s (ended f)) (finish-rounds (work.stateOf w) v .0) in
+      record { planned = run .planned; final = h .1; count = omega (arith, h .0) }
+
+-- The run to the end of a deck from that of its working form.
+pub end-answer : (d e : Deck) (w : Plan) (r : Ended) → work.stateOf w ≡ stateOf d → FinishOf w r → e ≡ deckOf (work.stateOf (r .plan))
+    → _≡_ {A = Outcome} (record { next = e; reply = Rounds (r .count) }) (answer (step (stateOf d) runToEnd))
+unfolding answer step replyOf
+end-answer d e w r same f is =
+    λ i. record {
+      next = (is ∙ ap deckOf (f .final ∙ ap (λ (z : State). finish z .final) same)) i;
+      reply = Rounds ((f .count ∙ ap (λ (z : State). finish z .count) same) i);
+    }
