@@ -45,7 +45,7 @@ pub answered-done : (s s′ : State) (o : call.Outcome) → s ≡ s′ → o ≡
 answered-done s s′ o e f = (λ i. answer (record { next = e i; reply = call.done })) ∙ ap answer (sym f)
 
 -- What the check of a deck gives where it passed: the deck is sound, and its working form stands for its state.
-pub checked-sound : (d : Deck) (r : Checked) → Checks d r → r .ok ≡ true → Sound d × work.Planned (r .plan) × (work.stateOf (r .plan) ≡ stateOf d)
+pub checked-sound : (d : Deck) (r : Checked) → Checks (sound d) d r → r .ok ≡ true → Sound d × work.Planned (r .plan) × (work.stateOf (r .plan) ≡ stateOf d)
 checked-sound d r c e =
     (sound-is d .0 t, c .planned t, (λ i. work.stateAt (c .samePins t i) (c .sameCount t i) (c .sameSteiner t i) (c .sameLeft t i)))
   where

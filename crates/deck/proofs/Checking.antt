@@ -165,81 +165,6 @@ arranged-codes d h k t =
 pub arranged-few : (d : Deck) → T (arranged d) → d .npins ≤ 64
 arranged-few d t = leb-true _ _ (true-of _ (and-parts (leb (d .npins) 64) (leb (d .nsteiner) 62 && (ordered (d .pins) (d .npins) && (ordered (d .steiner) (d .nsteiner) && noneIn (take (d .nsteiner) (d .steiner)) (take (d .npins) (d .pins))))) t .0))
 
--- The search for a weak Steiner point in a working form of the deck.
-module _ (d : Deck) (w : Plan) (p : work.Planned w) (e₁ : w .pins ≡ d .pins) (e₂ : w .npins ≡ d .npins) (e₃ : w .steiner ≡ d .steiner) (e₄ : w .nsteiner ≡ d .nsteiner)
-    (j : ℕ) (is : j ≡ firstWeak (take (w .npoints) (w .codes)) (take (w .nkeys) (w .keys)) (take (w .nsteiner) (w .steiner))) where
-  pub same-state : work.stateOf w ≡ stateOf d
-  same-state = λ i. work.stateAt (e₁ i) (e₂ i) (e₃ i) (e₄ i)
-
-  full : length (take (w .nsteiner) (w .steiner)) ≡ d .nsteiner
-  full = length-take-le (w .nsteiner) (w .steiner) (omega (arith, p .arranged .steinerCodes .few, p .arranged .steinerCodes .size)) ∙ e₄
-
-  search : Found (take (w .nsteiner) (w .steiner)) (weakest (mst (points (work.stateOf w))) (work.stateOf w .steiner)) j
-  search =
-      subst⁻¹ (Found (take (w .nsteiner) (w .steiner)) (weakest (mst (points (work.stateOf w))) (work.stateOf w .steiner))) is
-      (found (take (w .npoints) (w .codes)) (take (w .nkeys) (w .keys)) (mst (points (work.stateOf w))) (take (w .nsteiner) (w .steiner)) (planned-degree w p))
-
-  -- None was found: every Steiner point has three edges or more.
-  pub none-found : d .nsteiner ≤ j → (q : Point) → List·Memᴰ q (stateOf d .steiner) → 3 ≤ edgesAt q (mst (points (stateOf d)))
-  none-found h = subst (λ (z : State). (q : Point) → List·Memᴰ q (z .steiner) → 3 ≤ edgesAt q (mst (points z))) same-state (go refl search (weakest-view (mst (points (work.stateOf w))) (work.stateOf w .steiner)))
-    where
-      Strong : Type 0
-      Strong = (q : Point) → List·Memᴰ q (work.stateOf w .steiner) → 3 ≤ edgesAt q (mst (points (work.stateOf w)))
-
-      all : {o : Option Point} → o ≡ none → Weakest (mst (points (work.stateOf w))) (work.stateOf w .steiner) o → Strong
-      all e (all-strong f) = f
-      all e (weak q i k) = absurd (let z : _≡_ {A = ℕ} 0 1 = cc in omega arith)
-
-      go : {o : Option Point} {i : ℕ} → i ≡ j → Found (take (w .nsteiner) (w .steiner)) o i → Weakest (mst (points (work.stateOf w))) (work.stateOf w .steiner) o → Strong
-      go q none-weak v = all refl v
-      go q (at r l) v = absurd (omega (arith, full))
-
-  -- One was found: the deck is not sound.
-  pub one-found : j < d .nsteiner → ¬ Sound d
-  one-found h s = go refl search (weakest-view (mst (points (work.stateOf w))) (work.stateOf w .steiner))
-    where
-      branching : (q : Point) → List·Memᴰ q (work.stateOf w .steiner) → 3 ≤ edgesAt q (mst (points (work.stateOf w)))
-      branching = subst⁻¹ (λ (z : State). (q : Point) → List·Memᴰ q (z .steiner) → 3 ≤ edgesAt q (mst (points z))) same-state (s .valid .branching)
-
-      few : {o : Option Point} → ¬ (o ≡ none) → Weakest (mst (points (work.stateOf w))) (work.stateOf w .steiner) o → ⊥
-      few n (all-strong f) = n refl
-      few n (weak q i k) = omega (arith, branching q i, k)
-
-      go : {o : Option Point} {i : ℕ} → i ≡ j → Found (take (w .nsteiner) (w .steiner)) o i → Weakest (mst (points (work.stateOf w))) (work.stateOf w .steiner) o → ⊥
-      go q none-weak v = omega (arith, full)
-      go q (at r l) v = few (λ e. let z : _≡_ {A = ℕ} 0 1 = cc in omega arith) v
-
-  -- Every part passed: the deck is sound.
-  pub all-passed : d .nsteiner ≤ j → d .npins ≤ 64 → (e : Deck) → e ≡ deckOf (work.stateOf w) → d .ends ≡ e .ends → Sound d
-  all-passed h k e is-deck same =
-      record {
-        valid =
-            record {
-              few = omega (arith, codes-count (d .pins) (d .npins) pin-codes, k);
-              placed = subst Placed same-state (arranged-placed (w .pins) (w .npins) (w .steiner) (w .nsteiner) (p .arranged));
-              branching = none-found h;
-            };
-        same =
-            unfold deckOf in
-            (λ i. record {
-              pins = codes-row (d .pins) (d .npins) pin-codes i;
-              npins = codes-count (d .pins) (d .npins) pin-codes i;
-              steiner = codes-row (d .steiner) (d .nsteiner) steiner-codes i;
-              nsteiner = codes-count (d .steiner) (d .nsteiner) steiner-codes i;
-              ends = (same ∙ (λ i. is-deck i .ends) ∙ (λ i. deckOf (same-state i) .ends)) i;
-            });
-      }
-    where
-      pin-codes : work.Codes (d .pins) (d .npins) 64
-      pin-codes = subst (λ (z : List ℕ). work.Codes z (d .npins) 64) e₁ (subst (λ (z : ℕ). work.Codes (w .pins) z 64) e₂ (p .arranged .pinCodes))
-
-      steiner-codes : work.Codes (d .steiner) (d .nsteiner) 64
-      steiner-codes = subst (λ (z : List ℕ). work.Codes z (d .nsteiner) 64) e₃ (subst (λ (z : ℕ). work.Codes (w .steiner) z 64) e₄ (p .arranged .steinerCodes))
-
-  -- A sound deck has the ends of its working form's deck.
-  pub ends-right : Sound d → (e : Deck) → e ≡ deckOf (work.stateOf w) → d .ends ≡ e .ends
-  ends-right s e is-deck = (λ i. s .same i .ends) ∙ sym (λ i. deckOf (same-state i) .ends) ∙ sym (λ i. is-deck i .ends)
-
 pub same-of : {l m : List ℕ} → l ≡ m → T (sameBytes l m)
 same-of {l} e = subst (λ (z : List ℕ). T (sameBytes l z)) e (same-refl l)
 
@@ -247,26 +172,23 @@ same-of {l} e = subst (λ (z : List ℕ). T (sameBytes l z)) e (same-refl l)
 pub refuted : {a b : Bool} → a ≡ b → a ≡ false → ¬ T b
 refuted e n t = subst T (sym e ∙ n) t
 
--- The answer for a deck that is not sound, and for one that is.
-pub refused : (d : Deck) (r : Checked) → r .ok ≡ false → ¬ Sound d → Checks d r
-refused d r e n =
+-- The answer where a test does not hold, and where it does.
+pub refused : (test : Bool) (d : Deck) (r : Checked) → r .ok ≡ false → ¬ T test → Checks test d r
+refused test d r e never =
     record {
-      ok = e ∙ sym (false-of (sound d) never);
+      ok = e ∙ sym (false-of test never);
       planned = λ t. absurd (never t);
       samePins = λ t. absurd (never t);
       sameCount = λ t. absurd (never t);
       sameSteiner = λ t. absurd (never t);
       sameLeft = λ t. absurd (never t);
     }
-  where
-    never : ¬ T (sound d)
-    never t = n (sound-is d .0 t)
 
-pub accepted : (d : Deck) (r : Checked) → r .ok ≡ true → Sound d → work.Planned (r .plan) → r .plan .pins ≡ d .pins → r .plan .npins ≡ d .npins
-    → r .plan .steiner ≡ d .steiner → r .plan .nsteiner ≡ d .nsteiner → Checks d r
-accepted d r e s p e₁ e₂ e₃ e₄ =
+pub accepted : (test : Bool) (d : Deck) (r : Checked) → r .ok ≡ true → T test → work.Planned (r .plan) → r .plan .pins ≡ d .pins → r .plan .npins ≡ d .npins
+    → r .plan .steiner ≡ d .steiner → r .plan .nsteiner ≡ d .nsteiner → Checks test d r
+accepted test d r e s p e₁ e₂ e₃ e₄ =
     record {
-      ok = e ∙ sym (true-of (sound d) (sound-is d .1 s));
+      ok = e ∙ sym (true-of test s);
       planned = λ t. p;
       samePins = λ t. e₁;
       sameCount = λ t. e₂;

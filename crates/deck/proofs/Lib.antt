@@ -4,6 +4,7 @@ pub mod Forms
 pub mod FromPlan
 pub mod Locating
 pub mod OneRound
+pub mod Pointing
 pub mod Scans
 pub mod Searching
 pub mod ToEnd

@@ -1,17 +1,20 @@
 -- The parts of check 11.
 use mathlib.Core.Path.{_≡_}
-use mathlib.Core.Bool.{Bool, not, _&&_}
+use mathlib.Core.Bool.{Bool, true, false, not, _&&_}
 use mathlib.Core.List.{List}
 use Prim.Native.Nat.{ℕ}
 use lib.Dec.{T, ltb, leb}
-use lib.ListN.{take, drop}
+use lib.ListN.{take, drop, replicate}
+use Rattle.plane.specs.Test.{if}
 use Rattle.model.specs.Set.{rising, all, has}
+use Rattle.model.specs.State.{empty, valid}
 use Rattle.sets.specs.Array.{allZero}
 use Rattle.plan.specs.Code.{isCode}
 use Rattle.plan.specs.Work as work
 use Rattle.deck.specs.declared.Deck.{Deck}
+use Rattle.deck.specs.declared.build.Built.{Built}
 use Rattle.deck.specs.declared.check.Checked.{Checked}
-use Rattle.deck.specs.Form.{sound}
+use Rattle.deck.specs.Form.{deckOf, stateOf}
 
 -- The first n places hold a set of codes of points in range, and the others zeros.
 abbrev pub ordered : List ℕ → ℕ → Bool
@@ -29,11 +32,27 @@ arranged d =
     && (ordered (d .pins) (d .npins)
     && (ordered (d .steiner) (d .nsteiner) && noneIn (take (d .nsteiner) (d .steiner)) (take (d .npins) (d .pins)))))
 
--- What the check answers: whether the deck is sound and, where it is, its working form.
-pub record Checks (d : Deck) (r : Checked) : Type 0 where
-  pub ok : r .ok ≡ sound d
-  pub planned : T (sound d) → work.Planned (r .plan)
-  pub samePins : T (sound d) → r .plan .pins ≡ d .pins
-  pub sameCount : T (sound d) → r .plan .npins ≡ d .npins
-  pub sameSteiner : T (sound d) → r .plan .steiner ≡ d .steiner
-  pub sameLeft : T (sound d) → r .plan .nsteiner ≡ d .nsteiner
+-- The points of a deck are those of a valid state; its edges are not looked at.
+abbrev pub pointed : Deck → Bool
+pointed d = arranged d && valid (stateOf d)
+
+-- What a test of a deck answers, with the working form of its points where the test holds.
+pub record Checks (test : Bool) (d : Deck) (r : Checked) : Type 0 where
+  pub ok : r .ok ≡ test
+  pub planned : T test → work.Planned (r .plan)
+  pub samePins : T test → r .plan .pins ≡ d .pins
+  pub sameCount : T test → r .plan .npins ≡ d .npins
+  pub sameSteiner : T test → r .plan .steiner ≡ d .steiner
+  pub sameLeft : T test → r .plan .nsteiner ≡ d .nsteiner
+
+-- A deck of pins and Steiner points alone.
+abbrev pub unjoined : List ℕ → ℕ → List ℕ → ℕ → Deck
+unjoined pins npins steiner nsteiner =
+    record { pins = pins; npins = npins; steiner = steiner; nsteiner = nsteiner; ends = replicate 128 0 }
+
+-- The deck of pins and Steiner points kept as codes, where they are those of a valid state, else an empty one.
+unfoldable pub built : List ℕ → ℕ → List ℕ → ℕ → Built
+built pins npins steiner nsteiner =
+    if (pointed (unjoined pins npins steiner nsteiner))
+    (λ _. record { ok = true; deck = deckOf (work.stateAt pins npins steiner nsteiner) })
+    (λ _. record { ok = false; deck = deckOf empty })

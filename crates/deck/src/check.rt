@@ -12,7 +12,7 @@ ghost use Rattle.sets.specs.Array.{allZero};
 ghost use Rattle.plan.specs.Code.{isCode};
 ghost use Rattle.plan.specs.Work as work;
 ghost use Rattle.deck.specs.Form.{deckOf, sound};
-ghost use Rattle.deck.specs.Check.{ordered, noneIn, arranged, Checks};
+ghost use Rattle.deck.specs.Check.{ordered, noneIn, arranged, pointed, Checks};
 
 pub struct Checked {
     pub ok: bool,
@@ -117,7 +117,7 @@ pub fn deck_of(w: Plan) -> Deck
     }
 }
 
-// The answer for a deck that is not sound.
+// The answer where there is none.
 fn unsound() -> Checked
     ensures { λ r. ⌜ r .ok ≡ Bool.false ⌝ }
 {
@@ -150,9 +150,9 @@ fn is_arranged(d: Deck) -> bool
     none_in(&pins, npins, &steiner, nsteiner)
 }
 
-// Check 11: whether the deck is that of a valid state, places that are not used included.
-pub fn check(d: Deck) -> Checked
-    ensures { λ r. ⌜ Checks d r ⌝ }
+// The working form of a deck's points, where they are those of a valid state; its edges are not looked at.
+pub fn plan_of(d: Deck) -> Checked
+    ensures { λ r. ⌜ Checks (pointed d) d r ⌝ }
 {
     if !is_arranged(d) {
         return unsound();
@@ -163,8 +163,19 @@ pub fn check(d: Deck) -> Checked
     if plan::prune::weakest(w) < d.nsteiner {
         return unsound();
     }
-    if !has_ends(d, deck_of(w)) {
+    Checked { ok: true, plan: w }
+}
+
+// Check 11: whether the deck is that of a valid state, places that are not used included.
+pub fn check(d: Deck) -> Checked
+    ensures { λ r. ⌜ Checks (sound d) d r ⌝ }
+{
+    let c = plan_of(d);
+    if !c.ok {
+        return c;
+    }
+    if !has_ends(d, deck_of(c.plan)) {
         return unsound();
     }
-    Checked { ok: true, plan: w }
+    c
 }

@@ -1,7 +1,9 @@
 // The deck: its pins, its Steiner points (document 01: taps) and the edges of its tree, with the calls and questions on it.
+pub mod build;
 pub mod calls;
 mod check;
 mod place;
+pub mod questions;
 mod rounds;
 
 ghost use mathlib.Core.Path.{_≡_};

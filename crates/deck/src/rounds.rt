@@ -24,7 +24,7 @@ pub struct Ended {
 }
 
 // The length of its tree.
-fn length_of(w: Plan) -> u64
+pub fn length_of(w: Plan) -> u64
     requires { ⌜ work.Planned w ⌝ }
     ensures { λ r. ⌜ r ≡ treeLength (points (work.stateOf w)) ⌝ }
 {

@@ -1,0 +1,40 @@
+-- `deck::build::build` meets its contract: the points alone are looked at, and the deck is that of their working form.
+use mathlib.Core.Path.{sym, ap, _∙_}
+use borrow.Author.Tests.{not-true, not-false}
+use Rattle.deck.specs.Form.{deckOf}
+use Rattle.deck.proofs.Pointing.{points-planned, points-state, built-none, built-deck}
+use borrow.Author.Needs.{needs}
+use Rattle.deck.proofs.build.build.Statement.{statement}
+use Rattle.deck.proofs.build.build.Tie as tie
+use Rattle.deck.proofs.build.build.Reads as reads
+use Rattle.deck.proofs.build.build.Lts as lts
+use Rattle.deck.proofs.Deck.empty.Reads as empty-reads
+use Rattle.deck.proofs.check.deck_of.Reads as deck-of-reads
+use Rattle.deck.proofs.check.plan_of.Reads as plan-of-reads
+
+-- src/build.rt:18:9
+plan-of-requires : tie.Need-plan-of-requires
+plan-of-requires c κs = search needs
+
+-- src/build.rt:28:19
+empty-requires : tie.Need-empty-requires
+empty-requires c κs = search needs
+
+-- src/build.rt:26:9
+returns : tie.Need-returns
+returns c = built-none _ _ _ _ _ (c .empty .ensures) (sym (c .before .before .before .plan-of .ensures .ok) ∙ not-true _ (c .before .if1 .taken))
+
+-- src/build.rt:33:15
+deck-of-requires : tie.Need-deck-of-requires
+deck-of-requires c κs = points-planned _ _ (c .before .before .plan-of .ensures) (not-false _ (c .if1 .left))
+
+-- src/build.rt:15:1
+returns-2 : tie.Need-returns-2
+returns-2 c =
+    let k = c .before .before .before .plan-of .ensures in
+    let t = not-false _ (c .before .if1 .left) in
+    built-deck _ _ _ _ _ (c .deck-of .ensures ∙ ap deckOf (points-state _ _ k t)) (sym (k .ok) ∙ t)
+
+pub build-spec : {M : Type 1} → statement M
+build-spec =
+    tie.close (tie.spec plan-of-requires empty-requires returns deck-of-requires returns-2)
