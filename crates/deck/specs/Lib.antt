@@ -1,4 +1,5 @@
 pub mod Calls
 pub mod Check
 pub mod Form
+pub mod Questions
 pub mod Rounds

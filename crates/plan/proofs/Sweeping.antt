@@ -55,9 +55,9 @@ found all keys t (q ∷ l) h = go (leb 3 (edgesAt (pointOf q) t)) (leb 3 (degree
     go false false e f = at 0 (omega arith)
 
 -- In a working form the number of keys at a code's place is that of the edges at its point.
-pub planned-degree : (w : Plan) → Planned w → (q : ℕ) → List·Memᴰ q (take (w .nsteiner) (w .steiner))
+pub held-degree : (w : Plan) → Planned w → (q : ℕ) → T (has ltb q (take (w .npoints) (w .codes)))
     → degree keyGraph (placeOf q (take (w .npoints) (w .codes))) (take (w .nkeys) (w .keys)) ≡ edgesAt (pointOf q) (mst (points (stateOf w)))
-planned-degree w p q i =
+held-degree w p q h =
     ap₂ (λ (z : ℕ) (k : List ℕ). degree keyGraph z k) (ap (placeOf q) (p .codes)) (p .tree)
     ∙ tree-keys-degree (held (w .xs) (w .ys)) (w .npoints) (omega (arith, p .few)) (p .rises) (placeOf q all) below
     ∙ ap₂ edgesAt at-place (ap mst (p .points))
@@ -66,7 +66,7 @@ planned-degree w p q i =
     all = union ltb (take (w .npins) (w .pins)) (take (w .nsteiner) (w .steiner))
 
     member : T (has ltb q all)
-    member = has-in ltb nat-order q all .1 (union-in ltb nat-order (take (w .npins) (w .pins)) (take (w .nsteiner) (w .steiner)) q .1 (inr i))
+    member = subst (λ (l : List ℕ). T (has ltb q l)) (p .codes) h
 
     listed : points (stateOf w) ≡ map pointOf all
     listed = unfold points in sym (points-union (take (w .npins) (w .pins)) (take (w .nsteiner) (w .steiner)))
@@ -82,6 +82,14 @@ planned-degree w p q i =
         sym (tab-get (held (w .xs) (w .ys)) (w .npoints) (placeOf q all) (pointOf 0) below)
         ∙ ap (λ (l : List Point). getD l (placeOf q all) (pointOf 0)) (p .points ∙ listed) ∙ List·getD-map pointOf all (placeOf q all) 0
         ∙ ap pointOf (place-at q all (place-has q all .0 member))
+
+pub planned-degree : (w : Plan) → Planned w → (q : ℕ) → List·Memᴰ q (take (w .nsteiner) (w .steiner))
+    → degree keyGraph (placeOf q (take (w .npoints) (w .codes))) (take (w .nkeys) (w .keys)) ≡ edgesAt (pointOf q) (mst (points (stateOf w)))
+planned-degree w p q i =
+    held-degree w p q
+    (subst⁻¹ (λ (l : List ℕ). T (has ltb q l)) (p .codes)
+    (has-in ltb nat-order q (union ltb (take (w .npins) (w .pins)) (take (w .nsteiner) (w .steiner))) .1
+    (union-in ltb nat-order (take (w .npins) (w .pins)) (take (w .nsteiner) (w .steiner)) q .1 (inr i))))
 
 -- The definition's next step.
 pub prune-step : (k : ℕ) (s : State) (q : Point) → weakest (mst (points s)) (s .steiner) ≡ some q

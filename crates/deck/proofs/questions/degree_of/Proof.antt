@@ -1,0 +1,69 @@
+-- `deck::questions::degree_of` meets its contract: a code held stands at the number of its point, one not held has no edge.
+use mathlib.Core.Path.{_≡_, sym, ap, _∙_}
+use native.Mathlib.Omega.{arith}
+use lib.ListN.{length}
+use borrow.Author.Tests.{not-true, not-false}
+use Rattle.plan.proofs.Sweeping.{held-degree}
+use Rattle.deck.proofs.Checking.{of-true}
+use Rattle.deck.proofs.Asking.{degree-none, degree-there}
+use borrow.Author.Needs.{needs}
+use Rattle.deck.proofs.questions.degree_of.Statement.{statement}
+use Rattle.deck.proofs.questions.degree_of.Tie as tie
+use Rattle.deck.proofs.questions.degree_of.Reads as reads
+use Rattle.deck.proofs.questions.degree_of.Lts as lts
+use Rattle.sets.proofs.has.Reads as has-reads
+use Rattle.sets.proofs.place.Reads as place-reads
+use Rattle.tree.proofs.list.degree_of.Reads as degree-of-reads
+
+-- src/questions.rt:53:19
+slice-aggregate-has : tie.Need-slice-aggregate-has
+slice-aggregate-has c = search needs
+
+-- src/questions.rt:53:9
+has-requires : tie.Need-has-requires
+has-requires c κs =
+    let h : length (c .before .before .before .args .w .codes) ≡ 128 = search needs in
+    omega (arith, c .before .before .before .pre .few, h)
+
+-- src/questions.rt:54:9
+returns : tie.Need-returns
+returns c = degree-none _ (c .before .before .before .before .before .pre) _ (sym (c .before .has .ensures) ∙ not-true _ (c .if1 .taken))
+
+-- src/questions.rt:56:27
+slice-aggregate-degree-of : tie.Need-slice-aggregate-degree-of
+slice-aggregate-degree-of c = search needs
+
+-- src/questions.rt:56:55
+slice-aggregate-place : tie.Need-slice-aggregate-place
+slice-aggregate-place c = search needs
+
+-- src/questions.rt:56:43
+place-requires : tie.Need-place-requires
+place-requires c κs =
+    let h : length (c .before .before .before .before .before .before .before .args .w .codes) ≡ 128 = search needs in
+    omega (arith, c .before .before .before .before .before .before .before .pre .few, h)
+
+-- src/questions.rt:56:5
+degree-of-requires : tie.Need-degree-of-requires
+degree-of-requires c κs =
+    let h : length (c .before .before .before .before .before .before .before .before .args .w .keys) ≡ 136 = search needs in
+    omega (arith, c .before .before .before .before .before .before .before .before .pre .keysFew, h)
+
+-- src/questions.rt:47:1
+returns-2 : tie.Need-returns-2
+returns-2 c =
+    let t = of-true (sym (c .before .before .before .before .before .has .ensures) ∙ not-false _ (c .before .before .before .before .if1 .left)) in
+    degree-there _ (c .before .before .before .before .before .before .before .before .before .pre) _ _ _ t (c .before .place .ensures) (c .degree-of .ensures)
+
+pub degree-of-spec : {M : Type 1} → statement M
+degree-of-spec =
+    tie.close
+    (tie.spec
+    slice-aggregate-has
+    has-requires
+    returns
+    slice-aggregate-degree-of
+    slice-aggregate-place
+    place-requires
+    degree-of-requires
+    returns-2)
