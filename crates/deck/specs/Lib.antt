@@ -1,5 +1,6 @@
 pub mod Calls
 pub mod Check
+pub mod Demand3
 pub mod Form
 pub mod Questions
 pub mod Rounds

@@ -1,0 +1,113 @@
+-- Demand 3 on decks, proved: a call on the deck of a valid state is the model's call on the state, so a list of calls is too.
+use mathlib.Core.Path.{_≡_, refl, sym, ap, ap₂, _∙_, subst, subst⁻¹}
+use mathlib.Core.Logic.{_↔_}
+use mathlib.Core.Bool.{Bool, true, false}
+use mathlib.Core.List.{List, [], _∷_, List·Memᴰ}
+use Prim.Native.Nat.{ℕ, suc}
+use native.Mathlib.Omega.{arith}
+use Rattle.plane.specs.Point.{Point}
+use Rattle.model.specs.State.{State, points, Valid}
+use Rattle.model.specs.Round.{RoundAnswer, finished, tap, round, finish}
+use Rattle.model.specs.Question as question
+use Rattle.model.specs.Call as call
+use Rattle.model.specs.Demand3 as model
+use Rattle.model.proofs.Round.{round-valid, rounds-valid}
+use Rattle.model.proofs.Step.{step-valid, after-valid}
+use Rattle.model.proofs.Demand3.{start-valid, valid-kept}
+use Rattle.plan.proofs.Sweeping.{true-of}
+use Rattle.deck.specs.declared.Deck.{Deck}
+use Rattle.deck.specs.declared.calls.Outcome.{Outcome}
+use Rattle.deck.specs.declared.calls.Reply.{Reply}
+use Rattle.deck.specs.declared.calls.Reply.the-variants.{Finished, Tap, Rounds}
+use Rattle.deck.specs.declared.questions.Answer.{Answer}
+use Rattle.deck.specs.Form.{deckOf, stateOf, Sound, sound}
+use Rattle.deck.specs.Calls.{replyOf, answer, called}
+use Rattle.deck.specs.Questions.{asked, lengthAnswer, edgeAtAnswer}
+use Rattle.deck.specs.Demand3.{after, replies, reckoned, RoundsTo, ended, added, Kept, Demand3}
+use Rattle.deck.proofs.Forms.{state-deck, deck-sound, sound-is}
+use Rattle.deck.proofs.Calling.{called-sound}
+use Rattle.deck.proofs.Asking.{asked-sound}
+
+module _ (s : State) (v : Valid s) where
+  passes : sound (deckOf s) ≡ true
+  passes = true-of (sound (deckOf s)) (sound-is (deckOf s) .1 (deck-sound s v))
+
+  -- A call on the deck of a valid state.
+  pub called-valid : (c : call.Call) → called (deckOf s) c ≡ answer (call.step s c)
+  called-valid c = sym (called-sound (deckOf s) c passes) ∙ ap (λ (z : State). answer (call.step z c)) (state-deck s (v .placed))
+
+  pub next-valid : (c : call.Call) → called (deckOf s) c .next ≡ deckOf (call.step s c .next)
+  unfolding answer
+  next-valid c = ap (λ (o : Outcome). o .next) (called-valid c)
+
+  pub reply-valid : (c : call.Call) → called (deckOf s) c .reply ≡ replyOf (call.step s c .reply)
+  unfolding answer
+  reply-valid c = ap (λ (o : Outcome). o .reply) (called-valid c)
+
+  pub asked-valid : (f : State → Answer) → asked (deckOf s) f ≡ f s
+  asked-valid f = sym (asked-sound (deckOf s) f passes) ∙ ap f (state-deck s (v .placed))
+
+-- A list of calls.
+pub after-deck : (calls : List call.Call) (s : State) → Valid s → after (deckOf s) calls ≡ deckOf (call.after s calls)
+unfolding after call.after
+after-deck [] s v = refl
+after-deck (c ∷ cs) s v = ap (λ (d : Deck). after d cs) (next-valid s v c) ∙ after-deck cs (call.step s c .next) (step-valid s c v)
+
+pub replies-deck : (calls : List call.Call) (s : State) → Valid s → replies (deckOf s) calls ≡ reckoned s calls
+unfolding replies reckoned
+replies-deck [] s v = refl
+replies-deck (c ∷ cs) s v =
+    ap₂ _∷_ (reply-valid s v c) (ap (λ (d : Deck). replies d cs) (next-valid s v c) ∙ replies-deck cs (call.step s c .next) (step-valid s c v))
+
+-- A round's reply.
+finished-reply : (a : RoundAnswer) → replyOf (call.answered a) ≡ Finished → a ≡ finished
+unfolding replyOf
+finished-reply finished e = refl
+finished-reply (tap p fall) e = let z : _≡_ {A = ℕ} 0 1 = cc in absurd (omega arith)
+
+module _ (s : State) (v : Valid s) where
+  round-reply : called (deckOf s) call.oneRound .reply ≡ replyOf (call.answered (round s .answer))
+  unfolding call.step
+  round-reply = reply-valid s v call.oneRound
+
+  round-next : called (deckOf s) call.oneRound .next ≡ deckOf (round s .next)
+  unfolding call.step
+  round-next = next-valid s v call.oneRound
+
+  pub finish-deck : (called (deckOf s) call.oneRound .reply ≡ Finished) ↔ (round s .answer ≡ finished)
+  unfolding replyOf
+  finish-deck = (λ e. finished-reply (round s .answer) (sym round-reply ∙ e), λ e. round-reply ∙ ap (λ (a : RoundAnswer). replyOf (call.answered a)) e)
+
+-- Rounds alone on decks are those on states.
+moved : {d e f : Deck} {k : ℕ} → d ≡ e → RoundsTo e k f → RoundsTo d k f
+moved {d} {e} {f} {k} q x = subst⁻¹ (λ (z : Deck). RoundsTo z k f) q x
+
+pub rounds-deck : {s r : State} {k : ℕ} → Valid s → model.RoundsTo s k r → RoundsTo (deckOf s) k (deckOf r)
+unfolding replyOf
+rounds-deck {s} v (model.ended e) = ended (finish-deck s v .1 e)
+rounds-deck {s} v (model.added e m) =
+    added (round-reply s v ∙ ap (λ (a : RoundAnswer). replyOf (call.answered a)) e) (moved (round-next s v) (rounds-deck (round-valid s v) m))
+
+pub valid-deck : (s : State) → Valid s → Kept (deckOf s) s
+unfolding call.step replyOf
+valid-deck s v =
+    let m = valid-kept s v in
+    record {
+      sound = deck-sound s v;
+      state = state-deck s (v .placed);
+      kept = m;
+      length = asked-valid s v lengthAnswer;
+      edge = λ i. asked-valid s v (edgeAtAnswer i);
+      finish-exact = (λ e. m .finish-exact .0 (finish-deck s v .0 e), λ f. finish-deck s v .1 (m .finish-exact .1 f));
+      count = finish s .count;
+      counted = reply-valid s v call.runToEnd;
+      rounds-end = subst⁻¹ (RoundsTo (deckOf s) (finish s .count)) (next-valid s v call.runToEnd) (rounds-deck v (m .rounds-end));
+      rounds-few = m .rounds-few;
+    }
+
+pub demand3 : Demand3
+demand3 s start calls =
+    let v = start-valid s start in (
+      subst⁻¹ (λ (d : Deck). Kept d (call.after s calls)) (after-deck calls s v) (valid-deck (call.after s calls) (after-valid calls s v)),
+      replies-deck calls s v,
+    )
