@@ -78,10 +78,12 @@ pub fn finish_of(w: Plan) -> Ended
     let mut at = w;
     let mut count = 0u64;
     let mut last = round_of(at);
-    while last.added {
+    let mut more = last.added;
+    while more {
         at = last.plan;
         count += 1;
         last = round_of(at);
+        more = last.added;
     }
     Ended { plan: at, count }
 }

@@ -1,9 +1,9 @@
 -- `deck::rounds::finish_of` meets its contract. The invariant: what the rounds to come lead to, the model's rounds lead to from the start.
+use mathlib.Core.Path.{_≡_, refl, sym, _∙_}
 use Prim.Native.Nat.{_-_}
 use native.Mathlib.Omega.{arith}
 use borrow.Author.Needs.{needs}
 use Rattle.model.specs.Question.{lengthOfState}
-use Rattle.model.specs.State.{Valid}
 use Rattle.plan.specs.Work as work
 use Rattle.deck.proofs.ToEnd.{Running, running-start, running-less, running-fits, running-next, running-more, running-end}
 use Rattle.deck.proofs.rounds.finish_of.Statement.{statement}
@@ -13,41 +13,51 @@ use Rattle.deck.proofs.rounds.finish_of.Lts as lts
 use Rattle.deck.proofs.rounds.round_of.Reads as round-of-reads
 
 abbrev Inv-loop : tie.InvT-loop
-Inv-loop at₀ count₀ last₀ at count last = Running at₀ at last count
+Inv-loop at₀ count₀ last₀ more₀ at count last more = Running at₀ at last count × (more ≡ last .added)
 
 abbrev μ-loop : tie.MeasureT-loop
-μ-loop at₀ count₀ last₀ at count last = lengthOfState (work.stateOf at₀) - count
+μ-loop at₀ count₀ last₀ more₀ at count last more = lengthOfState (work.stateOf at₀) - count
 
--- src/rounds.rt:78:9
+-- src/rounds.rt:80:9
 round-of-requires : tie.Need-round-of-requires Inv-loop μ-loop
 round-of-requires c κs = c .pre
 
--- src/rounds.rt:80:5
+-- src/rounds.rt:82:5
 loop-holds : tie.Need-loop-holds Inv-loop μ-loop
-loop-holds c = running-start _ _ (c .before .pre .0) (c .before .pre .1) (c .round-of .ensures)
+loop-holds c = (running-start _ _ (c .before .pre .0) (c .before .pre .1) (c .round-of .ensures), refl)
 
--- src/rounds.rt:81:9
+-- src/rounds.rt:84:9
 add-count : tie.Need-add-count Inv-loop μ-loop
 add-count c =
-    let h = running-fits _ _ _ _ (c .before .before .loop .inv) (c .before .loop-test .taken) in
+    let h = running-fits _ _ _ _ (c .before .before .loop .inv .0) (sym (c .before .before .loop .inv .1) ∙ c .before .loop-test .taken) in
     search needs
 
--- src/rounds.rt:83:9
+-- src/rounds.rt:85:9
 round-of-requires-2 : tie.Need-round-of-requires-2 Inv-loop μ-loop
-round-of-requires-2 c κs = running-next _ _ _ _ (c .before .before .loop .inv) (c .before .loop-test .taken)
+round-of-requires-2 c κs = running-next _ _ _ _ (c .before .before .loop .inv .0) (sym (c .before .before .loop .inv .1) ∙ c .before .loop-test .taken)
 
+-- src/rounds.rt:82:5
 loop-less : tie.Need-loop-less Inv-loop μ-loop
-loop-less c =
-    let l = c .before .before .before .loop in
-    omega (arith, running-less _ _ _ _ (l .inv) (c .before .before .loop-test .taken))
+loop-less c = omega (arith, running-less _ _ _ _ (c .before .before .before .loop .inv .0) (sym (c .before .before .before .loop .inv .1) ∙ c .before .before .loop-test .taken))
 
+-- src/rounds.rt:82:5
 loop-again : tie.Need-loop-again Inv-loop μ-loop
-loop-again c = running-more _ _ _ _ (c .before .before .before .loop .inv) (c .before .before .loop-test .taken) _ (c .round-of2 .ensures)
+loop-again c = (running-more _ _ _ _ (c .before .before .before .loop .inv .0) (sym (c .before .before .before .loop .inv .1) ∙ c .before .before .loop-test .taken) _ (c .round-of2 .ensures), refl)
 
+-- src/rounds.rt:73:1
 returns : tie.Need-returns Inv-loop μ-loop
-returns c = running-end _ _ _ _ (c .before .loop .inv) (c .before .before .before .pre .1) (c .loop-test .left)
+returns c = running-end _ _ _ _ (c .before .loop .inv .0) (c .before .before .before .pre .1) (sym (c .before .loop .inv .1) ∙ c .loop-test .left)
 
 pub finish-of-spec : {M : Type 1} → statement M
 finish-of-spec =
     tie.close
-    (tie.spec Inv-loop μ-loop round-of-requires loop-holds add-count round-of-requires-2 loop-less loop-again returns)
+    (tie.spec
+    Inv-loop
+    μ-loop
+    round-of-requires
+    loop-holds
+    add-count
+    round-of-requires-2
+    loop-less
+    loop-again
+    returns)
