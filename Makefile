@@ -1,6 +1,6 @@
-# run: the listing of a sample deck. test: every test; the last line is the verdict of the prover. bench: the time of scoring a
-# crossing, by the proved functions and by others.
-.PHONY: run test bench reference entries
+# run: the listing of a sample deck. test: every test; the last line is the verdict of the prover. library: the planner for C.
+# bench: the time of scoring a crossing, by the proved functions and by others.
+.PHONY: run test bench reference entries library
 
 SAMPLE = samples/example.deck
 
@@ -9,6 +9,10 @@ run: reference
 
 reference:
 	@cd tests/reference && cargo build --release --offline --quiet
+
+# The planner for C.
+library:
+	rt staticlib planner
 
 # The proved functions as a library for Rust.
 entries:

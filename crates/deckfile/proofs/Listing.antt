@@ -1,0 +1,87 @@
+-- The edges of a sound deck: how many there are, and that their bytes are the runs section of its state. A tree has one edge less
+-- than points, and the numbers of points are below 128.
+use mathlib.Core.Path.{_≡_, refl, ap, _∙_}
+use mathlib.Core.List.{List, [], _∷_, map, List·Memᴰ, List·Memᴰ·head as head, List·Memᴰ·tail as tail}
+use Prim.Native.Nat.{ℕ, _+_, _-_, _*_, _/_, _%_, _≤_, _<_}
+use native.Mathlib.Omega.{arith}
+use lib.ListN.{length, take, length-map}
+use Rattle.spanning.proofs.Sorted.{sorted-distinct}
+use Rattle.spanning.proofs.Count.{tree-count, tree-none}
+use Rattle.spanning.specs.Order.{Sorted}
+use Rattle.plane.specs.Point.{Point, Lower}
+use Rattle.plane.specs.Edge.{Edge, listedBefore, planar}
+use Rattle.plane.proofs.Order.{lower-order, listed-order}
+use Rattle.model.specs.Tree.{mst}
+use Rattle.model.specs.State.{State, points, Valid}
+use Rattle.model.specs.Question.{listed, treeOf}
+use Rattle.model.specs.File.{numberOf, runBytes, runSection}
+use Rattle.model.proofs.Set.{sort-in}
+use Rattle.model.proofs.Tree.{mst-run-tree}
+use Rattle.model.proofs.Prune.{points-rise}
+use Rattle.model.proofs.Bounds.{points-count, points-few}
+use Rattle.model.proofs.FileSize.{listed-count, number-below, runs-length}
+use Rattle.tree.specs.Keys.{endsAt}
+use Rattle.deck.specs.declared.Deck.{Deck}
+use Rattle.deck.specs.Form.{row, deckOf, stateOf, Sound}
+use Rattle.deck.proofs.Forms.{row-take}
+use Rattle.deckfile.specs.Bytes.{each, edgeBytes}
+
+-- A tree has one edge less than points, and none where there is no point.
+tree-edges : (ps : List Point) → Sorted Lower ps → length (mst ps) ≡ length ps - 1
+tree-edges [] rise = omega (arith, ap length (tree-none planar (mst []) (mst-run-tree [] rise .tree)))
+tree-edges (p ∷ l) rise =
+    omega (arith, tree-count planar (p ∷ l) (mst (p ∷ l)) (sorted-distinct lower-order (p ∷ l) rise) (mst-run-tree (p ∷ l) rise .tree) (omega arith))
+
+pub edge-count : (s : State) → Valid s → length (listed s) ≡ length (s .pins) + length (s .steiner) - 1
+edge-count s v =
+    omega (arith, listed-count s (v .placed), tree-edges (points s) (points-rise s (v .placed .steinerRise)), points-count s v)
+
+-- An edge as one number, in bytes.
+edge-bytes : (ps : List Point) (l : List Edge) → length ps ≤ 128 → ((e : Edge) → List·Memᴰ e l → List·Memᴰ (e .lo) ps × List·Memᴰ (e .hi) ps)
+    → edgeBytes (map (endsAt ps) l) ≡ runBytes ps l
+unfolding each runBytes
+edge-bytes ps [] h ends = refl
+edge-bytes ps (e ∷ l) h ends =
+    let b = ends e (head refl) in
+    let m : numberOf ps (e .lo) < length ps = number-below ps (e .lo) (b .0) in
+    let n : numberOf ps (e .hi) < length ps = number-below ps (e .hi) (b .1) in
+    go (numberOf ps (e .lo)) (numberOf ps (e .hi)) (omega arith) (omega arith) (edge-bytes ps l h (λ f i. ends f (tail i)))
+  where
+    go : (m n : ℕ) → m < 128 → n < 128 → edgeBytes (map (endsAt ps) l) ≡ runBytes ps l
+        → (m * 128 + n) / 128 % 256 ∷ (m * 128 + n) % 128 ∷ edgeBytes (map (endsAt ps) l) ≡ m ∷ n ∷ runBytes ps l
+    go m n p q r =
+        let x : (m * 128 + n) / 128 % 256 ≡ m = omega arith in
+        let y : (m * 128 + n) % 128 ≡ n = omega arith in
+        cc
+
+pub section-edges : (s : State) → Valid s → edgeBytes (map (endsAt (points s)) (listed s)) ≡ runSection s
+unfolding listed planar
+section-edges s v =
+    edge-bytes (points s) (listed s) (omega (arith, points-few s v))
+    (λ e i. mst-run-tree (points s) (points-rise s (v .placed .steinerRise)) .tree .ends e (sort-in listedBefore listed-order (treeOf s) e .0 i))
+
+-- The edges of a sound deck.
+module _ (d : Deck) (s : Sound d) where
+  pub pins-are : d .npins ≡ length (stateOf d .pins)
+  pins-are = unfold deckOf in λ i. s .same i .npins
+
+  pub steiner-are : d .nsteiner ≡ length (stateOf d .steiner)
+  steiner-are = unfold deckOf in λ i. s .same i .nsteiner
+
+  pub count-is : length (listed (stateOf d)) ≡ d .npins + d .nsteiner - 1
+  count-is = omega (arith, edge-count (stateOf d) (s .valid), pins-are, steiner-are)
+
+  ends-are : d .ends ≡ row 128 (map (endsAt (points (stateOf d))) (listed (stateOf d)))
+  unfolding deckOf
+  ends-are = λ i. s .same i .ends
+
+  pub edges-are : edgeBytes (take (d .npins + d .nsteiner - 1) (d .ends)) ≡ runSection (stateOf d)
+  edges-are =
+      let l = map (endsAt (points (stateOf d))) (listed (stateOf d)) in
+      ap edgeBytes
+      (ap (take (d .npins + d .nsteiner - 1)) ends-are
+      ∙ row-take 128 l (d .npins + d .nsteiner - 1) (length-map (listed (stateOf d)) (endsAt (points (stateOf d))) ∙ count-is))
+      ∙ section-edges (stateOf d) (s .valid)
+
+  pub edges-long : length (runSection (stateOf d)) ≡ 2 * (d .npins + d .nsteiner - 1)
+  edges-long = omega (arith, runs-length (points (stateOf d)) (listed (stateOf d)), count-is)

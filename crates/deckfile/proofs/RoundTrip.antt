@@ -1,0 +1,145 @@
+-- The claims on files: each follows from the model's, since a deck read is that of the state read, and a deck written is sound.
+use mathlib.Core.Path.{_≡_, refl, sym, ap, _∙_, subst, subst⁻¹}
+use mathlib.Core.Logic.{_⊎_, inl, inr, ⊎-elim}
+use mathlib.Core.Bool.{Bool, true, false, not}
+use mathlib.Core.List.{List, _++_, List·Memᴰ·not-nil as not-nil}
+use Prim.Native.Nat.{ℕ, _+_, _-_, _≤_, _<_}
+use native.Mathlib.Omega.{arith}
+use lib.Dec.{T, not-T, leb, leb→le, eqb, eqb→eq}
+use lib.ListN.{length, take, drop}
+use lib.Seq.{take-at}
+use Rattle.plane.specs.Test.{if}
+use Rattle.plane.proofs.Test.{and-parts}
+use Rattle.model.specs.State.{State, empty, Valid}
+use Rattle.model.specs.File.{Read, deck, refusal, readFile, size, plain, sectionOf, runSection, fileOf}
+use Rattle.model.proofs.Bytes.{section-length}
+use Rattle.model.proofs.FileSize.{file-size}
+use Rattle.model.proofs.FileParts.{joined, joined-laid}
+use Rattle.model.proofs.FileValid.{file-valid}
+use Rattle.model.proofs.FileRoundTrip.{written-read, full-written-back}
+use Rattle.deck.specs.declared.Deck.{Deck}
+use Rattle.deck.specs.declared.calls.Outcome.{Outcome}
+use Rattle.deck.specs.declared.calls.Reply.the-variants as reply
+use Rattle.deck.specs.Form.{deckOf, stateOf, Sound, sound}
+use Rattle.deck.proofs.Forms.{state-deck, deck-sound, sound-is}
+use Rattle.deck.proofs.Checking.{sound-few, sound-left}
+use Rattle.deckfile.specs.declared.Written.the-variants.{Refused, Length}
+use Rattle.deckfile.specs.Reading.{outcomeOf, reading, accepting}
+use Rattle.deckfile.specs.Writing.{written, left}
+use Rattle.deckfile.specs.RoundTrip.{ReadSound, SoundFits, WrittenRead, FullWrittenBack, PlainWrittenFull}
+use Rattle.deckfile.proofs.Listing.{pins-are, steiner-are, edges-long}
+use Rattle.deckfile.proofs.Writing.{write-fits}
+
+-- An empty state is valid.
+none-valid : Valid empty
+none-valid =
+    record {
+      few = omega arith;
+      placed = record { pinsRange = λ p i. absurd (not-nil i); steinerRange = λ p i. absurd (not-nil i); pinsRise = tt; steinerRise = tt; apart = λ p i. absurd (not-nil i) };
+      branching = λ q i. absurd (not-nil i);
+    }
+
+pub read-sound : ReadSound
+unfolding outcomeOf
+read-sound b = go (readFile b) refl
+  where
+    go : (r : Read) → readFile b ≡ r → Sound (outcomeOf r .next)
+    go (deck s) e = deck-sound s (file-valid b s e)
+    go (refusal n) e = deck-sound empty none-valid
+
+-- A deck read is that of the state read.
+pub record Shown (b : List ℕ) (d : Deck) : Type 0 where
+  pub state : State
+  pub read : readFile b ≡ deck state
+  pub is : d ≡ deckOf state
+
+pub shown-of : (b : List ℕ) (d : Deck) → reading b ≡ accepting d → Shown b d
+unfolding outcomeOf
+shown-of b d e = go (readFile b) refl e
+  where
+    go : (r : Read) → readFile b ≡ r → outcomeOf r ≡ accepting d → Shown b d
+    go (deck s) f g = record { state = s; read = f; is = sym (ap (λ (o : Outcome). o .next) g) }
+    go (refusal n) f g =
+        let q : reply.Refused n ≡ reply.Done = ap (λ (o : Outcome). o .reply) g in
+        let z : _≡_ {A = ℕ} 0 1 = cc in
+        absurd (omega arith)
+
+shown-sound : (b : List ℕ) (d : Deck) → Shown b d → Sound d
+shown-sound b d h = subst⁻¹ Sound (h .is) (deck-sound (h .state) (file-valid b (h .state) (h .read)))
+
+shown-state : (b : List ℕ) (d : Deck) (h : Shown b d) → stateOf d ≡ h .state
+shown-state b d h = ap stateOf (h .is) ∙ state-deck (h .state) (file-valid b (h .state) (h .read) .placed)
+
+-- A deck that was written is sound, and its file stands at the front of the buffer.
+record Wrote (d : Deck) (l : List ℕ) (n : ℕ) : Type 0 where
+  sound : Sound d
+  count : n ≡ length (fileOf (stateOf d))
+  front : left d l ≡ fileOf (stateOf d) ++ drop (length (fileOf (stateOf d))) l
+
+wrote : (d : Deck) (l : List ℕ) (n : ℕ) → written d l ≡ Length n → Wrote d l n
+unfolding written left
+wrote d l n e = go (sound d) refl (leb (length (fileOf (stateOf d))) (length l)) refl e
+  where
+    go : (x : Bool) → sound d ≡ x → (y : Bool) → leb (length (fileOf (stateOf d))) (length l) ≡ y
+        → if x (λ _. if y (λ _. Length (length (fileOf (stateOf d)))) (λ _. Refused 12)) (λ _. Refused 11) ≡ Length n → Wrote d l n
+    go true p true q r =
+        let s : Sound d = sound-is d .0 (subst⁻¹ T p tt) in
+        record { sound = s; count = cc; front = write-fits d l s (leb→le (length (fileOf (stateOf d))) (length l) (subst⁻¹ T q tt)) .1 }
+    go true p false q r = absurd (let z : _≡_ {A = ℕ} 0 1 = cc in omega arith)
+    go false p y q r = absurd (let z : _≡_ {A = ℕ} 0 1 = cc in omega arith)
+
+wrote-file : (d : Deck) (l : List ℕ) (n : ℕ) → Wrote d l n → take n (left d l) ≡ fileOf (stateOf d)
+wrote-file d l n w =
+    ap (take n) (w .front) ∙ take-at (fileOf (stateOf d)) (drop (length (fileOf (stateOf d))) l) n (sym (w .count))
+
+pub sound-fits : SoundFits
+sound-fits d l s h =
+    let z = file-size (stateOf d) (s .valid) in
+    record {
+      size = length (fileOf (stateOf d));
+      least = z .0;
+      most = z .1;
+      answer = write-fits d l s (omega (arith, z .1)) .0;
+    }
+
+pub written-then-read : WrittenRead
+unfolding outcomeOf
+written-then-read d l n e =
+    let w = wrote d l n e in
+    ap reading (wrote-file d l n w) ∙ ap outcomeOf (written-read (stateOf d) (w .sound .valid)) ∙ ap accepting (sym (w .sound .same))
+
+pub full-back : FullWrittenBack
+full-back b d l h e full k =
+    let v = shown-of b d e in
+    let s = shown-sound b d v in
+    let same : fileOf (stateOf d) ≡ b =
+    ap fileOf (shown-state b d v)
+    ∙ full-written-back b (v .state) h (v .read) (⊎-elim inl (λ m. inr (subst (λ (z : State). length (z .pins) ≤ 1) (shown-state b d v) (subst (λ (z : ℕ). z ≤ 1) (pins-are d s) m))) full) in
+    let w = write-fits d l s (subst⁻¹ (λ (f : List ℕ). length f ≤ length l) same k) in
+    (w .0 ∙ ap (λ (f : List ℕ). Length (length f)) same, w .1 ∙ ap (λ (f : List ℕ). f ++ drop (length f) l) same)
+
+-- The file of a deck of two pins or more has edges.
+not-plain : (d : Deck) → Sound d → 2 ≤ d .npins → T (not (plain (fileOf (stateOf d))))
+unfolding fileOf joined
+not-plain d s h =
+    not-T (plain (fileOf (stateOf d)))
+    (λ t. let e : size (fileOf (stateOf d)) 2 ≡ 0 = eqb→eq _ 0 (and-parts (eqb (size (fileOf (stateOf d)) 1) 0) (eqb (size (fileOf (stateOf d)) 2) 0) t .1) in
+    omega (arith, joined-laid (sectionOf (stateOf d .pins)) (sectionOf (stateOf d .steiner)) (runSection (stateOf d)) small .size₂, edges-long d s))
+  where
+    small : 30 + length (sectionOf (stateOf d .pins)) + length (sectionOf (stateOf d .steiner)) + length (runSection (stateOf d)) < 4294967296
+    small =
+        omega (
+          arith,
+          section-length (stateOf d .pins),
+          section-length (stateOf d .steiner),
+          edges-long d s,
+          pins-are d s,
+          steiner-are d s,
+          sound-few d s,
+          sound-left d s,
+        )
+
+pub plain-full : PlainWrittenFull
+plain-full b d l n e h w =
+    let f = wrote d l n w in
+    subst⁻¹ (λ (x : List ℕ). T (not (plain x))) (wrote-file d l n f) (not-plain d (f .sound) h)

@@ -1,0 +1,161 @@
+-- Writing a deck: its parts one behind the other are the file of its state, and the checks in turn say what is answered and left.
+use mathlib.Core.Path.{_≡_, refl, sym, ap, ap₂, _∙_}
+use mathlib.Core.Bool.{Bool, true, false}
+use mathlib.Core.List.{List, [], _∷_, _++_, append-assoc, map, List·Memᴰ, List·Memᴰ·head as head, List·Memᴰ·tail as tail}
+use Prim.Native.Nat.{ℕ, _+_, _-_, _*_, _/_, _%_, _≤_, _<_}
+use native.Mathlib.Omega.{arith}
+use lib.Dec.{T, leb, leb→le}
+use lib.ListN.{length, take, drop, length-append}
+use lib.Seq.{length-take-le}
+use borrow.Author.Tests.{le-leb, lt-leb}
+use Rattle.plane.specs.Test.{if}
+use Rattle.plane.specs.Stored.{pointAt}
+use Rattle.plane.proofs.Test.{and-parts}
+use Rattle.model.specs.File.{pointBytes, sectionOf, header, fileOf}
+use Rattle.model.proofs.Bytes.{section-length}
+use Rattle.model.proofs.FileSize.{file-length, listed-count}
+use Rattle.plan.specs.Code.{pointOf, isCode}
+use Rattle.deck.specs.declared.Deck.{Deck}
+use Rattle.deck.specs.Form.{stateOf, Sound, sound}
+use Rattle.plan.proofs.Sweeping.{true-of}
+use Rattle.deck.proofs.Forms.{sound-is}
+use Rattle.deck.proofs.Checking.{sound-few, sound-left, sound-pins, sound-steiner}
+use Rattle.deckfile.specs.declared.Written.{Written}
+use Rattle.deckfile.specs.declared.Written.the-variants.{Refused, Length}
+use Rattle.deckfile.specs.Bytes.{each, edgeTwo, pointFour, over}
+use Rattle.deckfile.specs.Writing.{fileParts, Kept, written, left}
+use Rattle.deckfile.proofs.Listing.{pins-are, steiner-are, count-is, edges-are, edges-long}
+use Rattle.deckfile.proofs.Putting.{each-length, over-next}
+
+-- The header and the three sections, one behind the other.
+pub parts-put : (pins : List ℕ) (n : ℕ) (steiner : List ℕ) (m : ℕ) (ends old : List ℕ) → Kept pins n steiner m ends old
+    → (e : ℕ) → e ≡ n + m - 1 → (o₁ o₂ o₃ o₄ : List ℕ) → o₁ ≡ over 0 (header (4 * n) (4 * m) (2 * e)) old
+    → o₂ ≡ over 30 (each pointFour (take n pins)) o₁ → o₃ ≡ over (30 + 4 * n) (each pointFour (take m steiner)) o₂
+    → o₄ ≡ over (30 + 4 * n + 4 * m) (each edgeTwo (take e ends)) o₃ → o₄ ≡ over 0 (fileParts pins n steiner m ends) old
+parts-put pins n steiner m ends old k e is o₁ o₂ o₃ o₄ e₁ e₂ e₃ e₄ =
+    e₄ ∙ ap (over (30 + 4 * n + 4 * m) R) f₃
+    ∙ over-next 0 old ((H ++ P) ++ Q) R (30 + 4 * n + 4 * m) (omega (arith, length-append (H ++ P) Q, length-append H P, long-p, long-q)) (omega (arith, long-r, k .room))
+    ∙ ap (λ (b : List ℕ). over 0 b old) (append-assoc (H ++ P) Q R ∙ append-assoc H P (Q ++ R))
+    ∙ ap (λ (z : ℕ). over 0 (header (4 * n) (4 * m) (2 * z) ++ (P ++ (Q ++ each edgeTwo (take z ends)))) old) is
+  where
+    H : List ℕ
+    H = header (4 * n) (4 * m) (2 * e)
+
+    P : List ℕ
+    P = each pointFour (take n pins)
+
+    Q : List ℕ
+    Q = each pointFour (take m steiner)
+
+    R : List ℕ
+    R = each edgeTwo (take e ends)
+
+    long-p : length P ≡ 4 * n
+    long-p = each-length pointFour 4 (λ _. refl) (take n pins) ∙ ap (λ (z : ℕ). 4 * z) (length-take-le n pins (k .inPins))
+
+    long-q : length Q ≡ 4 * m
+    long-q = each-length pointFour 4 (λ _. refl) (take m steiner) ∙ ap (λ (z : ℕ). 4 * z) (length-take-le m steiner (k .inSteiner))
+
+    long-r : length R ≡ 2 * e
+    long-r = each-length edgeTwo 2 (λ _. refl) (take e ends) ∙ ap (λ (z : ℕ). 2 * z) (length-take-le e ends (omega (arith, k .inEnds)))
+
+    f₂ : o₂ ≡ over 0 (H ++ P) old
+    f₂ = e₂ ∙ ap (over 30 P) e₁ ∙ over-next 0 old H P 30 refl (omega (arith, long-p, k .room))
+
+    f₃ : o₃ ≡ over 0 ((H ++ P) ++ Q) old
+    f₃ =
+        e₃ ∙ ap (over (30 + 4 * n) Q) f₂
+        ∙ over-next 0 old (H ++ P) Q (30 + 4 * n) (omega (arith, length-append H P, long-p)) (omega (arith, long-q, k .room))
+
+-- The points of codes, in bytes.
+kept-point : (k : ℕ) → T (isCode k) → pointFour k ≡ pointBytes (pointOf k)
+kept-point k t =
+    let h : k / 65536 ≤ 60000 = leb→le (k / 65536) 60000 (and-parts (leb (k / 65536) 60000) (leb (k % 65536) 60000) t .0) in
+    let e : k / 65536 % 65536 ≡ k / 65536 = omega arith in
+    ap (λ (u : ℕ). pointBytes (pointAt u (k % 65536))) e
+
+section-is : (l : List ℕ) → ((k : ℕ) → List·Memᴰ k l → T (isCode k)) → each pointFour l ≡ sectionOf (map pointOf l)
+unfolding each sectionOf
+section-is [] h = refl
+section-is (k ∷ l) h = ap₂ _++_ (kept-point k (h k (head refl))) (section-is l (λ j i. h j (tail i)))
+
+module _ (d : Deck) (s : Sound d) where
+  pub file-parts : fileParts (d .pins) (d .npins) (d .steiner) (d .nsteiner) (d .ends) ≡ fileOf (stateOf d)
+  unfolding fileOf
+  file-parts =
+      (λ i. header (pins-long i) (steiner-long i) (sym (edges-long d s) i) ++ (pins i ++ (steiner i ++ edges-are d s i)))
+    where
+      pins : each pointFour (take (d .npins) (d .pins)) ≡ sectionOf (stateOf d .pins)
+      pins = section-is (take (d .npins) (d .pins)) (sound-pins d s .codes)
+
+      steiner : each pointFour (take (d .nsteiner) (d .steiner)) ≡ sectionOf (stateOf d .steiner)
+      steiner = section-is (take (d .nsteiner) (d .steiner)) (sound-steiner d s .codes)
+
+      pins-long : 4 * d .npins ≡ length (sectionOf (stateOf d .pins))
+      pins-long = ap (λ (z : ℕ). 4 * z) (pins-are d s) ∙ sym (section-length (stateOf d .pins))
+
+      steiner-long : 4 * d .nsteiner ≡ length (sectionOf (stateOf d .steiner))
+      steiner-long = ap (λ (z : ℕ). 4 * z) (steiner-are d s) ∙ sym (section-length (stateOf d .steiner))
+
+  pub file-long : 30 + 4 * d .npins + 4 * d .nsteiner + 2 * (d .npins + d .nsteiner - 1) ≡ length (fileOf (stateOf d))
+  file-long =
+      omega (
+        arith,
+        file-length (stateOf d) (s .valid .placed),
+        listed-count (stateOf d) (s .valid .placed),
+        pins-are d s,
+        steiner-are d s,
+        count-is d s,
+      )
+
+  -- The arrays of the deck, and room for its file.
+  pub deck-kept : length (d .pins) ≡ 64 → length (d .steiner) ≡ 64 → length (d .ends) ≡ 128 → (out : List ℕ) → length (fileOf (stateOf d)) ≤ length out
+      → Kept (d .pins) (d .npins) (d .steiner) (d .nsteiner) (d .ends) out
+  deck-kept h k l out fits =
+      record {
+        pinsFew = sound-few d s;
+        steinerFew = sound-left d s;
+        inPins = omega (arith, sound-few d s);
+        inSteiner = omega (arith, sound-left d s);
+        inEnds = omega (arith, sound-few d s, sound-left d s);
+        room = omega (arith, file-long);
+      }
+
+-- The checks in turn.
+module _ (d : Deck) (l : List ℕ) where
+  abbrev file : List ℕ
+  file = fileOf (stateOf d)
+
+  answers : Bool → Bool → Written
+  answers ok fits = if ok (λ _. if fits (λ _. Length (length file)) (λ _. Refused 12)) (λ _. Refused 11)
+
+  leaves : Bool → Bool → List ℕ
+  leaves ok fits = if ok (λ _. if fits (λ _. file ++ drop (length file) l) (λ _. l)) (λ _. l)
+
+  by-checks : {x y : Bool} → sound d ≡ x → leb (length file) (length l) ≡ y → (answers x y ≡ written d l) × (leaves x y ≡ left d l)
+  unfolding written left answers leaves
+  by-checks e f = (sym (ap₂ answers e f), sym (ap₂ leaves e f))
+
+  pub write-unsound : sound d ≡ false → (Refused 11 ≡ written d l) × (l ≡ left d l)
+  unfolding answers leaves
+  write-unsound e = by-checks e refl
+
+  pub write-short : sound d ≡ true → (n : ℕ) → n ≡ length file → length l < n → (Refused 12 ≡ written d l) × (l ≡ left d l)
+  unfolding answers leaves
+  write-short e n f h = by-checks e (lt-leb (length file) (length l) (omega arith))
+
+  pub write-done : sound d ≡ true → (n : ℕ) → n ≡ length file → n ≤ length l → (out : List ℕ) → out ≡ over 0 file l
+      → (Length n ≡ written d l) × (out ≡ left d l)
+  unfolding answers leaves over
+  write-done e n f h out g =
+      let r = by-checks e (le-leb (length file) (length l) (omega arith)) in
+      let z : 0 + length file ≡ length file = omega arith in
+      (ap Length f ∙ r .0, g ∙ ap (λ (k : ℕ). file ++ drop k l) z ∙ r .1)
+
+-- A sound deck and a buffer that has room for its file.
+pub write-fits : (d : Deck) (l : List ℕ) → Sound d → length (fileOf (stateOf d)) ≤ length l
+    → (written d l ≡ Length (length (fileOf (stateOf d)))) × (left d l ≡ fileOf (stateOf d) ++ drop (length (fileOf (stateOf d))) l)
+unfolding answers leaves
+write-fits d l s h =
+    let r = by-checks d l (true-of (sound d) (sound-is d .1 s)) (le-leb (length (fileOf (stateOf d))) (length l) h) in
+    (sym (r .0), sym (r .1))

@@ -1,0 +1,45 @@
+-- The claims on files as a whole, on what `read` answers (`reading`) and what `write` answers and leaves (`written`, `left`).
+use mathlib.Core.Path.{_≡_}
+use mathlib.Core.Logic.{_⊎_}
+use mathlib.Core.Bool.{not}
+use mathlib.Core.List.{List, _++_, List·Memᴰ}
+use Prim.Native.Nat.{ℕ, _≤_, _<_}
+use lib.Dec.{T}
+use lib.ListN.{length, take, drop}
+use Rattle.model.specs.File.{plain}
+use Rattle.deck.specs.declared.Deck.{Deck}
+use Rattle.deck.specs.Form.{Sound}
+use Rattle.deckfile.specs.declared.Written.the-variants.{Length}
+use Rattle.deckfile.specs.Reading.{reading, accepting}
+use Rattle.deckfile.specs.Writing.{written, left}
+
+-- The deck that reading hands back is sound, whatever the bytes are.
+abbrev pub ReadSound : Type 0
+ReadSound = (b : List ℕ) → Sound (reading b .next)
+
+-- "The longest file has 784 bytes": every sound deck is written into a buffer of so many bytes, and the length written is
+-- "always 30 or more".
+pub record Fits (d : Deck) (l : List ℕ) : Type 0 where
+  pub size : ℕ
+  pub least : 30 ≤ size
+  pub most : size ≤ 784
+  pub answer : written d l ≡ Length size
+
+abbrev pub SoundFits : Type 0
+SoundFits = (d : Deck) (l : List ℕ) → Sound d → 784 ≤ length l → Fits d l
+
+-- What was written, read again, is the same deck.
+abbrev pub WrittenRead : Type 0
+WrittenRead = (d : Deck) (l : List ℕ) (n : ℕ) → written d l ≡ Length n → reading (take n (left d l)) ≡ accepting d
+
+-- A full file read is written back the same, byte for byte; so is one of 0 or 1 pin, "where full and plain coincide".
+abbrev pub FullWrittenBack : Type 0
+FullWrittenBack =
+    (b : List ℕ) (d : Deck) (l : List ℕ) → ((x : ℕ) → List·Memᴰ x b → x < 256) → reading b ≡ accepting d
+    → T (not (plain b)) ⊎ (d .npins ≤ 1) → length b ≤ length l → (written d l ≡ Length (length b)) × (left d l ≡ b ++ drop (length b) l)
+
+-- Any other file read, which is plain, is written full: "The writer writes every run".
+abbrev pub PlainWrittenFull : Type 0
+PlainWrittenFull =
+    (b : List ℕ) (d : Deck) (l : List ℕ) (n : ℕ) → reading b ≡ accepting d → 2 ≤ d .npins → written d l ≡ Length n
+    → T (not (plain (take n (left d l))))

@@ -1,0 +1,4 @@
+pub mod Demands
+pub mod Numbers
+pub mod Replaying
+pub mod Serving

@@ -1,0 +1,4 @@
+pub mod Calls
+pub mod Demands
+pub mod Entry
+pub mod Numbers
