@@ -17,11 +17,13 @@ library:
 # The proved functions as a library for Rust.
 entries:
 	rt staticlib tree_entries
+	rt staticlib deck_entries
 
 test:
 	rt fmt --check
 	cd tests/reference && cargo test --release --offline --quiet
 	rt staticlib tree_entries
+	rt staticlib deck_entries
 	cd tests/compare && cargo test --release --offline --quiet
 	rt ci
 

@@ -1,8 +1,17 @@
-//! The proved tree beside other implementations: the reference of document 01
-//! for the tests, and two more for the bench.
+//! The proved tree and the proved deck beside other implementations: the
+//! reference of document 01 for the tests, and two more for the bench.
 
 pub mod agree;
 pub mod by_hand;
+pub mod counted;
+pub mod damaged_trees;
+pub mod damages;
+pub mod deck;
 pub mod points;
 pub mod proved;
+pub mod proved_deck;
+pub mod proved_questions;
+pub mod questions;
+pub mod sessions;
 pub mod sorted_pairs;
+pub mod starts;

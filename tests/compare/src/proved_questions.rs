@@ -1,0 +1,101 @@
+//! The proved questions. They take every deck, so each wrapper is safe.
+
+use crate::deck::Deck;
+use crate::proved_deck::Parts;
+
+mod library {
+    unsafe extern "C" {
+        pub fn entry_is_valid(
+            pins: &[u64; 64],
+            npins: usize,
+            steiner: &[u64; 64],
+            nsteiner: usize,
+            ends: &[u64; 128],
+        ) -> bool;
+        pub fn entry_length(
+            pins: &[u64; 64],
+            npins: usize,
+            steiner: &[u64; 64],
+            nsteiner: usize,
+            ends: &[u64; 128],
+            numbers: &mut [u64; 3],
+            places: &mut [i32; 4],
+        ) -> u8;
+        pub fn entry_counts(
+            pins: &[u64; 64],
+            npins: usize,
+            steiner: &[u64; 64],
+            nsteiner: usize,
+            ends: &[u64; 128],
+            numbers: &mut [u64; 3],
+            places: &mut [i32; 4],
+        ) -> u8;
+        pub fn entry_edge_at(
+            i: usize,
+            pins: &[u64; 64],
+            npins: usize,
+            steiner: &[u64; 64],
+            nsteiner: usize,
+            ends: &[u64; 128],
+            numbers: &mut [u64; 3],
+            places: &mut [i32; 4],
+        ) -> u8;
+        pub fn entry_degree_at(
+            x: i32,
+            y: i32,
+            pins: &[u64; 64],
+            npins: usize,
+            steiner: &[u64; 64],
+            nsteiner: usize,
+            ends: &[u64; 128],
+            numbers: &mut [u64; 3],
+            places: &mut [i32; 4],
+        ) -> u8;
+    }
+}
+
+/// A question with parts for its answer.
+#[derive(Clone, Copy, Debug, PartialEq, Eq)]
+pub enum Question {
+    Length,
+    Counts,
+    EdgeAt(usize),
+    DegreeAt(i32, i32),
+}
+
+/// Whether the deck is sound.
+pub fn is_valid(deck: &Deck) -> bool {
+    let d = deck;
+    // SAFETY: each array is lent whole.
+    unsafe { library::entry_is_valid(&d.pins, d.npins, &d.steiner, d.nsteiner, &d.ends) }
+}
+
+/// The answer to a question, in its parts.
+pub fn ask(deck: &Deck, question: Question) -> Parts {
+    let mut parts = Parts::before();
+    let (d, p) = (deck, &mut parts);
+    macro_rules! make {
+        ($entry:ident $(, $argument:expr)*) => {
+            // SAFETY: each array is lent whole, and each part alone.
+            unsafe {
+                library::$entry(
+                    $($argument,)*
+                    &d.pins,
+                    d.npins,
+                    &d.steiner,
+                    d.nsteiner,
+                    &d.ends,
+                    &mut p.numbers,
+                    &mut p.places,
+                )
+            }
+        };
+    }
+    p.kind = match question {
+        Question::Length => make!(entry_length),
+        Question::Counts => make!(entry_counts),
+        Question::EdgeAt(i) => make!(entry_edge_at, i),
+        Question::DegreeAt(x, y) => make!(entry_degree_at, x, y),
+    };
+    parts
+}
