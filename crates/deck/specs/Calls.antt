@@ -29,6 +29,14 @@ replyOf (call.answered finished) = Finished
 replyOf (call.answered (tap p fall)) = Tap (p .x) (p .y) fall
 replyOf (call.rounds n) = Rounds n
 
+-- The number of a refusal, and 0 for any other reply.
+unfoldable pub refusalNumber : Reply → ℕ
+refusalNumber Done = 0
+refusalNumber (Refused n) = n
+refusalNumber Finished = 0
+refusalNumber (Tap x y fall) = 0
+refusalNumber (Rounds n) = 0
+
 -- An outcome of the model as the program's.
 unfoldable pub answer : call.Outcome → Outcome
 answer o = record { next = deckOf (o .next); reply = replyOf (o .reply) }

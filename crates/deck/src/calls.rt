@@ -13,7 +13,7 @@ ghost use Rattle.model.specs.Call as call;
 ghost use Rattle.plan.specs.Code.{pointOf, isCode};
 ghost use Rattle.plan.specs.Work as work;
 ghost use Rattle.deck.specs.Form.{Sound, stateOf};
-ghost use Rattle.deck.specs.Calls.{answer, called, refusal};
+ghost use Rattle.deck.specs.Calls.{answer, called, refusal, refusalNumber};
 
 // What a call replies: done, or a refusal by its number; a round: finished, or the new Steiner point and the whole fall in
 // length; a run to the end: the number of rounds that added a Steiner point.
@@ -28,6 +28,19 @@ pub enum Reply {
 pub struct Outcome {
     pub next: Deck,
     pub reply: Reply,
+}
+
+// The number of a refusal, and 0 for any other reply.
+pub fn refusal_number(r: Reply) -> u8
+    ensures { λ n. ⌜ n ≡ refusalNumber r ⌝ }
+{
+    match r {
+        Reply::Done => 0,
+        Reply::Refused(n) => n,
+        Reply::Finished => 0,
+        Reply::Tap(x, y, fall) => 0,
+        Reply::Rounds(n) => 0,
+    }
 }
 
 // A refusal: the deck is handed back unchanged.

@@ -19,7 +19,7 @@ use Rattle.plan.proofs.Sweeping.{true-of}
 use Rattle.deck.specs.declared.Deck.{Deck}
 use Rattle.deck.specs.declared.calls.Outcome.{Outcome}
 use Rattle.deck.specs.Form.{deckOf, stateOf, sound}
-use Rattle.deck.specs.Calls.{called}
+use Rattle.deck.specs.Calls.{refusalNumber, called}
 use Rattle.deck.specs.Demand3 as decks
 use Rattle.deck.proofs.Forms.{state-deck, deck-sound, sound-is}
 use Rattle.deck.proofs.Demand3.{next-valid, after-deck}
@@ -29,7 +29,7 @@ use Rattle.deckfile.specs.Reading.{outcomeOf, reading}
 use Rattle.deckfile.specs.Writing.{writing, written, left}
 use Rattle.planner.specs.Entry.{stored, served, numberServed, bufferServed, toEnd, startOf, afterAll}
 use Rattle.planner.specs.Calls.{callsOf}
-use Rattle.planner.specs.Numbers.{numberOf, numberFor, numberWritten, starting}
+use Rattle.planner.specs.Numbers.{numberFor, numberWritten, starting}
 
 -- What is known of an answer of reading: a valid state, or a number from 1 to 6.
 pub data Good : Read → Type 0 where
@@ -93,16 +93,16 @@ module _ (s : State) (v : Valid s) (l : List ℕ) where
   buffer-stored = writes (λ _. l) (λ file. file ++ drop (length file) l)
 
 -- A refusal of the file.
-pub served-refused : (r : Read) (f : State → State) (l : List ℕ) (n : ℕ) → n ≡ numberOf (outcomeOf r .reply) → ¬ (n ≡ 0) → (n ≡ numberServed r f l) × (l ≡ bufferServed r f l)
-unfolding served numberOf outcomeOf
+pub served-refused : (r : Read) (f : State → State) (l : List ℕ) (n : ℕ) → n ≡ refusalNumber (outcomeOf r .reply) → ¬ (n ≡ 0) → (n ≡ numberServed r f l) × (l ≡ bufferServed r f l)
+unfolding served refusalNumber outcomeOf
 served-refused (deck s) f l n e h = absurd (h e)
 served-refused (refusal k) f l n e h = (e, refl)
 
 -- A deck was read: what is written is the deck of the state that f makes of its state.
-pub served-deck : (r : Read) → Good r → (f : State → State) → ((s : State) → Valid s → Valid (f s)) → (l : List ℕ) (n : ℕ) → n ≡ numberOf (outcomeOf r .reply) → n ≡ 0
+pub served-deck : (r : Read) → Good r → (f : State → State) → ((s : State) → Valid s → Valid (f s)) → (l : List ℕ) (n : ℕ) → n ≡ refusalNumber (outcomeOf r .reply) → n ≡ 0
     → (last : Deck) → ((s : State) → Valid s → outcomeOf r .next ≡ deckOf s → last ≡ deckOf (f s)) → (m : ℕ) (b : List ℕ) → m ≡ numberWritten last l → b ≡ left last l
     → (m ≡ numberServed r f l) × (b ≡ bufferServed r f l)
-unfolding served numberOf outcomeOf
+unfolding served refusalNumber outcomeOf
 served-deck (deck s) (valid v) f keeps l n e z last is m b em eb =
     let q = is s v refl in (
       em ∙ ap (λ (d : Deck). numberWritten d l) q ∙ number-stored (f s) (keeps s v) l,

@@ -3,21 +3,11 @@ use mathlib.Core.List.{List}
 use Prim.Native.Nat.{ℕ}
 use Rattle.deck.specs.declared.Deck.{Deck}
 use Rattle.deck.specs.declared.calls.Outcome.{Outcome}
-use Rattle.deck.specs.declared.calls.Reply.{Reply}
-use Rattle.deck.specs.declared.calls.Reply.the-variants as reply
 use Rattle.deckfile.specs.declared.Written.{Written}
 use Rattle.deckfile.specs.declared.Written.the-variants as written
 use Rattle.deckfile.specs.Reading.{outcomeOf}
 use Rattle.deckfile.specs.Writing as writing
 use Rattle.planner.specs.Entry.{startOf}
-
--- The number of a refusal, or 0.
-unfoldable pub numberOf : Reply → ℕ
-numberOf reply.Done = 0
-numberOf (reply.Refused n) = n
-numberOf reply.Finished = 0
-numberOf (reply.Tap x y fall) = 0
-numberOf (reply.Rounds n) = 0
 
 -- The length written, or the refusal's number.
 unfoldable pub numberFor : Written → ℕ

@@ -4,6 +4,7 @@ mod replay;
 use deck::Deck;
 use deck::calls::Outcome;
 use deck::calls::Reply;
+use deck::calls::refusal_number;
 use deckfile::Written;
 use replay::replay;
 ghost use mathlib.Core.Path.{_≡_};
@@ -11,20 +12,7 @@ ghost use Rattle.model.specs.File.{readFile};
 ghost use Rattle.deckfile.specs.Reading.{reading};
 ghost use Rattle.deckfile.specs.Writing.{left};
 ghost use Rattle.planner.specs.Entry.{toEnd, afterAll, startOf, numberServed, bufferServed};
-ghost use Rattle.planner.specs.Numbers.{numberOf, numberWritten, starting};
-
-// The number of a refusal, or 0.
-fn number_of(r: Reply) -> u8
-    ensures { λ n. ⌜ n ≡ numberOf r ⌝ }
-{
-    match r {
-        Reply::Done => 0,
-        Reply::Refused(n) => n,
-        Reply::Finished => 0,
-        Reply::Tap(x, y, fall) => 0,
-        Reply::Rounds(n) => 0,
-    }
-}
+ghost use Rattle.planner.specs.Numbers.{numberWritten, starting};
 
 // Writes a deck, and answers the length written or the refusal's number.
 fn store(d: Deck, out: &mut [u8]) -> usize
@@ -59,7 +47,7 @@ pub extern "C" fn planner_plan(file: &[u8], out: &mut [u8]) -> usize
 {
     let o = deckfile::read(file);
     let reply = o.reply;
-    let refused = number_of(reply);
+    let refused = refusal_number(reply);
     if refused != 0 {
         return refused as usize;
     }
@@ -78,7 +66,7 @@ pub extern "C" fn planner_replay(file: &[u8], calls: &[u8], out: &mut [u8]) -> u
 {
     let o = start(file);
     let reply = o.reply;
-    let refused = number_of(reply);
+    let refused = refusal_number(reply);
     if refused != 0 {
         return refused as usize;
     }

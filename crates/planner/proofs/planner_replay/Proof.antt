@@ -3,7 +3,7 @@ use mathlib.Core.Path.{ap, _∙_}
 use denote.Ref.{now}
 use Rattle.deck.specs.declared.calls.Outcome.{Outcome}
 use Rattle.planner.specs.Entry.{startOf, afterAll}
-use Rattle.planner.specs.Numbers.{numberOf}
+use Rattle.deck.specs.Calls.{refusalNumber}
 use Rattle.planner.proofs.Serving.{start-good, served-refused, served-deck, all-valid, all-next}
 use borrow.Author.Needs.{needs}
 use Rattle.planner.proofs.planner_replay.Statement.{statement}
@@ -14,14 +14,14 @@ use Rattle.planner.proofs.planner_replay.Lts as lts
 start-requires : tie.Need-start-requires
 start-requires c κs = tt
 
-number-of-requires : tie.Need-number-of-requires
-number-of-requires c κs = tt
+refusal-number-requires : tie.Need-refusal-number-requires
+refusal-number-requires c κs = tt
 
 cast-result : tie.Need-cast-result
 cast-result c = search needs
 
 returns : tie.Need-returns
-returns c = served-refused (startOf _) (afterAll (now (c .before .before .before .before .before .before .args .calls))) _ _ (c .before .number-of .ensures ∙ ap (λ (o : Outcome). numberOf (o .reply)) (c .before .before .start .ensures)) (c .if1 .taken)
+returns c = served-refused (startOf _) (afterAll (now (c .before .before .before .before .before .before .args .calls))) _ _ (c .before .refusal-number .ensures ∙ ap (λ (o : Outcome). refusalNumber (o .reply)) (c .before .before .start .ensures)) (c .if1 .taken)
 
 replay-requires : tie.Need-replay-requires
 replay-requires c κs = tt
@@ -34,10 +34,10 @@ same-length c = search needs
 
 returns-2 : tie.Need-returns-2
 returns-2 c =
-    served-deck (startOf _) (start-good _) (afterAll (now (c .before .before .before .before .before .before .before .before .before .before .before .before .args .calls))) (all-valid (now (c .before .before .before .before .before .before .before .before .before .before .before .before .args .calls))) _ _ (c .before .before .before .before .before .before .before .number-of .ensures ∙ ap (λ (o : Outcome). numberOf (o .reply)) (c .before .before .before .before .before .before .before .before .start .ensures)) (c .before .before .before .before .before .before .if1 .left) _
+    served-deck (startOf _) (start-good _) (afterAll (now (c .before .before .before .before .before .before .before .before .before .before .before .before .args .calls))) (all-valid (now (c .before .before .before .before .before .before .before .before .before .before .before .before .args .calls))) _ _ (c .before .before .before .before .before .before .before .refusal-number .ensures ∙ ap (λ (o : Outcome). refusalNumber (o .reply)) (c .before .before .before .before .before .before .before .before .start .ensures)) (c .before .before .before .before .before .before .if1 .left) _
     (λ s v e. all-next (now (c .before .before .before .before .before .before .before .before .before .before .before .before .args .calls)) _ _ (c .before .before .before .before .replay .ensures) s v (ap (λ (o : Outcome). o .next) (c .before .before .before .before .before .before .before .before .start .ensures) ∙ e)) _ _ (c .before .before .store .ensures .0) (c .before .before .store .ensures .1)
 
 pub planner-replay-spec : {M : Type 1} → statement M
 planner-replay-spec =
     tie.close
-    (tie.spec start-requires number-of-requires cast-result returns replay-requires store-requires same-length returns-2)
+    (tie.spec start-requires refusal-number-requires cast-result returns replay-requires store-requires same-length returns-2)
