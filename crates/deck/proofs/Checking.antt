@@ -21,7 +21,7 @@ use Rattle.model.proofs.Set.{all-in, has-not, rising-sorted}
 use Rattle.model.proofs.Prune.{Weakest, all-strong, weak, weakest-view, few-steiner}
 use Rattle.model.proofs.Candidate.{map-in}
 use Rattle.model.proofs.FileParts.{same-eq, same-refl}
-use Rattle.sets.specs.Array.{allZero}
+use Rattle.sets.specs.Array.{noneIn, allZero}
 use Rattle.sets.proofs.Scanning.{all-zero}
 use Rattle.plan.specs.Code.{code, pointOf, isCode}
 use Rattle.plan.specs.Weak.{firstWeak}
@@ -33,7 +33,7 @@ use Rattle.plan.proofs.Sweeping.{true-of, Found, none-weak, at, found, planned-
 use Rattle.deck.specs.declared.Deck.{Deck}
 use Rattle.deck.specs.declared.check.Checked.{Checked}
 use Rattle.deck.specs.Form.{row, deckOf, stateOf, Sound, sound}
-use Rattle.deck.specs.Check.{ordered, noneIn, arranged, Checks}
+use Rattle.deck.specs.Check.{ordered, arranged, Checks}
 use Rattle.deck.proofs.Forms.{row-take, row-drop, row-length, sound-is}
 use Rattle.deck.proofs.FromPlan.{codes-row, codes-count}
 

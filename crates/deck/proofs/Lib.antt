@@ -7,6 +7,5 @@ pub mod FromPlan
 pub mod Locating
 pub mod OneRound
 pub mod Pointing
-pub mod Scans
 pub mod Searching
 pub mod ToEnd

@@ -1,14 +1,14 @@
 -- The parts of check 11.
 use mathlib.Core.Path.{_≡_}
-use mathlib.Core.Bool.{Bool, true, false, not, _&&_}
+use mathlib.Core.Bool.{Bool, true, false, _&&_}
 use mathlib.Core.List.{List}
 use Prim.Native.Nat.{ℕ}
 use lib.Dec.{T, ltb, leb}
 use lib.ListN.{take, drop, replicate}
 use Rattle.plane.specs.Test.{if}
-use Rattle.model.specs.Set.{rising, all, has}
+use Rattle.model.specs.Set.{rising, all}
 use Rattle.model.specs.State.{empty, valid}
-use Rattle.sets.specs.Array.{allZero}
+use Rattle.sets.specs.Array.{noneIn, allZero}
 use Rattle.plan.specs.Code.{isCode}
 use Rattle.plan.specs.Work as work
 use Rattle.deck.specs.declared.Deck.{Deck}
@@ -19,10 +19,6 @@ use Rattle.deck.specs.Form.{deckOf, stateOf}
 -- The first n places hold a set of codes of points in range, and the others zeros.
 abbrev pub ordered : List ℕ → ℕ → Bool
 ordered a n = all isCode (take n a) && (rising ltb (take n a) && allZero (drop n a))
-
--- No element of the second list is in the first.
-abbrev pub noneIn : List ℕ → List ℕ → Bool
-noneIn b a = all (λ (k : ℕ). not (has ltb k b)) a
 
 -- Pins and Steiner points are such sets, apart from each other, and not too many.
 abbrev pub arranged : Deck → Bool

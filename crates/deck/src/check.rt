@@ -12,7 +12,7 @@ ghost use Rattle.sets.specs.Array.{allZero};
 ghost use Rattle.plan.specs.Code.{isCode};
 ghost use Rattle.plan.specs.Work as work;
 ghost use Rattle.deck.specs.Form.{deckOf, sound};
-ghost use Rattle.deck.specs.Check.{ordered, noneIn, arranged, pointed, Checks};
+ghost use Rattle.deck.specs.Check.{ordered, arranged, pointed, Checks};
 
 pub struct Checked {
     pub ok: bool,
@@ -38,21 +38,6 @@ fn are_codes(a: &[u64], n: usize) -> bool
     let mut i = 0;
     while i < n {
         if !is_code(a[i]) {
-            return false;
-        }
-        i += 1;
-    }
-    true
-}
-
-// Whether none of the first n numbers of a is among the first m of b.
-fn none_in(a: &[u64], n: usize, b: &[u64], m: usize) -> bool
-    requires { ⌜ (n ≤ length (now a)) × (m ≤ length (now b)) ⌝ }
-    ensures { λ r. ⌜ r ≡ noneIn (take m (now (b .entry))) (take n (now (a .entry))) ⌝ }
-{
-    let mut i = 0;
-    while i < n {
-        if sets::has(b, m, a[i]) {
             return false;
         }
         i += 1;
@@ -147,7 +132,7 @@ fn is_arranged(d: Deck) -> bool
     if !is_ordered(&steiner, nsteiner) {
         return false;
     }
-    none_in(&pins, npins, &steiner, nsteiner)
+    sets::none_in(&pins, npins, &steiner, nsteiner)
 }
 
 // The working form of a deck's points, where they are those of a valid state; its edges are not looked at.

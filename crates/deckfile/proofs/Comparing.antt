@@ -7,7 +7,7 @@ use native.Mathlib.Omega.{arith}
 use lib.ListN.{length, take, drop, getD, length-take, length-drop}
 use lib.Seq.{length-take-le, getD-take, getD-drop}
 use Rattle.model.specs.File.{sameBytes}
-use Rattle.deck.proofs.Scans.{Alike, alike-none, alike-more, alike-fail, alike-end}
+use Rattle.sets.proofs.Scans.{Alike, alike-none, alike-more, alike-fail, alike-end}
 use Rattle.deckfile.specs.Bytes.{each, edgeBytes}
 
 -- The first i bytes are those of the text.

@@ -7,7 +7,7 @@ use lib.Dec.{leb, eqb}
 use lib.ListN.{length, take}
 use borrow.Author.Tests.{le-leb, lt-leb, eq-eqb, ne-eqb}
 use Rattle.model.specs.File.{magic, number2, offset, size, sameBytes, headed, laidOut, whole, plain}
-use Rattle.deck.proofs.Scans.{and-no, and-yes}
+use Rattle.sets.proofs.Scans.{and-no, and-yes}
 
 -- A test of two numbers that are those of the file.
 differ : {u v x y : ℕ} → u ≡ x → v ≡ y → ¬ (u ≡ v) → eqb x y ≡ false

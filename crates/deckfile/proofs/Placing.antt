@@ -20,7 +20,7 @@ use Rattle.model.proofs.Set.{all-in, has-not}
 use Rattle.model.proofs.Candidate.{map-in}
 use Rattle.plan.specs.Code.{code}
 use Rattle.plan.proofs.Codes.{code-x, point-code, points-has, points-rising, map-codes}
-use Rattle.deck.specs.Check.{noneIn}
+use Rattle.sets.specs.Array.{noneIn}
 use Rattle.deckfile.specs.Reading.{beyond, mark, marks, placedCodes, Sections}
 use Rattle.deckfile.proofs.Decoding.{marks-length}
 

@@ -17,7 +17,7 @@ use Rattle.deck.specs.declared.build.Built.{Built}
 use Rattle.deck.specs.declared.calls.Outcome.{Outcome}
 use Rattle.deck.specs.declared.calls.Reply.the-variants.{Done, Refused}
 use Rattle.deck.specs.Form.{deckOf}
-use Rattle.deck.specs.Check.{noneIn}
+use Rattle.sets.specs.Array.{noneIn}
 
 -- "reading hands back an empty deck" where it refuses.
 abbrev pub refusing : ℕ → Outcome

@@ -7,7 +7,6 @@ ghost use Prim.Native.Nat.{_+_, _*_, _≤_};
 ghost use lib.ListN.{length, take, drop};
 ghost use Rattle.model.specs.State.{placed};
 ghost use Rattle.model.specs.File.{shown};
-ghost use Rattle.deck.specs.Check.{noneIn};
 ghost use Rattle.deckfile.specs.Reading.{mark, marks, pointIn, placedCodes, Sections, FewPins};
 
 // The mark of a point out of range: larger than every code.
@@ -39,21 +38,6 @@ pub fn decode(b: &[u8], at: usize, n: usize, out: &mut [u64])
     }
 }
 
-// Whether none of the first n numbers of a is among the first m of b.
-fn none_in(a: &[u64], n: usize, b: &[u64], m: usize) -> bool
-    requires { ⌜ (n ≤ length (now a)) × (m ≤ length (now b)) ⌝ }
-    ensures { λ r. ⌜ r ≡ noneIn (take m (now (b .entry))) (take n (now (a .entry))) ⌝ }
-{
-    let mut i = 0;
-    while i < n {
-        if sets::has(b, m, a[i]) {
-            return false;
-        }
-        i += 1;
-    }
-    true
-}
-
 // Whether pins and Steiner points, kept as codes, are in range, strictly rising and apart.
 fn are_placed(pins: &[u64], n: usize, steiner: &[u64], m: usize) -> bool
     requires { ⌜ (n ≤ length (now pins)) × (m ≤ length (now steiner)) ⌝ }
@@ -71,7 +55,7 @@ fn are_placed(pins: &[u64], n: usize, steiner: &[u64], m: usize) -> bool
     if !sets::rises(steiner, m) {
         return false;
     }
-    none_in(pins, n, steiner, m)
+    sets::none_in(pins, n, steiner, m)
 }
 
 // 5: "a coordinate out of range, points of a section not strictly rising, or a tap on a pin". There is room here for all Steiner points

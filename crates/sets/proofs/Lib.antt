@@ -6,3 +6,4 @@ pub mod Part
 pub mod Putting
 pub mod Results
 pub mod Scanning
+pub mod Scans

@@ -1,13 +1,13 @@
 -- What the functions over arrays of numbers say: a set written to the front of an array, the place of a number, a row of zeros,
 -- and the two steps of a merge.
 use mathlib.Core.Path.{_≡_}
-use mathlib.Core.Bool.{Bool, true, _&&_}
+use mathlib.Core.Bool.{Bool, true, not, _&&_}
 use mathlib.Core.List.{List, [], _∷_, _++_}
 use Prim.Native.Nat.{ℕ, suc, _-_}
 use lib.Dec.{ltb, eqb}
 use lib.ListN.{length, drop, replicate}
 use Rattle.plane.specs.Test.{if}
-use Rattle.model.specs.Set.{tie}
+use Rattle.model.specs.Set.{all, has, tie}
 
 -- The set l was written over the front of an array, nothing behind it changed, and r counts it.
 pub record Written (l before after : List ℕ) (r : ℕ) : Type 0 where
@@ -23,6 +23,10 @@ pub record Removed (l before after : List ℕ) (n r : ℕ) : Type 0 where
 unfoldable pub placeOf : ℕ → List ℕ → ℕ
 placeOf k [] = 0
 placeOf k (b ∷ l) = if (tie ltb k b) (λ _. 0) (λ _. suc (placeOf k l))
+
+-- No element of the second list is in the first.
+abbrev pub noneIn : List ℕ → List ℕ → Bool
+noneIn b a = all (λ (k : ℕ). not (has ltb k b)) a
 
 -- Whether every element is 0.
 unfoldable pub allZero : List ℕ → Bool

@@ -1,7 +1,7 @@
 -- `deck::check::is_ordered` meets its contract: three tests in turn.
 use mathlib.Core.Path.{sym, _∙_}
 use borrow.Author.Tests.{not-true, not-false}
-use Rattle.deck.proofs.Scans.{and-no, and-yes}
+use Rattle.sets.proofs.Scans.{and-no, and-yes}
 use borrow.Author.Needs.{needs}
 use Rattle.deck.proofs.check.is_ordered.Statement.{statement}
 use Rattle.deck.proofs.check.is_ordered.Tie as tie

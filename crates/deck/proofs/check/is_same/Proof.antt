@@ -3,7 +3,7 @@ use Prim.Native.Nat.{_-_}
 use native.Mathlib.Omega.{arith}
 use borrow.Author.Needs.{needs}
 use lib.ListN.{length}
-use Rattle.deck.proofs.Scans.{Alike, alike-none, alike-more, alike-fail, alike-end}
+use Rattle.sets.proofs.Scans.{Alike, alike-none, alike-more, alike-fail, alike-end}
 use Rattle.deck.proofs.check.is_same.Statement.{statement}
 use Rattle.deck.proofs.check.is_same.Tie as tie
 use Rattle.deck.proofs.check.is_same.Reads as reads

@@ -3,7 +3,7 @@ use Prim.Native.Nat.{_-_}
 use native.Mathlib.Omega.{arith}
 use lib.ListN.{length, take}
 use borrow.Author.Needs.{needs}
-use Rattle.deck.proofs.Scans.{Alike}
+use Rattle.sets.proofs.Scans.{Alike}
 use Rattle.deckfile.proofs.Comparing.{begun-none, begun-more, begun-fail, begun-end}
 use Rattle.deckfile.proofs.header.begins.Statement.{statement}
 use Rattle.deckfile.proofs.header.begins.Tie as tie
