@@ -1,11 +1,15 @@
 # run: the listing of a sample deck. test: every test; the last line is the verdict of the prover. library: the planner for C.
 # bench: the time of scoring a crossing, by the proved functions and by others.
-.PHONY: run test bench reference entries library
+.PHONY: run test bench reference programs entries library
 
 SAMPLE = samples/example.deck
 
-run: reference
-	@tests/reference/target/release/decklist_reference < $(SAMPLE)
+run: programs
+	@target/bin/decklist < $(SAMPLE)
+
+# The programs, proved and linked to target/bin.
+programs:
+	@rt check decklist
 
 reference:
 	@cd tests/reference && cargo build --release --offline --quiet

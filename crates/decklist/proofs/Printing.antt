@@ -1,0 +1,73 @@
+-- What the program prints for a file: the line of its refusal, or the listing of its deck after a run to the end.
+use mathlib.Core.Path.{_≡_, refl, sym, ap, _∙_, subst, subst⁻¹}
+use mathlib.Core.Bool.{Bool, true, false}
+use mathlib.Core.List.{List, [], _∷_, _++_}
+use Prim.Native.Nat.{ℕ, _+_, _≤_, _<_}
+use native.Mathlib.Omega.{arith}
+use lib.ListN.{length, take, drop, length-append, length-drop}
+use lib.Seq.{length-take-le}
+use borrow.Author.Tests.{le-leb}
+use Rattle.io.specs.Counts.{Counts}
+use Rattle.plane.specs.Test.{if}
+use Rattle.model.specs.State.{State, Valid}
+use Rattle.model.specs.Call as call
+use Rattle.model.specs.Round.{finish}
+use Rattle.model.specs.File.{Read, deck, refusal, readFile}
+use Rattle.model.specs.Listing.{listing, refusedLine, listingOfFile}
+use Rattle.plan.proofs.Sweeping.{true-of}
+use Rattle.tree.specs.Front.{Front}
+use Rattle.deck.specs.declared.Deck.{Deck}
+use Rattle.deck.specs.Form.{deckOf, stateOf, sound}
+use Rattle.deck.specs.Calls.{refusalNumber, called}
+use Rattle.deck.proofs.Forms.{state-deck, deck-sound, sound-is}
+use Rattle.deckfile.specs.Reading.{outcomeOf, reading}
+use Rattle.listing.specs.Whole.{fitting, deckText}
+use Rattle.listing.proofs.Answering.{text-sound}
+use Rattle.planner.proofs.Serving.{Good, valid, number, read-good, end-valid, end-next}
+
+-- What stands at the front of a slice of the same length is within it.
+pub counted : (l before after : List ℕ) (r : ℕ) → Front l before after r → Counts r after
+counted l before after r f =
+    let h : length after ≡ length l + length (drop (length l) before) = ap length (f .front) ∙ length-append l (drop (length l) before) in
+    let k : r ≤ length after = omega (arith, h, f .count) in
+    (k, sym (length-take-le r after k))
+
+pub none-counted : (l : List ℕ) → Counts 0 l
+none-counted l = (omega arith, refl)
+
+-- A text that has room for less has room.
+pub roomy : (m : ℕ) (before after t u : List ℕ) (r : ℕ) → m ≤ 8192 → 8192 ≤ length before → t ≡ u → Front (fitting m before t) before after r
+    → Front (fitting 8192 before u) before after r
+roomy m before after t u r h k e f =
+    subst (λ (l : List ℕ). Front l before after r)
+    (ap (λ (b : Bool). if b (λ _. t) (λ _. [])) (le-leb m (length before) (omega arith) ∙ sym (le-leb 8192 (length before) k)) ∙ ap (fitting 8192 before) e) f
+
+-- The text of a file, by what reading it gives.
+text-refused : (b : List ℕ) (n : ℕ) → readFile b ≡ refusal n → refusedLine n ≡ listingOfFile b
+unfolding listingOfFile
+text-refused b n e = rw e refl
+
+text-deck : (b : List ℕ) (s : State) → readFile b ≡ deck s → listing (finish s .final) ≡ listingOfFile b
+unfolding listingOfFile
+text-deck b s e = rw e refl
+
+pub printed-refusal : (b : List ℕ) (n : ℕ) → n ≡ refusalNumber (reading b .reply) → ¬ (n ≡ 0) → refusedLine n ≡ listingOfFile b
+unfolding refusalNumber outcomeOf
+printed-refusal b n e h = go (readFile b) refl e
+  where
+    go : (r : Read) → readFile b ≡ r → n ≡ refusalNumber (outcomeOf r .reply) → refusedLine n ≡ listingOfFile b
+    go (deck s) f q = absurd (h q)
+    go (refusal k) f q = ap refusedLine q ∙ text-refused b k f
+
+pub printed-deck : (b : List ℕ) (n : ℕ) → n ≡ refusalNumber (reading b .reply) → n ≡ 0 → (d last : Deck) → d ≡ reading b .next → last ≡ called d call.runToEnd .next
+    → deckText last ≡ listingOfFile b
+unfolding refusalNumber outcomeOf
+printed-deck b n e z d last q is = go (readFile b) refl (read-good b) e q
+  where
+    go : (r : Read) → readFile b ≡ r → Good r → n ≡ refusalNumber (outcomeOf r .reply) → d ≡ outcomeOf r .next → deckText last ≡ listingOfFile b
+    go (deck s) f (valid v) p x =
+        let w = end-valid s v in
+        let at = finish s .final in
+        ap deckText (end-next d last is s v x) ∙ sym (text-sound (deckOf at) (true-of (sound (deckOf at)) (sound-is (deckOf at) .1 (deck-sound at w))))
+        ∙ ap listing (state-deck at (w .placed)) ∙ text-deck b s f
+    go (refusal k) f (number h j) p x = absurd (omega (arith, p, z, h))

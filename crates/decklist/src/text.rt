@@ -1,0 +1,27 @@
+// What the program prints for a file.
+use deck::calls::refusal_number;
+ghost use lib.ListN.{length};
+ghost use Rattle.io.specs.Counts.{Counts};
+ghost use Rattle.model.specs.Listing.{listingOfFile};
+ghost use Rattle.tree.specs.Front.{Front};
+ghost use Rattle.listing.specs.Whole.{fitting};
+
+// The text for a file at the front of `out`, which has to have room for 8192 bytes. Returns its length; 0 where there is no room.
+pub fn list_file(file: &[u8], out: &mut [u8]) -> usize
+    ensures { λ r. ⌜ Front (fitting 8192 (now (out .entry)) (listingOfFile (now (file .entry)))) (now (out .entry)) (now (out .exit)) r ⌝ }
+    ensures { λ r. ⌜ Counts r (now (out .exit)) ⌝ }
+{
+    if out.len() < 8192 {
+        return 0;
+    }
+    let o = deckfile::read(file);
+    let reply = o.reply;
+    let n = refusal_number(reply);
+    if n != 0 {
+        return listing::list_refusal(n, out);
+    }
+    let d = o.next;
+    let e = d.run_to_end();
+    let last = e.next;
+    listing::list(last, out)
+}

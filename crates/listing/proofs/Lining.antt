@@ -1,0 +1,101 @@
+-- Lines written one behind the other: the text of the first items, then a line more. With the tap lines and the run lines, item by item.
+use mathlib.Core.Path.{_≡_, refl, sym, ap, _∙_, subst}
+use mathlib.Core.List.{List, [], _∷_, _++_, map, append-assoc}
+use Prim.Native.Nat.{ℕ, _+_, _*_, _≤_, _<_}
+use native.Mathlib.Nat.{mul-suc}
+use native.Mathlib.Numerals.{add-one}
+use native.Mathlib.Omega.{arith}
+use lib.ListN.{length, take, getD}
+use lib.Seq.{take-suc}
+use Rattle.plane.specs.Point.{Point}
+use Rattle.plane.specs.Edge.{Edge, edgeLength}
+use Rattle.model.specs.Listing.{tapLines, runLines, tapWord, runWord, pointFields, field, decimal, lineFeed}
+use Rattle.plan.specs.Code.{pointOf}
+use Rattle.listing.specs.Line.{tapLine, runLine, edgeAt}
+use Rattle.listing.specs.Text.{Put}
+use Rattle.listing.proofs.Puts.{put-none, put-then, put-same}
+
+-- The texts of the first i items stand from place `at` on, up to the place `next`, at most w bytes each.
+pub record Lined (text : ℕ → List ℕ) (w n : ℕ) (l m : List ℕ) (at next i : ℕ) : Type 0 where
+  pub within : i ≤ n
+  pub put : Put (text i) l m at next
+  pub same : length m ≡ length l
+  pub most : next ≤ at + w * i
+
+module _ (text : ℕ → List ℕ) (w n : ℕ) (l : List ℕ) (at : ℕ) where
+  pub lined-none : text 0 ≡ [] → Lined text w n l l at at 0
+  lined-none e = record { within = omega arith; put = first; same = refl; most = omega arith }
+    where
+      zero-more : at + 0 ≡ at
+      zero-more = omega arith
+
+      first : Put (text 0) l l at at
+      first = put-same (sym e) (subst (λ (k : ℕ). Put [] l l at k) zero-more (put-none l at))
+
+  pub lined-more : (line m m′ : List ℕ) (next next′ i : ℕ) → Lined text w n l m at next i → i < n → text (i + 1) ≡ text i ++ line → next ≤ length m
+      → Put line m m′ next next′ → next′ ≤ next + w → length m′ ≡ length m → Lined text w n l m′ at next′ (i + 1)
+  lined-more line m m′ next next′ i p h e fits q few size =
+      record {
+        within = omega arith;
+        put = put-same (sym e) (put-then (p .put) (omega (arith, p .same)) q);
+        same = size ∙ p .same;
+        most = omega (arith, p .most, mul-suc w i, ap (λ (k : ℕ). w * k) (add-one i));
+      }
+
+-- The text of one item more.
+taps-more : (l : List Point) (q : Point) → tapLines (l ++ (q ∷ [])) ≡ tapLines l ++ tapLine q
+unfolding tapLines
+taps-more [] q = refl
+taps-more (p ∷ l) q =
+    ap (λ (t : List ℕ). tapWord ++ (pointFields p ++ (lineFeed ∷ t))) (taps-more l q)
+    ∙ ap (λ (t : List ℕ). tapWord ++ t) (sym (append-assoc (pointFields p) (lineFeed ∷ tapLines l) (tapLine q)))
+    ∙ sym (append-assoc tapWord (pointFields p ++ (lineFeed ∷ tapLines l)) (tapLine q))
+
+runs-more : (l : List Edge) (e : Edge) → runLines (l ++ (e ∷ [])) ≡ runLines l ++ runLine e
+unfolding runLines
+runs-more [] e = refl
+runs-more (d ∷ l) e =
+    let size = field (decimal (edgeLength d)) in
+    ap (λ (t : List ℕ). runWord ++ (pointFields (d .lo) ++ (pointFields (d .hi) ++ (size ++ (lineFeed ∷ t))))) (runs-more l e)
+    ∙ ap (λ (t : List ℕ). runWord ++ (pointFields (d .lo) ++ (pointFields (d .hi) ++ t))) (sym (append-assoc size (lineFeed ∷ runLines l) (runLine e)))
+    ∙ ap (λ (t : List ℕ). runWord ++ (pointFields (d .lo) ++ t)) (sym (append-assoc (pointFields (d .hi)) (size ++ (lineFeed ∷ runLines l)) (runLine e)))
+    ∙ ap (λ (t : List ℕ). runWord ++ t) (sym (append-assoc (pointFields (d .lo)) (pointFields (d .hi) ++ (size ++ (lineFeed ∷ runLines l))) (runLine e)))
+    ∙ sym (append-assoc runWord (pointFields (d .lo) ++ (pointFields (d .hi) ++ (size ++ (lineFeed ∷ runLines l)))) (runLine e))
+
+map-more : {A : Type 0} (f : ℕ → A) (l : List ℕ) (k : ℕ) → map f (l ++ (k ∷ [])) ≡ map f l ++ (f k ∷ [])
+map-more f [] k = refl
+map-more f (a ∷ l) k = ap (λ t. f a ∷ t) (map-more f l k)
+
+one-more : (a : List ℕ) (i : ℕ) → i < length a → take (i + 1) a ≡ take i a ++ (getD a i 0 ∷ [])
+one-more a i h = ap (λ (k : ℕ). take k a) (add-one i) ∙ take-suc a i 0 h
+
+-- The lines of the first i Steiner points and of the first i edges.
+abbrev pub tapText : List ℕ → ℕ → List ℕ
+tapText codes i = tapLines (map pointOf (take i codes))
+
+abbrev pub runText : List ℕ → List ℕ → ℕ → List ℕ
+runText codes ends i = runLines (map (edgeAt codes) (take i ends))
+
+pub tap-none : (codes : List ℕ) → tapText codes 0 ≡ []
+unfolding tapLines
+tap-none codes = refl
+
+pub run-none : (codes ends : List ℕ) → runText codes ends 0 ≡ []
+unfolding runLines
+run-none codes ends = refl
+
+pub tap-more : (codes : List ℕ) (i : ℕ) → i < length codes → tapText codes (i + 1) ≡ tapText codes i ++ tapLine (pointOf (getD codes i 0))
+tap-more codes i h =
+    ap (λ (l : List ℕ). tapLines (map pointOf l)) (one-more codes i h) ∙ ap tapLines (map-more pointOf (take i codes) (getD codes i 0))
+    ∙ taps-more (map pointOf (take i codes)) (pointOf (getD codes i 0))
+
+pub run-more : (codes ends : List ℕ) (i : ℕ) → i < length ends → runText codes ends (i + 1) ≡ runText codes ends i ++ runLine (edgeAt codes (getD ends i 0))
+run-more codes ends i h =
+    ap (λ (l : List ℕ). runLines (map (edgeAt codes) l)) (one-more ends i h) ∙ ap runLines (map-more (edgeAt codes) (take i ends) (getD ends i 0))
+    ∙ runs-more (map (edgeAt codes) (take i ends)) (edgeAt codes (getD ends i 0))
+
+-- The loops' ends: every item is written.
+pub lined-end : (text : ℕ → List ℕ) (w n : ℕ) (l m : List ℕ) (at next i : ℕ) → Lined text w n l m at next i → n ≤ i → Put (text n) l m at next × (next ≤ at + w * n)
+lined-end text w n l m at next i p h =
+    let e : i ≡ n = omega (arith, p .within) in
+    (put-same (ap text e) (p .put), omega (arith, p .most, ap (λ (k : ℕ). w * k) e))

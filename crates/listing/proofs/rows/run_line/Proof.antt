@@ -1,0 +1,63 @@
+-- `listing::rows::run_line` meets its contract.
+use mathlib.Core.Path.{ap}
+use Prim.Native.Nat.{ℕ}
+use native.Mathlib.Omega.{arith}
+use borrow.Author.Needs.{needs}
+use Rattle.model.specs.Listing.{field, decimal}
+use Rattle.listing.proofs.Puts.{put-then, put-same}
+use Rattle.listing.proofs.rows.run_line.Statement.{statement}
+use Rattle.listing.proofs.rows.run_line.Tie as tie
+
+slice-aggregate-word : tie.Need-slice-aggregate-word
+slice-aggregate-word c = search needs
+
+word-requires : tie.Need-word-requires
+word-requires c κs = search needs
+
+point-fields-requires : tie.Need-point-fields-requires
+point-fields-requires c κs = search needs
+
+point-fields-requires-2 : tie.Need-point-fields-requires-2
+point-fields-requires-2 c κs = search needs
+
+distance-of-requires : tie.Need-distance-of-requires
+distance-of-requires c κs = search needs
+
+decimal-field-requires : tie.Need-decimal-field-requires
+decimal-field-requires c κs = search needs
+
+byte-requires : tie.Need-byte-requires
+byte-requires c κs = search needs
+
+same-length : tie.Need-same-length
+same-length c = search needs
+
+returns : tie.Need-returns
+returns c =
+    let at-byte = c .before .before in
+    let at-decimal-field = at-byte .before .before .before .before in
+    let at-distance-of = at-decimal-field .before in
+    let at-point-fields2 = at-distance-of .before .before .before .before in
+    let at-point-fields = at-point-fields2 .before .before .before .before in
+    let at-word = at-point-fields .before .before .before .before in (
+      put-then (at-word .word .ensures) (omega arith)
+          (put-then (at-point-fields .point-fields .ensures .0) (omega arith)
+          (put-then (at-point-fields2 .point-fields2 .ensures .0) (omega arith)
+          (put-then (put-same (ap (λ (k : ℕ). field (decimal k)) (at-distance-of .distance-of .ensures)) (at-decimal-field .decimal-field .ensures .0)) (omega arith)
+          (at-byte .byte .ensures)))),
+      omega arith,
+    )
+
+pub run-line-spec : {M : Type 1} → statement M
+run-line-spec =
+    tie.close
+    (tie.spec
+    slice-aggregate-word
+    word-requires
+    point-fields-requires
+    point-fields-requires-2
+    distance-of-requires
+    decimal-field-requires
+    byte-requires
+    same-length
+    returns)

@@ -1,0 +1,63 @@
+-- `listing::rows::tap_lines` meets its contract. The invariant: the lines of the Steiner points passed are written.
+use Prim.Native.Nat.{_-_}
+use native.Mathlib.Omega.{arith}
+use borrow.Author.Needs.{needs}
+use Rattle.listing.proofs.Lining.{Lined, tapText, lined-none, lined-more, lined-end, tap-none, tap-more}
+use Rattle.listing.proofs.rows.tap_lines.Statement.{statement}
+use Rattle.listing.proofs.rows.tap_lines.Tie as tie
+
+abbrev Inv-loop : tie.InvT-loop
+Inv-loop out₀ at codes n next₀ i₀ out next i = Lined (tapText codes) 18 n out₀ out at next i
+
+abbrev μ-loop : tie.MeasureT-loop
+μ-loop out₀ at codes n next₀ i₀ out next i = n - i
+
+loop-holds : tie.Need-loop-holds Inv-loop μ-loop
+loop-holds c = lined-none (tapText (c .before .before .args .codes .now)) 18 _ _ _ (tap-none (c .before .before .args .codes .now))
+
+mul-tap-line : tie.Need-mul-tap-line Inv-loop μ-loop
+mul-tap-line c = search needs
+
+shared-slice-read-tap-line : tie.Need-shared-slice-read-tap-line Inv-loop μ-loop
+shared-slice-read-tap-line c = search needs
+
+tap-line-requires : tie.Need-tap-line-requires Inv-loop μ-loop
+tap-line-requires c κs = (omega arith, c .before .before .before .before .before .before .pre .1 .small _ (c .before .before .loop-test .taken))
+
+add-i : tie.Need-add-i Inv-loop μ-loop
+add-i c = search needs
+
+loop-less : tie.Need-loop-less Inv-loop μ-loop
+loop-less c = search needs
+
+loop-again : tie.Need-loop-again Inv-loop μ-loop
+loop-again c =
+    let at-tap-line = c .before .before in
+    let at-loop-test = at-tap-line .before .before .before in
+    let at-loop = at-loop-test .before in
+    let at-start = at-loop .before .before .before in
+    lined-more (tapText (at-start .args .codes .now)) 18 _ _ _ _ _ _ _ _ _ (at-loop .loop .inv) (at-loop-test .loop-test .taken)
+    (tap-more (at-start .args .codes .now) (at-loop .loop .i) (omega (arith, at-start .pre .1 .within, at-loop-test .loop-test .taken))) (omega arith)
+    (at-tap-line .tap-line .ensures .0) (at-tap-line .tap-line .ensures .1) (at-tap-line .tap-line .kept .0)
+
+same-length : tie.Need-same-length Inv-loop μ-loop
+same-length c = c .before .loop .inv .same
+
+returns : tie.Need-returns Inv-loop μ-loop
+returns c = lined-end (tapText (c .before .before .before .before .args .codes .now)) 18 _ _ _ _ _ _ (c .before .loop .inv) (c .loop-test .left)
+
+pub tap-lines-spec : {M : Type 1} → statement M
+tap-lines-spec =
+    tie.close
+    (tie.spec
+    Inv-loop
+    μ-loop
+    loop-holds
+    mul-tap-line
+    shared-slice-read-tap-line
+    tap-line-requires
+    add-i
+    loop-less
+    loop-again
+    same-length
+    returns)

@@ -1,0 +1,29 @@
+-- `listing::write_taps` meets its contract: the Steiner points of a sound deck are codes.
+use native.Mathlib.Omega.{arith}
+use borrow.Author.Needs.{needs}
+use Rattle.deck.proofs.Checking.{sound-left, sound-steiner}
+use Rattle.listing.proofs.Decks.{coded}
+use Rattle.listing.proofs.write_taps.Statement.{statement}
+use Rattle.listing.proofs.write_taps.Tie as tie
+
+slice-aggregate-tap-lines : tie.Need-slice-aggregate-tap-lines
+slice-aggregate-tap-lines c = search needs
+
+tap-lines-requires : tie.Need-tap-lines-requires
+tap-lines-requires c κs =
+    let at-start = c .before .before .before .before in
+    let s = sound-steiner (at-start .args .d) (at-start .pre .1) in
+    (omega (arith, sound-left (at-start .args .d) (at-start .pre .1)), coded (at-start .args .d .steiner) (at-start .args .d .nsteiner) (omega (arith, s .few, s .size)) (s .codes))
+
+same-length : tie.Need-same-length
+same-length c = search needs
+
+returns : tie.Need-returns
+returns c =
+    let at-tap-lines = c .before .before in
+    let at-start = at-tap-lines .before .before .before .before .before in
+    (at-tap-lines .tap-lines .ensures .0, omega (arith, at-tap-lines .tap-lines .ensures .1, sound-left (at-start .args .d) (at-start .pre .1)))
+
+pub write-taps-spec : {M : Type 1} → statement M
+write-taps-spec =
+    tie.close (tie.spec slice-aggregate-tap-lines tap-lines-requires same-length returns)

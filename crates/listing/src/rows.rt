@@ -1,0 +1,127 @@
+// The lines of a deck's listing: the head line, a tap line for each Steiner point and a run line for each edge.
+use super::text::byte;
+use super::text::decimal_field;
+use super::text::signed_field;
+use super::text::word;
+ghost use mathlib.Core.Path.{_≡_};
+ghost use mathlib.Core.List.{map};
+ghost use Prim.Native.Nat.{_+_, _*_, _≤_, _<_};
+ghost use lib.ListN.{length, take};
+ghost use Rattle.plane.specs.Coordinate.{coordinate};
+ghost use Rattle.plane.specs.Point.{dist};
+ghost use Rattle.model.specs.Listing as model;
+ghost use Rattle.plan.specs.Code.{pointOf};
+ghost use Rattle.listing.specs.Line.{headText, tapLine, runLine, edgeAt, Coded, Ended};
+ghost use Rattle.listing.specs.Text.{Put};
+
+// A space and a coordinate, given in its stored form.
+fn coordinate_field(out: &mut [u8], at: usize, u: u16) -> usize
+    requires { ⌜ at + 22 ≤ length (now out) ⌝ }
+    ensures { λ r. ⌜ Put (model.field (model.signedDecimal (coordinate u))) (now (out .entry)) (now (out .exit)) at r ⌝ }
+    ensures { λ r. ⌜ r ≤ at + 7 ⌝ }
+{
+    signed_field(out, at, plane::to_signed(u))
+}
+
+// The coordinates of a point, given by its code.
+fn point_fields(out: &mut [u8], at: usize, k: u64) -> usize
+    requires { ⌜ at + 29 ≤ length (now out) ⌝ }
+    requires { ⌜ k < 4294967296 ⌝ }
+    ensures { λ r. ⌜ Put (model.pointFields (pointOf k)) (now (out .entry)) (now (out .exit)) at r ⌝ }
+    ensures { λ r. ⌜ r ≤ at + 14 ⌝ }
+{
+    let next = coordinate_field(out, at, (k / 65536) as u16);
+    coordinate_field(out, next, (k % 65536) as u16)
+}
+
+// The distance of two points, given by their codes.
+fn distance_of(a: u64, b: u64) -> u64
+    requires { ⌜ (a < 4294967296) × (b < 4294967296) ⌝ }
+    ensures { λ r. ⌜ r ≡ dist (pointOf a) (pointOf b) ⌝ }
+{
+    let x = (a / 65536) as u16;
+    let y = (a % 65536) as u16;
+    plane::distance(x, y, (b / 65536) as u16, (b % 65536) as u16) as u64
+}
+
+// The head line.
+pub fn head_line(out: &mut [u8], pins: usize, taps: usize, n: u64) -> usize
+    requires { ⌜ 68 ≤ length (now out) ⌝ }
+    ensures { λ r. ⌜ Put (headText pins taps n) (now (out .entry)) (now (out .exit)) 0 r ⌝ }
+    ensures { λ r. ⌜ r ≤ 68 ⌝ }
+{
+    let a = word(out, 0, b"deck");
+    let b = decimal_field(out, a, pins as u64);
+    let c = decimal_field(out, b, taps as u64);
+    let d = decimal_field(out, c, n);
+    byte(out, d, b'\n')
+}
+
+// The tap line of a Steiner point, given by its code.
+fn tap_line(out: &mut [u8], at: usize, k: u64) -> usize
+    requires { ⌜ at + 32 ≤ length (now out) ⌝ }
+    requires { ⌜ k < 4294967296 ⌝ }
+    ensures { λ r. ⌜ Put (tapLine (pointOf k)) (now (out .entry)) (now (out .exit)) at r ⌝ }
+    ensures { λ r. ⌜ r ≤ at + 18 ⌝ }
+{
+    let a = word(out, at, b"tap");
+    let b = point_fields(out, a, k);
+    byte(out, b, b'\n')
+}
+
+// The tap lines of the first n Steiner points.
+pub fn tap_lines(out: &mut [u8], at: usize, codes: &[u64], n: usize) -> usize
+    requires { ⌜ at + 18 * n + 32 ≤ length (now out) ⌝ }
+    requires { ⌜ Coded (now codes) n ⌝ }
+    ensures { λ r. ⌜ Put (model.tapLines (map pointOf (take n (now (codes .entry))))) (now (out .entry)) (now (out .exit)) at r ⌝ }
+    ensures { λ r. ⌜ r ≤ at + 18 * n ⌝ }
+{
+    let mut next = at;
+    let mut i = 0;
+    while i < n {
+        next = tap_line(out, next, codes[i]);
+        i += 1;
+    }
+    next
+}
+
+// The run line of the edge between two points, given by their codes.
+fn run_line(out: &mut [u8], at: usize, a: u64, b: u64) -> usize
+    requires { ⌜ at + 53 ≤ length (now out) ⌝ }
+    requires { ⌜ (a < 4294967296) × (b < 4294967296) ⌝ }
+    ensures { λ r. ⌜ Put (runLine (record { lo = pointOf a; hi = pointOf b })) (now (out .entry)) (now (out .exit)) at r ⌝ }
+    ensures { λ r. ⌜ r ≤ at + 53 ⌝ }
+{
+    let n = word(out, at, b"run");
+    let p = point_fields(out, n, a);
+    let q = point_fields(out, p, b);
+    let r = decimal_field(out, q, distance_of(a, b));
+    byte(out, r, b'\n')
+}
+
+// The run lines of the first m edges between the first n points; an edge is the numbers of its two points in one.
+pub fn run_lines(
+    out: &mut [u8],
+    at: usize,
+    codes: &[u64],
+    n: usize,
+    ends: &[u64],
+    m: usize,
+) -> usize
+    requires { ⌜ at + 53 * m ≤ length (now out) ⌝ }
+    requires { ⌜ Coded (now codes) n ⌝ }
+    requires { ⌜ Ended (now ends) m n ⌝ }
+    ensures { λ r. ⌜ Put (model.runLines (map (edgeAt (now (codes .entry))) (take m (now (ends .entry))))) (now (out .entry)) (now (out .exit)) at r ⌝ }
+    ensures { λ r. ⌜ r ≤ at + 53 * m ⌝ }
+{
+    let mut next = at;
+    let mut i = 0;
+    while i < m {
+        let e = ends[i];
+        let lo = codes[(e / 128) as usize];
+        let hi = codes[(e % 128) as usize];
+        next = run_line(out, next, lo, hi);
+        i += 1;
+    }
+    next
+}

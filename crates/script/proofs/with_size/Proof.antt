@@ -1,0 +1,44 @@
+-- `script::with_size` meets its contract: the names are tried one after the other.
+use mathlib.Core.Path.{sym, _∙_}
+use borrow.Author.Needs.{needs}
+use Rattle.script.proofs.Naming.{sized-write, sized-run, sized-none}
+use Rattle.script.proofs.with_size.Statement.{statement}
+use Rattle.script.proofs.with_size.Tie as tie
+
+slice-aggregate-same : tie.Need-slice-aggregate-same
+slice-aggregate-same c = search needs
+
+same-requires : tie.Need-same-requires
+same-requires c κs = search needs
+
+returns : tie.Need-returns
+returns c =
+    sized-write _ _ (sym (c .before .same .ensures) ∙ c .if1 .taken)
+
+slice-aggregate-same-2 : tie.Need-slice-aggregate-same-2
+slice-aggregate-same-2 c = search needs
+
+same-requires-2 : tie.Need-same-requires-2
+same-requires-2 c κs = search needs
+
+returns-2 : tie.Need-returns-2
+returns-2 c =
+    let t1 = c .before .before .before in
+    sized-run _ _ (sym (t1 .before .same .ensures) ∙ t1 .if1 .left) (sym (c .before .same2 .ensures) ∙ c .if2 .taken)
+
+returns-3 : tie.Need-returns-3
+returns-3 c =
+    let t1 = c .before .before .before in
+    sized-none _ _ (sym (t1 .before .same .ensures) ∙ t1 .if1 .left) (sym (c .before .same2 .ensures) ∙ c .if2 .left)
+
+pub with-size-spec : {M : Type 1} → statement M
+with-size-spec =
+    tie.close
+    (tie.spec
+    slice-aggregate-same
+    same-requires
+    returns
+    slice-aggregate-same-2
+    same-requires-2
+    returns-2
+    returns-3)

@@ -1,0 +1,94 @@
+-- The command of a line.
+use mathlib.Core.Bool.{Bool, true, _||_}
+use mathlib.Core.List.{List, [], _∷_}
+use Prim.Native.Nat.{ℕ}
+use lib.Dec.{ltb, eqb}
+use lib.ListN.{length}
+use lib.IntN.{ℤ}
+use Rattle.plane.specs.Test.{if}
+use Rattle.script.specs.declared.Command.{Command}
+use Rattle.script.specs.declared.Command.the-variants.{Blank, Error, Read, Write, Add, Withdraw, Round, Finish, Length, Counts, Run, Degree, Octant}
+use Rattle.script.specs.declared.Command.the-variants as command
+use Rattle.script.specs.declared.numbers.Number.{Number}
+use Rattle.script.specs.declared.numbers.Number.the-variants.{NoNumber, Is}
+use Rattle.script.specs.declared.numbers.Size.{Size}
+use Rattle.script.specs.declared.numbers.Size.the-variants.{NoSize, Of}
+use Rattle.script.specs.Names.{bytes}
+use Rattle.script.specs.Words.{wordsOf, same}
+use Rattle.script.specs.Numbers.{numberOf, sizeOf}
+use Rattle.script.specs.Hex.{isHex, pairs}
+
+-- One word: `write`, `round`, `finish`, `length`, `counts`, `list`. The capacity of `write` is then that of the longest file.
+unfoldable pub alone : List ℕ → Command
+alone w =
+    if (same w (bytes "write")) (λ _. Write 784)
+    (λ _. if (same w (bytes "round")) (λ _. Round)
+    (λ _. if (same w (bytes "finish")) (λ _. Finish)
+    (λ _. if (same w (bytes "length")) (λ _. Length)
+    (λ _. if (same w (bytes "counts")) (λ _. Counts)
+    (λ _. if (same w (bytes "list")) (λ _. command.List) (λ _. Error))))))
+
+-- A word and a size: `write CAPACITY`, `run I`.
+unfoldable pub sized : List ℕ → ℕ → Command
+sized w n =
+    if (same w (bytes "write")) (λ _. Write n)
+    (λ _. if (same w (bytes "run")) (λ _. Run n) (λ _. Error))
+
+-- What is said of a size, an error where there is none.
+abbrev pub ofSize : (ℕ → Command) → Size → Command
+ofSize f NoSize = Error
+ofSize f (Of n) = f n
+
+-- A word and an argument: `read HEX`, where `-` stands for no bytes, and the commands with a size.
+unfoldable pub withOne : List ℕ → List ℕ → Command
+withOne w x =
+    if (same w (bytes "read"))
+    (λ _. if (same x (bytes "-") || isHex x) (λ _. Read) (λ _. Error))
+    (λ _. ofSize (sized w) (sizeOf x))
+
+-- A word and two numbers: `add X Y`, `withdraw X Y`, `degree X Y`, `octant DX DY`.
+unfoldable pub placed : List ℕ → ℤ → ℤ → Command
+placed w i j =
+    if (same w (bytes "add")) (λ _. Add i j)
+    (λ _. if (same w (bytes "withdraw")) (λ _. Withdraw i j)
+    (λ _. if (same w (bytes "degree")) (λ _. Degree i j)
+    (λ _. if (same w (bytes "octant")) (λ _. Octant i j) (λ _. Error))))
+
+-- What is said of two numbers, an error where one is missing.
+abbrev pub ofNumbers : (ℤ → ℤ → Command) → Number → Number → Command
+ofNumbers f NoNumber y = Error
+ofNumbers f (Is i) NoNumber = Error
+ofNumbers f (Is i) (Is j) = f i j
+
+-- A word and two arguments.
+unfoldable pub withTwo : List ℕ → List ℕ → List ℕ → Command
+withTwo w x y = ofNumbers (placed w) (numberOf x) (numberOf y)
+
+-- The command of a line's words; no command has more than three.
+unfoldable pub asked : List (List ℕ) → Command
+asked [] = Error
+asked (w ∷ []) = alone w
+asked (w ∷ x ∷ []) = withOne w x
+asked (w ∷ x ∷ y ∷ []) = withTwo w x y
+asked (w ∷ x ∷ y ∷ z ∷ l) = Error
+
+-- Whether a line is empty or a comment, which begins with `#` (35).
+abbrev pub isBlank : List ℕ → Bool
+isBlank [] = true
+isBlank (b ∷ l) = eqb b 35
+
+-- The command of a line, which has no line feed. A line of more than 2,000 bytes is an error.
+unfoldable pub commandOf : List ℕ → Command
+commandOf line =
+    if (ltb 2000 (length line)) (λ _. Error)
+    (λ _. if (isBlank line) (λ _. Blank) (λ _. asked (wordsOf line)))
+
+-- The second word, empty where there is none.
+abbrev pub second : List (List ℕ) → List ℕ
+second [] = []
+second (w ∷ []) = []
+second (w ∷ x ∷ l) = x
+
+-- The bytes that the second word of a line stands for: none where it is not pairs of hexadecimal digits.
+unfoldable pub fileOf : List ℕ → List ℕ
+fileOf line = let x = second (wordsOf line) in if (isHex x) (λ _. pairs x) (λ _. [])

@@ -1,0 +1,192 @@
+// One line of a script of calls: the command that it asks for, and the bytes of a file in it. A line that asks for nothing and a
+// line that is no command have their own variants, so every line has an answer.
+mod hex;
+mod numbers;
+mod words;
+
+use hex::decode;
+use hex::is_hex;
+use numbers::Number;
+use numbers::Size;
+use numbers::number_of;
+use numbers::size_of;
+use words::next;
+use words::same;
+ghost use mathlib.Core.Path.{_≡_};
+ghost use Rattle.script.specs.Commands.{commandOf, asked, alone, withOne, withTwo, sized, placed, fileOf};
+ghost use Rattle.script.specs.Hex.{Filled};
+ghost use Rattle.script.specs.Words.{wordsOf};
+
+// What a line asks for: nothing, as it is empty or a comment; no command; a file to read, which `bytes_of` gives; a file to write,
+// into so many bytes; the calls and the questions.
+pub enum Command {
+    Blank,
+    Error,
+    Read,
+    Write(u32),
+    Add(i32, i32),
+    Withdraw(i32, i32),
+    Round,
+    Finish,
+    Length,
+    Counts,
+    Run(u32),
+    Degree(i32, i32),
+    Octant(i32, i32),
+    List,
+}
+
+// The command of a line, which is given without its line feed.
+pub fn parse(line: &[u8]) -> Command
+    ensures { λ r. ⌜ r ≡ commandOf (now (line .entry)) ⌝ }
+{
+    if line.len() > 2000 {
+        return Command::Error;
+    }
+    if line.len() == 0 {
+        return Command::Blank;
+    }
+    if line[0] == b'#' {
+        return Command::Blank;
+    }
+    by_words(line)
+}
+
+// The command of a line's words. They stand from a to b, from c to d and from e to f, and from g to h what may follow.
+fn by_words(line: &[u8]) -> Command
+    ensures { λ r. ⌜ r ≡ asked (wordsOf (now (line .entry))) ⌝ }
+{
+    let w = next(line, 0);
+    let a = w.start;
+    let b = w.end;
+    if a == b {
+        return Command::Error;
+    }
+    let name = &line[a..b];
+    let x = next(line, b);
+    let c = x.start;
+    let d = x.end;
+    if c == d {
+        return by_name(name);
+    }
+    let first = &line[c..d];
+    let y = next(line, d);
+    let e = y.start;
+    let f = y.end;
+    if e == f {
+        return with_one(name, first);
+    }
+    let second = &line[e..f];
+    let z = next(line, f);
+    let g = z.start;
+    let h = z.end;
+    if g == h {
+        return with_two(name, first, second);
+    }
+    Command::Error
+}
+
+// The command of one word.
+fn by_name(name: &[u8]) -> Command
+    ensures { λ r. ⌜ r ≡ alone (now (name .entry)) ⌝ }
+{
+    if same(name, b"write") {
+        return Command::Write(784);
+    }
+    if same(name, b"round") {
+        return Command::Round;
+    }
+    if same(name, b"finish") {
+        return Command::Finish;
+    }
+    if same(name, b"length") {
+        return Command::Length;
+    }
+    if same(name, b"counts") {
+        return Command::Counts;
+    }
+    if same(name, b"list") {
+        return Command::List;
+    }
+    Command::Error
+}
+
+// The command of a word and one argument.
+fn with_one(name: &[u8], x: &[u8]) -> Command
+    ensures { λ r. ⌜ r ≡ withOne (now (name .entry)) (now (x .entry)) ⌝ }
+{
+    if same(name, b"read") {
+        if same(x, b"-") {
+            return Command::Read;
+        }
+        if is_hex(x) {
+            return Command::Read;
+        }
+        return Command::Error;
+    }
+    match size_of(x) {
+        Size::NoSize => Command::Error,
+        Size::Of(n) => with_size(name, n),
+    }
+}
+
+// The command of a word and a size.
+fn with_size(name: &[u8], n: u32) -> Command
+    ensures { λ r. ⌜ r ≡ sized (now (name .entry)) n ⌝ }
+{
+    if same(name, b"write") {
+        return Command::Write(n);
+    }
+    if same(name, b"run") {
+        return Command::Run(n);
+    }
+    Command::Error
+}
+
+// The command of a word and two arguments.
+fn with_two(name: &[u8], x: &[u8], y: &[u8]) -> Command
+    ensures { λ r. ⌜ r ≡ withTwo (now (name .entry)) (now (x .entry)) (now (y .entry)) ⌝ }
+{
+    match number_of(x) {
+        Number::NoNumber => Command::Error,
+        Number::Is(i) => match number_of(y) {
+            Number::NoNumber => Command::Error,
+            Number::Is(j) => with_place(name, i, j),
+        },
+    }
+}
+
+// The command of a word and two numbers.
+fn with_place(name: &[u8], i: i32, j: i32) -> Command
+    ensures { λ r. ⌜ r ≡ placed (now (name .entry)) i j ⌝ }
+{
+    if same(name, b"add") {
+        return Command::Add(i, j);
+    }
+    if same(name, b"withdraw") {
+        return Command::Withdraw(i, j);
+    }
+    if same(name, b"degree") {
+        return Command::Degree(i, j);
+    }
+    if same(name, b"octant") {
+        return Command::Octant(i, j);
+    }
+    Command::Error
+}
+
+// Writes the bytes that the second word of a line stands for to the front of `out`, as many as it holds, and returns how many. A
+// word that is not pairs of hexadecimal digits stands for none.
+pub fn bytes_of(line: &[u8], out: &mut [u8]) -> usize
+    ensures { λ r. ⌜ Filled (fileOf (now (line .entry))) (now (out .entry)) (now (out .exit)) r ⌝ }
+{
+    let w = next(line, 0);
+    let x = next(line, w.end);
+    let c = x.start;
+    let d = x.end;
+    let word = &line[c..d];
+    if !is_hex(word) {
+        return 0;
+    }
+    decode(word, out)
+}
