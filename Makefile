@@ -1,6 +1,7 @@
 # run: the listing of a sample deck. test: every test; the last line is the verdict of the prover. library: the planner for C.
-# bench: the time of scoring a crossing, by the proved functions and by others.
-.PHONY: run test bench reference programs entries library
+# programs: the programs in target/bin. bench: the time of scoring a crossing, by the proved functions and by others. fuzz: files
+# changed at random, to the planner for C.
+.PHONY: run test bench reference programs entries library fuzz libfuzzer
 
 SAMPLE = samples/example.deck
 
@@ -22,14 +23,33 @@ library:
 entries:
 	rt staticlib tree_entries
 	rt staticlib deck_entries
+	rt staticlib planner
 
 test:
 	rt fmt --check
 	cd tests/reference && cargo test --release --offline --quiet
 	rt staticlib tree_entries
 	rt staticlib deck_entries
+	rt staticlib planner
+	rt check decklist
 	cd tests/compare && cargo test --release --offline --quiet
 	rt ci
 
 bench: entries
 	cd tests/compare && cargo run --release --offline --quiet --bin bench
+
+# Some 20 seconds of deck files changed at random; tests/fuzz/check.c says what must hold. Not a part of test.
+ROUNDS = 150000
+FUZZ_FLAGS = -std=c11 -Wall -Wextra -Werror -O1 -g -Iinclude -fno-sanitize-recover=undefined
+FUZZ_SOURCES = tests/fuzz/plan.c tests/fuzz/mutate.c tests/fuzz/check.c
+
+fuzz: library
+	mkdir -p target/fuzz
+	gcc $(FUZZ_FLAGS) -fsanitize=address,undefined $(FUZZ_SOURCES) target/staticlib/libplanner.a -o target/fuzz/plan
+	target/fuzz/plan $(ROUNDS) samples/*.deck
+
+# The same demands with changes by libFuzzer, where clang has it.
+libfuzzer: library
+	mkdir -p target/fuzz/corpus
+	clang $(FUZZ_FLAGS) -fsanitize=fuzzer,address,undefined tests/fuzz/check.c target/staticlib/libplanner.a -o target/fuzz/libfuzzer
+	target/fuzz/libfuzzer -max_total_time=20 -max_len=1024 -artifact_prefix=target/fuzz/ target/fuzz/corpus samples

@@ -45,6 +45,12 @@ impl Counted {
         self.most_steiner = self.most_steiner.max(state.steiner.len());
     }
 
+    /// Counts a session, given the number of refusals before it.
+    pub fn session(&mut self, refused_before: usize) {
+        self.sessions += 1;
+        self.with_refusal += (self.refused > refused_before) as usize;
+    }
+
     /// At least a third of the sessions had a refused call.
     pub fn refused_often(&self) -> bool {
         3 * self.with_refusal >= self.sessions

@@ -60,13 +60,18 @@ impl Deck {
         }
     }
 
-    /// The state of the deck where it is sound, by the reference.
-    pub fn state(&self) -> Option<State> {
+    /// The points of the deck as they stand, where its counts are not too large.
+    pub fn points(&self) -> Option<State> {
         let points = |codes: &[u64]| codes.iter().map(|&k| point(k)).collect::<Vec<_>>();
-        let state = State {
+        Some(State {
             pins: points(self.pins.get(..self.npins)?),
             steiner: points(self.steiner.get(..self.nsteiner)?),
-        };
+        })
+    }
+
+    /// The state of the deck where it is sound, by the reference.
+    pub fn state(&self) -> Option<State> {
+        let state = self.points()?;
         (is_valid(&state) && Deck::of(&state) == *self).then_some(state)
     }
 

@@ -1,5 +1,6 @@
-//! The proved tree and the proved deck beside other implementations: the
-//! reference of document 01 for the tests, and two more for the bench.
+//! The proved tree, the proved deck and the proved entries for C beside other
+//! implementations: the reference of document 01 for the tests, and two more
+//! for the bench.
 
 pub mod agree;
 pub mod by_hand;
@@ -7,11 +8,15 @@ pub mod counted;
 pub mod damaged_trees;
 pub mod damages;
 pub mod deck;
+pub mod files;
+pub mod plans;
 pub mod points;
 pub mod proved;
 pub mod proved_deck;
+pub mod proved_planner;
 pub mod proved_questions;
 pub mod questions;
+pub mod replays;
 pub mod sessions;
 pub mod sorted_pairs;
 pub mod starts;

@@ -58,7 +58,13 @@ pub struct Shape {
 }
 
 /// The i-th call of a session. Most are taken, some are refused.
-fn some_call(random: &mut Random, place: &Place, state: &State, shape: Shape, i: usize) -> Call {
+pub fn some_call(
+    random: &mut Random,
+    place: &Place,
+    state: &State,
+    shape: Shape,
+    i: usize,
+) -> Call {
     let near = place.point(random);
     if i < shape.added {
         return Call::Add(near.x, near.y);
@@ -101,7 +107,6 @@ pub fn session(
             counted.questions += same_answers(random, &deck, &state, most);
         }
     }
-    counted.sessions += 1;
-    counted.with_refusal += (counted.refused > refused_before) as usize;
+    counted.session(refused_before);
     state
 }

@@ -1,0 +1,95 @@
+//! The example in C: it builds with no warning, plans the samples as the
+//! reference does, and passes on the number of a refusal.
+
+use compare::plans::{planned, Expected};
+use compare::starts::comb;
+use reference::damage::damaged;
+use reference::file::write;
+use reference::generate::{good_file, Random, KINDS};
+use std::fs::{self, File};
+use std::path::{Path, PathBuf};
+use std::process::Command;
+
+/// A path in the repository.
+fn at(path: &str) -> PathBuf {
+    Path::new(env!("CARGO_MANIFEST_DIR"))
+        .join("../..")
+        .join(path)
+}
+
+/// A path in the folder for what tests write.
+fn scratch(name: &str) -> PathBuf {
+    Path::new(env!("CARGO_TARGET_TMPDIR")).join(name)
+}
+
+/// Builds the example to a program of this name.
+fn build(name: &str) -> PathBuf {
+    let program = scratch(name);
+    let built = Command::new("gcc")
+        .args(["-std=c11", "-Wall", "-Wextra", "-Werror", "-I"])
+        .args([at("include"), at("examples/plan_file.c")])
+        .arg(at("target/staticlib/libplanner.a"))
+        .arg("-o")
+        .arg(&program)
+        .status();
+    assert!(built.expect("gcc").success());
+    program
+}
+
+/// What the program writes for a file, or the number with which it refuses it.
+fn run(program: &Path, file: &Path) -> Expected {
+    let input = File::open(file).expect("the file");
+    let output = Command::new(program).stdin(input).output().expect("a run");
+    let message = String::from_utf8(output.stderr).expect("text");
+    match output.status.code() {
+        Some(0) => {
+            assert_eq!(message, "");
+            Ok(output.stdout)
+        }
+        Some(number) => {
+            assert_eq!(message, format!("refused {number}\n"));
+            assert!(output.stdout.is_empty());
+            Err(number as u8)
+        }
+        None => panic!("stopped by a signal"),
+    }
+}
+
+#[test]
+fn the_samples() {
+    let program = build("plan_samples");
+    let mut planned_decks = 0;
+    for file in fs::read_dir(at("samples")).expect("the samples") {
+        let path = file.expect("a sample").path();
+        if path.extension().is_some_and(|ending| ending == "deck") {
+            let bytes = fs::read(&path).expect("a deck file");
+            let expected = planned(&bytes);
+            assert!(expected.is_ok(), "{path:?}");
+            assert_eq!(run(&program, &path), expected, "{path:?}");
+            planned_decks += 1;
+        }
+    }
+    assert!(planned_decks >= 3);
+}
+
+#[test]
+fn files_taken_and_refused() {
+    let program = build("plan_files");
+    let mut random = Random::new(79);
+    let longest = write(&comb(62));
+    let mut files = vec![vec![], longest.clone(), [&longest[..], &[0]].concat()];
+    files.push([&longest[..], &[0; 9_000]].concat());
+    files.extend(KINDS.map(|kind| good_file(&mut random, kind, 9)));
+    for number in 1..=6 {
+        files.push(damaged(&mut random, &[number]));
+    }
+    let mut refused = [0; 7];
+    let path = scratch("plan_files.deck");
+    for file in &files {
+        let expected = planned(file);
+        fs::write(&path, file).expect("a file written");
+        assert_eq!(run(&program, &path), expected);
+        refused[expected.err().unwrap_or(0) as usize] += 1;
+    }
+    assert_eq!(refused, [8, 4, 1, 1, 1, 1, 1]);
+}
