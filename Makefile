@@ -1,7 +1,7 @@
 # run: the listing of a sample deck. test: every test; the last line is the verdict of the prover. library: the planner for C.
 # programs: the programs in target/bin. bench: the time of scoring a crossing, by the proved functions and by others. fuzz: files
 # changed at random, to the planner for C.
-.PHONY: run test bench reference programs entries library fuzz libfuzzer
+.PHONY: run test reference_tests proved bench reference programs entries library fuzz libfuzzer
 
 SAMPLE = samples/example.deck
 
@@ -25,15 +25,20 @@ entries:
 	rt staticlib deck_entries
 	rt staticlib planner
 
+# The tests of the independent implementation run beside the proofs that the other tests need.
 test:
 	rt fmt --check
-	cd tests/reference && cargo test --release --offline --quiet
-	rt staticlib tree_entries
-	rt staticlib deck_entries
-	rt staticlib planner
-	rt check decklist
+	$(MAKE) -s -j2 -O reference_tests proved
 	cd tests/compare && cargo test --release --offline --quiet
 	rt ci
+
+reference_tests:
+	cd tests/reference && cargo test --release --offline --quiet
+
+# What the tests link and run.
+proved:
+	rt check tree_entries deck_entries planner decklist
+	$(MAKE) -s entries
 
 bench: entries
 	cd tests/compare && cargo run --release --offline --quiet --bin bench

@@ -71,12 +71,12 @@ shown-state : (b : List ℕ) (d : Deck) (h : Shown b d) → stateOf d ≡ h .sta
 shown-state b d h = ap stateOf (h .is) ∙ state-deck (h .state) (file-valid b (h .state) (h .read) .placed)
 
 -- A deck that was written is sound, and its file stands at the front of the buffer.
-record Wrote (d : Deck) (l : List ℕ) (n : ℕ) : Type 0 where
-  sound : Sound d
-  count : n ≡ length (fileOf (stateOf d))
-  front : left d l ≡ fileOf (stateOf d) ++ drop (length (fileOf (stateOf d))) l
+pub record Wrote (d : Deck) (l : List ℕ) (n : ℕ) : Type 0 where
+  pub sound : Sound d
+  pub count : n ≡ length (fileOf (stateOf d))
+  pub front : left d l ≡ fileOf (stateOf d) ++ drop (length (fileOf (stateOf d))) l
 
-wrote : (d : Deck) (l : List ℕ) (n : ℕ) → written d l ≡ Length n → Wrote d l n
+pub wrote : (d : Deck) (l : List ℕ) (n : ℕ) → written d l ≡ Length n → Wrote d l n
 unfolding written left
 wrote d l n e = go (sound d) refl (leb (length (fileOf (stateOf d))) (length l)) refl e
   where
@@ -88,7 +88,7 @@ wrote d l n e = go (sound d) refl (leb (length (fileOf (stateOf d))) (length l))
     go true p false q r = absurd (let z : _≡_ {A = ℕ} 0 1 = cc in omega arith)
     go false p y q r = absurd (let z : _≡_ {A = ℕ} 0 1 = cc in omega arith)
 
-wrote-file : (d : Deck) (l : List ℕ) (n : ℕ) → Wrote d l n → take n (left d l) ≡ fileOf (stateOf d)
+pub wrote-file : (d : Deck) (l : List ℕ) (n : ℕ) → Wrote d l n → take n (left d l) ≡ fileOf (stateOf d)
 wrote-file d l n w =
     ap (take n) (w .front) ∙ take-at (fileOf (stateOf d)) (drop (length (fileOf (stateOf d))) l) n (sym (w .count))
 

@@ -4,8 +4,7 @@ use mathlib.Core.Bool.{Bool, true, false}
 use mathlib.Core.List.{List, [], _∷_, _++_}
 use Prim.Native.Nat.{ℕ, _+_, _≤_, _<_}
 use native.Mathlib.Omega.{arith}
-use lib.ListN.{length, take, drop, length-append, length-drop}
-use lib.Seq.{length-take-le}
+use lib.ListN.{length}
 use borrow.Author.Tests.{le-leb}
 use Rattle.io.specs.Counts.{Counts}
 use Rattle.plane.specs.Test.{if}
@@ -25,13 +24,7 @@ use Rattle.listing.specs.Whole.{fitting, deckText}
 use Rattle.listing.proofs.Answering.{text-sound}
 use Rattle.planner.proofs.Serving.{Good, valid, number, read-good, end-valid, end-next}
 
--- What stands at the front of a slice of the same length is within it.
-pub counted : (l before after : List ℕ) (r : ℕ) → Front l before after r → Counts r after
-counted l before after r f =
-    let h : length after ≡ length l + length (drop (length l) before) = ap length (f .front) ∙ length-append l (drop (length l) before) in
-    let k : r ≤ length after = omega (arith, h, f .count) in
-    (k, sym (length-take-le r after k))
-
+-- Nothing is within a slice.
 pub none-counted : (l : List ℕ) → Counts 0 l
 none-counted l = (omega arith, refl)
 
