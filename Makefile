@@ -10,7 +10,7 @@ run: programs
 
 # The programs, proved and linked to target/bin.
 programs:
-	@rt check decklist
+	@rt check decklist >&2
 
 reference:
 	@cd tests/reference && cargo build --release --offline --quiet
