@@ -10,7 +10,7 @@ run: programs
 
 # The programs, proved and linked to target/bin.
 programs:
-	@rt check decklist >&2
+	@rt check decklist deckplay >&2
 
 reference:
 	@cd tests/reference && cargo build --release --offline --quiet
@@ -37,7 +37,7 @@ reference_tests:
 
 # What the tests link and run.
 proved:
-	rt check tree_entries deck_entries planner decklist
+	rt check tree_entries deck_entries planner decklist deckplay
 	$(MAKE) -s entries
 
 bench: entries

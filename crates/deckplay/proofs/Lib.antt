@@ -1,0 +1,4 @@
+pub mod Commands
+pub mod Playing
+pub mod Storing
+pub mod Taking

@@ -1,0 +1,25 @@
+-- `deckplay::answer::changed` meets its contract.
+use mathlib.Core.Path.{_≡_, refl, sym, ap, _∙_}
+use native.Mathlib.Omega.{arith}
+use Rattle.deckplay.specs.Play.{changes}
+use Rattle.deckplay.proofs.Playing.{plays}
+use borrow.Author.Needs.{needs}
+use Rattle.deckplay.proofs.answer.changed.Statement.{statement}
+use Rattle.deckplay.proofs.answer.changed.Tie as tie
+
+reply-line-requires : tie.Need-reply-line-requires
+reply-line-requires c κs = tt
+
+same-length : tie.Need-same-length
+same-length c = search needs
+
+returns : tie.Need-returns
+returns c = plays (changes (c .before .before .before .before .before .before .args .o)) 128 _ _ _ _ _ (omega arith) (c .before .before .before .before .before .before .pre) refl refl (c .before .before .reply-line .ensures)
+
+pub changed-spec : {M : Type 1} → statement M
+changed-spec =
+    tie.close
+    (tie.spec
+    reply-line-requires
+    same-length
+    returns)

@@ -1,0 +1,25 @@
+-- `deckplay::answer::failed` meets its contract.
+use mathlib.Core.Path.{_≡_, refl, sym, ap, _∙_}
+use native.Mathlib.Omega.{arith}
+use Rattle.deckplay.specs.Play.{stays}
+use Rattle.deckplay.proofs.Playing.{plays}
+use borrow.Author.Needs.{needs}
+use Rattle.deckplay.proofs.answer.failed.Statement.{statement}
+use Rattle.deckplay.proofs.answer.failed.Tie as tie
+
+error-line-requires : tie.Need-error-line-requires
+error-line-requires c κs = tt
+
+same-length : tie.Need-same-length
+same-length c = search needs
+
+returns : tie.Need-returns
+returns c = plays (stays (c .before .before .before .before .before .args .d) _) 128 _ _ _ _ _ (omega arith) (c .before .before .before .before .before .pre) refl refl (c .before .before .error-line .ensures)
+
+pub failed-spec : {M : Type 1} → statement M
+failed-spec =
+    tie.close
+    (tie.spec
+    error-line-requires
+    same-length
+    returns)

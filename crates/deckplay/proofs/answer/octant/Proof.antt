@@ -1,0 +1,49 @@
+-- `deckplay::answer::octant` meets its contract.
+use mathlib.Core.Path.{_≡_, refl, sym, ap, _∙_}
+use native.Mathlib.Omega.{arith}
+use Rattle.deckplay.specs.Play.{stays}
+use Rattle.deckplay.proofs.Playing.{plays, plays-same, octant-none, octant-some}
+use borrow.Author.Needs.{needs}
+use Rattle.deckplay.proofs.answer.octant.Statement.{statement}
+use Rattle.deckplay.proofs.answer.octant.Tie as tie
+
+octant-requires : tie.Need-octant-requires
+octant-requires c κs = tt
+
+failed-requires : tie.Need-failed-requires
+failed-requires c κs = search needs
+
+same-length : tie.Need-same-length
+same-length c = search needs
+
+returns : tie.Need-returns
+returns c =
+    let e = octant-none _ _ _ (c .before .before .before .before .before .octant .ensures) (c .before .before .before .before .before .before .before .fits .x) (c .before .before .before .before .before .before .before .fits .y) (c .before .before .before .before .if1 .taken) in
+    plays-same _ _ _ _ _ (ap (stays (c .before .before .before .before .before .before .before .args .d)) e) (c .before .before .failed .ensures)
+
+cast-octant-line : tie.Need-cast-octant-line
+cast-octant-line c = search needs
+
+octant-line-requires : tie.Need-octant-line-requires
+octant-line-requires c κs = tt
+
+same-length-2 : tie.Need-same-length-2
+same-length-2 c = search needs
+
+returns-2 : tie.Need-returns-2
+returns-2 c =
+    let e = octant-some _ _ _ (c .before .before .before .before .before .octant .ensures) (c .before .before .before .before .before .before .before .fits .x) (c .before .before .before .before .before .before .before .fits .y) (c .before .before .before .before .if1 .left) in
+    plays (stays (c .before .before .before .before .before .before .before .args .d) _) 128 _ _ _ _ _ (omega arith) (c .before .before .before .before .before .before .before .pre) refl e (c .before .before .octant-line .ensures)
+
+pub octant-spec : {M : Type 1} → statement M
+octant-spec =
+    tie.close
+    (tie.spec
+    octant-requires
+    failed-requires
+    same-length
+    returns
+    cast-octant-line
+    octant-line-requires
+    same-length-2
+    returns-2)

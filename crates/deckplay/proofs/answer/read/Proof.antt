@@ -1,0 +1,54 @@
+-- `deckplay::answer::read` meets its contract: the bytes of the line fit, so reading them is reading the file.
+use mathlib.Core.Path.{_≡_, refl, sym, ap, _∙_}
+use native.Mathlib.Omega.{arith}
+use lib.ListN.{length}
+use Rattle.script.proofs.Fitting.{read-fits}
+use Rattle.deckfile.specs.Reading.{reading}
+use Rattle.deckplay.specs.Play.{changes}
+use Rattle.deckplay.proofs.Playing.{plays-same, filled-within, filled-file}
+use borrow.Author.Needs.{needs}
+use Rattle.deckplay.proofs.answer.read.Statement.{statement}
+use Rattle.deckplay.proofs.answer.read.Tie as tie
+
+slice-aggregate-bytes-of : tie.Need-slice-aggregate-bytes-of
+slice-aggregate-bytes-of c = search needs
+
+bytes-of-requires : tie.Need-bytes-of-requires
+bytes-of-requires c κs = tt
+
+array-share-prefix-file : tie.Need-array-share-prefix-file
+array-share-prefix-file c =
+    let h : length (c .before .bytes-of .last .1 .0) ≡ 1000 = search needs in
+    filled-within _ _ _ _ (c .before .bytes-of .ensures) h .0
+
+slice-aggregate-read : tie.Need-slice-aggregate-read
+slice-aggregate-read c =
+    let h : length (c .before .before .bytes-of .last .1 .0) ≡ 1000 = search needs in
+    filled-within _ _ _ _ (c .before .before .bytes-of .ensures) h .1
+
+read-requires : tie.Need-read-requires
+read-requires c κs = tt
+
+changed-requires : tie.Need-changed-requires
+changed-requires c κs = search needs
+
+same-length : tie.Need-same-length
+same-length c = search needs
+
+returns : tie.Need-returns
+returns c =
+    let f = filled-file _ _ _ (c .before .before .before .before .before .before .before .bytes-of .ensures) (read-fits _ (c .before .before .before .before .before .before .before .before .before .before .before .pre .0)) in
+    plays-same _ _ _ _ _ (ap changes (c .before .before .before .before .read .ensures ∙ ap reading f)) (c .before .before .changed .ensures)
+
+pub read-spec : {M : Type 1} → statement M
+read-spec =
+    tie.close
+    (tie.spec
+    slice-aggregate-bytes-of
+    bytes-of-requires
+    array-share-prefix-file
+    slice-aggregate-read
+    read-requires
+    changed-requires
+    same-length
+    returns)

@@ -1,0 +1,14 @@
+-- `deckplay::lines::start` meets its contract.
+use borrow.Author.Needs.{needs}
+use Rattle.deckplay.proofs.Taking.{fresh}
+use Rattle.deckplay.proofs.lines.start.Statement.{statement}
+use Rattle.deckplay.proofs.lines.start.Tie as tie
+
+empty-requires : tie.Need-empty-requires
+empty-requires c κs = tt
+
+returns : tie.Need-returns
+returns c = fresh _ _ (c .empty .ensures)
+
+pub start-spec : {M : Type 1} → statement M
+start-spec = tie.close (tie.spec empty-requires returns)

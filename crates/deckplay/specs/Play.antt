@@ -1,0 +1,77 @@
+-- What one line of a script does to a deck, and the text of its answer, without a line feed.
+use mathlib.Core.Path.{_≡_}
+use mathlib.Core.List.{List, []}
+use Prim.Native.Nat.{ℕ, min}
+use lib.Dec.{leb, eqb}
+use lib.IntN.{ℤ}
+use lib.ListN.{length}
+use Rattle.io.specs.Counts as io
+use Rattle.plane.specs.Test.{if}
+use Rattle.plane.specs.Octant.{octant}
+use Rattle.model.specs.Call as call
+use Rattle.model.specs.File.{fileOf}
+use Rattle.tree.specs.Front.{Front}
+use Rattle.deck.specs.declared.Deck.{Deck}
+use Rattle.deck.specs.declared.calls.Outcome.{Outcome}
+use Rattle.deck.specs.declared.questions.Answer.the-variants as answer
+use Rattle.deck.specs.Form.{stateOf, sound}
+use Rattle.deck.specs.Calls.{called}
+use Rattle.deck.specs.Questions.{asked, lengthAnswer, countsAnswer, edgeAtAnswer, degreeAnswer}
+use Rattle.deckfile.specs.Reading.{reading}
+use Rattle.script.specs.declared.Command.{Command}
+use Rattle.script.specs.declared.Command.the-variants as command
+use Rattle.script.specs.Commands as script
+use Rattle.listing.specs.Encoding.{fileText, joinedLines}
+use Rattle.listing.specs.Replies.{errorWord, octantWord, numberText, replyText, answerText}
+use Rattle.listing.specs.Whole.{deckText}
+use Rattle.deckplay.specs.declared.answer.Played.{Played}
+
+-- The deck after a line, and the answer; an empty text is no answer.
+pub record Line : Type 0 where
+  pub next : Deck
+  pub text : List ℕ
+
+abbrev pub stays : Deck → List ℕ → Line
+stays d t = record { next = d; text = t }
+
+abbrev pub changes : Outcome → Line
+changes o = record { next = o .next; text = replyText (o .reply) }
+
+-- `write CAPACITY`: what writing into a buffer of n bytes answers, with the file that then stands in it.
+unfoldable pub writeText : Deck → ℕ → List ℕ
+writeText d n =
+    let file = fileOf (stateOf d) in
+    if (sound d)
+    (λ _. if (leb (length file) n) (λ _. fileText file) (λ _. answerText (answer.Refused 12)))
+    (λ _. answerText (answer.Refused 11))
+
+-- `octant DX DY`: `error` for 0 0.
+abbrev pub octantText : ℤ → ℤ → List ℕ
+octantText x y = let k = octant x y in if (eqb k 8) (λ _. errorWord) (λ _. numberText octantWord k)
+
+-- What a command asks for. No buffer for a file is longer than the longest file.
+unfoldable pub lineOf : Deck → List ℕ → Command → Line
+lineOf d b command.Blank = stays d []
+lineOf d b command.Error = stays d errorWord
+lineOf d b command.Read = changes (reading (script.fileOf b))
+lineOf d b (command.Write n) = stays d (writeText d (min n 784))
+lineOf d b (command.Add x y) = changes (called d (call.add (record { x = x; y = y })))
+lineOf d b (command.Withdraw x y) = changes (called d (call.withdraw (record { x = x; y = y })))
+lineOf d b command.Round = changes (called d call.oneRound)
+lineOf d b command.Finish = changes (called d call.runToEnd)
+lineOf d b command.Length = stays d (answerText (asked d lengthAnswer))
+lineOf d b command.Counts = stays d (answerText (asked d countsAnswer))
+lineOf d b (command.Run i) = stays d (answerText (asked d (edgeAtAnswer i)))
+lineOf d b (command.Degree x y) = stays d (answerText (asked d (degreeAnswer (record { x = x; y = y }))))
+lineOf d b (command.Octant x y) = stays d (octantText x y)
+lineOf d b command.List = stays d (joinedLines (deckText d))
+
+-- What a line does.
+abbrev pub played : Deck → List ℕ → Line
+played d b = lineOf d b (script.commandOf b)
+
+-- The answer of a line stands at the front of the slice.
+pub record Plays (a : Line) (before after : List ℕ) (r : Played) : Type 0 where
+  pub next : r .next ≡ a .next
+  pub front : Front (a .text) before after (r .length)
+  pub counts : io.Counts (r .length) after

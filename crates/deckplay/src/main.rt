@@ -1,0 +1,42 @@
+// Plays a script of calls: on standard input one call a line, on standard output one answer line for each.
+mod answer;
+mod lines;
+
+use lines::Reader;
+use lines::end;
+use lines::start;
+use lines::take;
+ghost use Rattle.deckplay.specs.Lines.{Reads};
+
+// Takes the bytes that were read.
+fn take_all(r: Reader, bytes: &[u8]) -> Reader
+    requires { ⌜ Reads r ⌝ }
+    ensures { λ s. ⌜ Reads s ⌝ }
+{
+    let mut s = r;
+    let mut i = 0;
+    while i < bytes.len() {
+        s = take(s, bytes[i]);
+        i += 1;
+    }
+    s
+}
+
+// A proved loop has to end, and nothing says that the input does: the loop counts its turns down, from a number that no run uses up.
+fn main() {
+    let mut s = start();
+    let mut chunk = [0u8; 4096];
+    let mut turns = u64::MAX;
+    while 0 < turns {
+        let got = libc::read(0, &mut chunk);
+        let n = io::count(got, &chunk);
+        if n == 0 {
+            break;
+        }
+        s = take_all(s, &chunk[..n]);
+        turns -= 1;
+    }
+    if 0 < s.length {
+        end(s);
+    }
+}
