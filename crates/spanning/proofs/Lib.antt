@@ -12,3 +12,5 @@ pub mod Totals
 pub mod Count
 pub mod Degree
 pub mod Tree
+pub mod Inserted
+pub mod OneMore

@@ -1,3 +1,4 @@
+pub mod Bottleneck
 pub mod Graph
 pub mod Kruskal
 pub mod Order

@@ -1,0 +1,4 @@
+pub mod Bounds
+pub mod Gains
+pub mod Whole
+pub mod Length

@@ -1,0 +1,29 @@
+-- What a crossing spares. A code is an edge from the crossing to a held point: its length times 128, and the point's number.
+use mathlib.Core.List.{List, [], _∷_}
+use Prim.Native.Nat.{ℕ, _+_, _*_, _-_, _/_, _%_, min, max}
+
+-- An edge of length d to the point j.
+abbrev pub code : ℕ → ℕ → ℕ
+code d j = d * 128 + j
+
+-- Its length and its point.
+abbrev pub codeLength : ℕ → ℕ
+codeLength k = k / 128
+
+abbrev pub codePoint : ℕ → ℕ
+codePoint k = k % 128
+
+-- Longer than every edge between two places.
+abbrev pub far : ℕ
+far = 131072
+
+-- The bottleneck of the crossing and the point q: over one of the edges in `past`, or over an edge of length `far`. The function t
+-- gives the bottleneck of two held points.
+unfoldable pub bound : (ℕ → ℕ → ℕ) → List ℕ → ℕ → ℕ
+bound t [] q = far
+bound t (k ∷ past) q = min (max (codeLength k) (t (codePoint k) q)) (bound t past q)
+
+-- How much the edges of a list, taken one after the other, lower the least weight, if those in `past` are there already.
+unfoldable pub gain : (ℕ → ℕ → ℕ) → List ℕ → List ℕ → ℕ
+gain t past [] = 0
+gain t past (k ∷ ks) = (bound t past (codePoint k) - codeLength k) + gain t (k ∷ past) ks
