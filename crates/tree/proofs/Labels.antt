@@ -1,13 +1,17 @@
--- Filling an array of 128 labels one after the other: what stands below i is done, and the rest is as it was.
+-- Filling an array of 128 labels one after the other: what stands below i is done, and the rest is as it was. And what a label that
+-- is moved stands for: the representative under one key more.
 use mathlib.Core.Path.{_≡_, refl, sym, ap, _∙_}
 use mathlib.Core.Logic.{dite}
-use mathlib.Core.List.{List}
+use mathlib.Core.List.{List, _∷_}
 use Prim.Native.Nat.{ℕ, _+_, _≤_, _<_}
 use native.Mathlib.Decide.{ℕ-discrete}
 use native.Mathlib.Omega.{arith}
 use borrow.Author.Tests.{eq-eqb, ne-eqb}
 use lib.ListN.{length, getD, set, length-set}
 use lib.Seq.{getD-set-same, getD-set-other}
+use Rattle.spanning.specs.Kruskal.{comp}
+use Rattle.spanning.proofs.Component.{comp-hit, comp-miss}
+use Rattle.tree.specs.Keys.{keyGraph, low, high}
 use Rattle.tree.specs.Front.{moved}
 
 -- The two outcomes of the test in `moved`.
@@ -16,6 +20,17 @@ moved-hit a b c e = rw (eq-eqb c a e)
 
 pub moved-miss : (a b c : ℕ) → ¬ (c ≡ a) → moved a b c ≡ c
 moved-miss a b c n = rw (ne-eqb c a n)
+
+-- Where a label is the representative under the keys seen, and a and b are those of the ends of a key k, the label moved is
+-- the representative under k and the keys seen.
+pub relabelled :
+    (seen : List ℕ) (k a b : ℕ) → a ≡ comp keyGraph seen (low k) → b ≡ comp keyGraph seen (high k)
+    → (u c : ℕ) → c ≡ comp keyGraph seen u → moved a b c ≡ comp keyGraph (k ∷ seen) u
+unfolding keyGraph
+relabelled seen k a b ha hb u c e =
+    dite (ℕ-discrete c a)
+    (λ p. moved-hit a b c p ∙ hb ∙ sym (comp-hit keyGraph seen k u (sym e ∙ p ∙ ha)))
+    (λ m. moved-miss a b c m ∙ e ∙ sym (comp-miss keyGraph seen k u (λ q. m (e ∙ q ∙ sym ha))))
 
 -- The labels below i are what f says, and the others are as in `old`.
 pub record Filled (f : ℕ → ℕ) (old new : List ℕ) (i : ℕ) : Type 0 where

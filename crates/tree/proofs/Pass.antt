@@ -1,20 +1,18 @@
 -- Kruskal's pass, one key at a time: the labels are the representatives under the keys kept so far, and what is kept, with
 -- what Kruskal's method keeps of the rest, is all that it keeps.
 use mathlib.Core.Path.{_≡_, refl, sym, ap, _∙_}
-use mathlib.Core.Logic.{dite}
 use mathlib.Core.List.{List, [], _∷_, _++_, append-nil}
 use Prim.Native.Nat.{ℕ, suc, _+_, _*_, _≤_, _<_}
-use native.Mathlib.Decide.{ℕ-discrete}
 use native.Mathlib.Numerals.{add-one}
 use native.Mathlib.Omega.{arith}
 use lib.ListN.{length, take, drop, getD, set, length-append, length-set, length-take}
 use lib.Seq.{slice-cons, slice-empty, append-snoc, drop-cons, set-at}
 use Rattle.spanning.specs.Graph.{total}
 use Rattle.spanning.specs.Kruskal.{comp, kruskal}
-use Rattle.spanning.proofs.Component.{comp-hit, comp-miss, kruskal-skip, kruskal-keep, kruskal-cases}
+use Rattle.spanning.proofs.Component.{kruskal-skip, kruskal-keep, kruskal-cases}
 use Rattle.tree.specs.Keys.{keyGraph, weight, low, high}
 use Rattle.tree.specs.Front.{Spans, moved}
-use Rattle.tree.proofs.Labels.{moved-hit, moved-miss}
+use Rattle.tree.proofs.Labels.{relabelled}
 
 -- After the first i keys: those that were kept stand at the front of the array, in their order in `kept` and latest first in `seen`.
 pub record Pass (keys : List ℕ) (count : ℕ) (old new labels : List ℕ) (n sum i : ℕ) : Type 0 where
@@ -111,13 +109,6 @@ module _ (keys : List ℕ) (count : ℕ) (old : List ℕ) (size : count ≤ leng
             ∙ r .rest;
       }
 
-      relabelled : (u c : ℕ) → c ≡ comp keyGraph (r .seen) u → moved a b c ≡ comp keyGraph (k ∷ r .seen) u
-      unfolding keyGraph
-      relabelled u c e =
-          dite (ℕ-discrete c a)
-          (λ p. moved-hit a b c p ∙ b-is ∙ sym (comp-hit keyGraph (r .seen) k u (sym e ∙ p ∙ a-is)))
-          (λ m. moved-miss a b c m ∙ e ∙ sym (comp-miss keyGraph (r .seen) k u (λ q. m (e ∙ q ∙ sym a-is))))
-
       pub pass-keep :
           ¬ (a ≡ b) → (w : ℕ) → (w ≡ weight k) × (w < 1125899906842624) → (labels′ : List ℕ) → length labels′ ≡ length labels
           → ((u : ℕ) → u < 128 → getD labels′ u 0 ≡ moved a b (getD labels u 0))
@@ -134,7 +125,7 @@ module _ (keys : List ℕ) (count : ℕ) (old : List ℕ) (size : count ≤ leng
             fits = omega (arith, r .fits);
             labelled = same ∙ r .labelled;
             size = length-set new n k ∙ r .size;
-            label = λ u g. e u g ∙ relabelled u (getD labels u 0) (r .label u g);
+            label = λ u g. e u g ∙ relabelled (r .seen) k a b a-is b-is u (getD labels u 0) (r .label u g);
             count-kept = omega (arith, r .count-kept);
             front = rw (r .front, long, append-snoc, drop-cons old (length (r .kept)) 0 (omega (arith, r .count-kept, r .few)))
                 (set-at (r .kept) (getD old (length (r .kept)) 0) (drop (suc (length (r .kept))) old) k n (sym (r .count-kept)));

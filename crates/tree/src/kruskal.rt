@@ -29,7 +29,7 @@ fn choice(c: u8, a: u8, b: u8) -> u8
 }
 
 // Puts the label b in the place of the label a, everywhere.
-fn relabel(labels: &mut [u8], a: u8, b: u8)
+pub fn relabel(labels: &mut [u8], a: u8, b: u8)
     requires { ⌜ length (now labels) ≡ 128 ⌝ }
     ensures { λ _. ⌜ ((u : ℕ) → u < 128 → getD (now (labels .exit)) u 0 ≡ moved a b (getD (now (labels .entry)) u 0)) ⌝ }
 {
@@ -41,7 +41,7 @@ fn relabel(labels: &mut [u8], a: u8, b: u8)
 }
 
 // Gives each number its own label.
-fn separate(labels: &mut [u8])
+pub fn separate(labels: &mut [u8])
     requires { ⌜ length (now labels) ≡ 128 ⌝ }
     ensures { λ _. ⌜ ((u : ℕ) → u < 128 → getD (now (labels .exit)) u 0 ≡ u) ⌝ }
 {

@@ -1,0 +1,4 @@
+pub mod Front
+pub mod Merge
+pub mod Pass
+pub mod Row
