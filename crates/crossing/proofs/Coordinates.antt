@@ -15,6 +15,7 @@ use Rattle.plane.proofs.Stored.{coordinate-less}
 use Rattle.model.specs.Set.{sort}
 use Rattle.model.proofs.Set.{sort-in}
 use Rattle.model.proofs.SetMap.{union-map}
+use Rattle.sets.proofs.Rising.{get-in}
 use Rattle.tree.specs.Held.{held}
 use Rattle.tree.specs.Keys.{tab}
 use Rattle.tree.proofs.Step.{Words}
@@ -51,11 +52,6 @@ word-in : (l : List ℕ) (n v : ℕ) → Words l → List·Memᴰ v (take n l) �
 word-in l zero v w i = absurd (not-nil i)
 word-in [] (suc n) v w i = absurd (not-nil i)
 word-in (a ∷ l) (suc n) v w i = ⊎-elim (λ e. omega (arith, e, w 0)) (λ j. word-in l n v (λ k. w (suc k)) j) (cases i)
-
-get-in : (l : List ℕ) (i : ℕ) → i < length l → List·Memᴰ (getD l i 0) l
-get-in [] i h = absurd (omega arith)
-get-in (a ∷ l) zero h = head refl
-get-in (a ∷ l) (suc i) h = tail (get-in l i (omega arith))
 
 pub line-word : (values : List ℕ) (n : ℕ) (to : List ℕ) (count i : ℕ) → Words values → Lines values n to count → i < count → getD to i 0 < 65536
 line-word values n to count i w p h =

@@ -1,7 +1,8 @@
 pub mod Answer
+pub mod Columns
 pub mod Coordinates
 pub mod Gather
-pub mod Places
+pub mod Preparing
 pub mod Scan
 pub mod Steps
 pub mod Sum

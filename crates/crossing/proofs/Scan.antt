@@ -1,17 +1,21 @@
 -- The search over a list of crossings: part by part it is the search over the whole, and what it finds is what the model's
--- search finds, since a greater saving is a shorter tree.
-use mathlib.Core.Path.{_≡_, refl, sym, ap, _∙_}
+-- search finds, since a greater gain is a greater saving. A crossing where a point is held gains no more than the tree itself.
+use mathlib.Core.Path.{_≡_, refl, sym, ap, _∙_, subst}
 use mathlib.Core.Bool.{Bool, true, false}
 use mathlib.Core.Option.{Option, none, some}
 use mathlib.Core.List.{List, [], _∷_, _++_}
-use Prim.Native.Nat.{ℕ, _≤_, _<_}
+use Prim.Native.Nat.{ℕ, _+_, _-_, _≤_, _<_}
+use native.Mathlib.Decide.{decLt}
 use native.Mathlib.Omega.{arith}
-use lib.Dec.{ltb, ltb→lt, lt→ltb}
+use lib.Dec.{T, ltb, ltb→lt, lt→ltb}
 use lib.IntN.{ℤ, pos, subℕ}
 use lib.Signed.{ltZ}
+use borrow.Author.Tests.{lt-ltb, le-ltb}
+use Rattle.spanning.specs.Order.{Sorted}
 use Rattle.plane.specs.Test.{if}
-use Rattle.plane.specs.Point.{Point, lower}
+use Rattle.plane.specs.Point.{Point, lower, Lower}
 use Rattle.plane.specs.Stored.{pointAt}
+use Rattle.plane.proofs.Order.{lower-order}
 use Rattle.plane.proofs.Stored.{biased-coordinate}
 use Rattle.plane.proofs.Test.{same-test}
 use Rattle.plane.proofs.Whole.{whole-ext, sub-value}
@@ -19,18 +23,14 @@ use Rattle.model.specs.Set.{put, has}
 use Rattle.model.specs.Tree.{treeLength}
 use Rattle.model.specs.Round.{crossings, notHeld, candidates, saving, bestAbove, best}
 use Rattle.model.proofs.Candidate.{save-less, less-save}
+use Rattle.model.proofs.Set.{has-in, put-same}
+use Rattle.score.specs.Gain.{far}
+use Rattle.score.specs.Prepared.{sparedBy}
 use Rattle.crossing.specs.declared.found.Best.the-variants.{At}
-use Rattle.crossing.specs.declared.found.Shortest.{Shortest}
-use Rattle.crossing.specs.Search.{xsOf, ysOf, shorter, tried, tryAll, lengthAt, shortestAt}
-use borrow.Author.Tests.{lt-ltb, le-ltb}
+use Rattle.crossing.specs.declared.found.Greatest.{Greatest}
+use Rattle.crossing.specs.Search.{xsOf, ysOf, greater, tried, tryAll, gainAt, greatestAt}
 
--- Two choices by equal tests, seen alike in each arm.
-if-both : {A B C : Type 0} (f : A → C) (g : B → C) (b c : Bool) (x y : Unit {0} → A) (x′ y′ : Unit {0} → B) → b ≡ c
-    → f (x tt) ≡ g (x′ tt) → f (y tt) ≡ g (y′ tt) → f (if b x y) ≡ g (if c x′ y′)
-if-both f g b true x y x′ y′ e p q = ap (λ (z : Bool). f (if z x y)) e ∙ p
-if-both f g b false x y x′ y′ e p q = ap (λ (z : Bool). f (if z x y)) e ∙ q
-
-pub try-append : (ps : List Point) (s : Shortest) (a b : List Point) → tryAll ps s (a ++ b) ≡ tryAll ps (tryAll ps s a) b
+pub try-append : (ps : List Point) (s : Greatest) (a b : List Point) → tryAll ps s (a ++ b) ≡ tryAll ps (tryAll ps s a) b
 unfolding tryAll
 try-append ps s [] b = refl
 try-append ps s (c ∷ a) b = try-append ps (tried ps s c) a b
@@ -43,50 +43,78 @@ saves-more now m n =
 no-saving : (now : ℕ) → pos 0 ≡ subℕ now now
 no-saving now = whole-ext (pos 0) (subℕ now now) (omega (arith, sub-value now now))
 
--- From what was found before, with its length: what the model's search finds from that saving on among those not held, with its
--- length. The saving is counted from any length `now`.
-pub try-best : (now : ℕ) (ps : List Point) (start : ℕ) (found : Option Point) (l : List Point)
-    → tryAll ps (shortestAt ps start found) l
-    ≡ shortestAt ps start (bestAbove now ps (subℕ now (lengthAt ps start found)) found (notHeld ps l))
-unfolding tryAll tried shorter notHeld bestAbove saving
-try-best now ps start found [] = refl
-try-best now ps start found (c ∷ l) =
-    let m : ℕ = lengthAt ps start found in
-    let v : ℕ = treeLength (put lower c ps) in
-    if-both (λ (s : Shortest). tryAll ps s l) (λ (k : List Point). shortestAt ps start (bestAbove now ps (subℕ now m) found k)) (has lower c ps) (has lower c ps)
-    _ _ _ _ refl (try-best now ps start found l)
-    (if-both (λ (s : Shortest). tryAll ps s l) (shortestAt ps start) (ltb v m) (ltZ (subℕ now m) (subℕ now v)) _ _ _ _ (saves-more now m v)
-    (try-best now ps start (some c) l) (try-best now ps start found l))
+-- The length of the tree with the point that was found, or of the tree itself where none was.
+abbrev lengthAt : List Point → Option Point → ℕ
+lengthAt ps none = treeLength ps
+lengthAt ps (some c) = treeLength (put lower c ps)
 
--- From the tree itself: the lowest of greatest saving above 0.
-pub try-from-tree : (ps l : List Point)
-    → tryAll ps (shortestAt ps (treeLength ps) none) l
-    ≡ shortestAt ps (treeLength ps) (bestAbove (treeLength ps) ps (pos 0) none (notHeld ps l))
-try-from-tree ps l =
-    try-best (treeLength ps) ps (treeLength ps) none l
-    ∙ ap (λ (z : ℤ). shortestAt ps (treeLength ps) (bestAbove (treeLength ps) ps z none (notHeld ps l))) (sym (no-saving (treeLength ps)))
+gain-is : (ps : List Point) (found : Option Point) → gainAt ps found ≡ far + treeLength ps - lengthAt ps found
+gain-is ps none = omega arith
+gain-is ps (some c) = refl
 
--- Among all crossings: the best candidate.
-pub try-crossings : (ps : List Point)
-    → tryAll ps (shortestAt ps (treeLength ps) none) (crossings (xsOf ps) (ysOf ps)) ≡ shortestAt ps (treeLength ps) (best ps)
-unfolding best candidates
-try-crossings ps = try-from-tree ps (crossings (xsOf ps) (ysOf ps))
+module _ (ps : List Point) (found : Option Point) (short : lengthAt ps found ≤ treeLength ps) (c : Point) (l : List Point) where
+  abbrev m : ℕ
+  m = lengthAt ps found
 
--- One crossing: it is held, or it makes the tree shorter, or neither.
-module _ (ps : List Point) (s : Shortest) (x y : ℕ) (b : Bool) (is : b ≡ has lower (pointAt x y) ps) where
-  pub try-held : b ≡ true → s ≡ tried ps s (pointAt x y)
+  abbrev v : ℕ
+  v = treeLength (put lower c ps)
+
+  -- One crossing more makes the tree shorter than what was found, or it does not.
+  win : v < m → tried ps (greatestAt ps found) c ≡ greatestAt ps (some c)
   unfolding tried
-  try-held e = rw (sym is ∙ e)
+  win h = rw (lt-ltb (gainAt ps found) (sparedBy ps c) (omega (arith, h, gain-is ps found, short)))
 
-  pub try-shorter : b ≡ false → (v : ℕ) → v ≡ treeLength (put lower (pointAt x y) ps) → v < s .length
-      → record { length = v; best = At x y } ≡ tried ps s (pointAt x y)
-  unfolding tried shorter
-  try-shorter e v ev h =
-      let w : ℕ = treeLength (put lower (pointAt x y) ps) in
-      rw (sym is ∙ e, lt-ltb w (s .length) (omega arith), biased-coordinate x, biased-coordinate y, ev)
+  lose : m ≤ v → tried ps (greatestAt ps found) c ≡ greatestAt ps found
+  unfolding tried
+  lose h = rw (le-ltb (gainAt ps found) (sparedBy ps c) (omega (arith, h, gain-is ps found)))
 
-  pub try-longer : b ≡ false → (v : ℕ) → v ≡ treeLength (put lower (pointAt x y) ps) → s .length ≤ v → s ≡ tried ps s (pointAt x y)
-  unfolding tried shorter
-  try-longer e v ev h =
-      let w : ℕ = treeLength (put lower (pointAt x y) ps) in
-      rw (sym is ∙ e, le-ltb w (s .length) (omega arith))
+  -- The model's search does the same.
+  model-held : has lower c ps ≡ true
+      → bestAbove (treeLength ps) ps (subℕ (treeLength ps) m) found (notHeld ps (c ∷ l)) ≡ bestAbove (treeLength ps) ps (subℕ (treeLength ps) m) found (notHeld ps l)
+  unfolding notHeld
+  model-held e = rw e
+
+  model-win : has lower c ps ≡ false → v < m
+      → bestAbove (treeLength ps) ps (subℕ (treeLength ps) m) found (notHeld ps (c ∷ l)) ≡ bestAbove (treeLength ps) ps (subℕ (treeLength ps) v) (some c) (notHeld ps l)
+  unfolding notHeld bestAbove saving
+  model-win e h = rw (e, sym (saves-more (treeLength ps) m v), lt-ltb v m h)
+
+  model-lose : has lower c ps ≡ false → m ≤ v
+      → bestAbove (treeLength ps) ps (subℕ (treeLength ps) m) found (notHeld ps (c ∷ l)) ≡ bestAbove (treeLength ps) ps (subℕ (treeLength ps) m) found (notHeld ps l)
+  unfolding notHeld bestAbove saving
+  model-lose e h = rw (e, sym (saves-more (treeLength ps) m v), le-ltb v m h)
+
+-- From what was found before: what the model's search finds from that saving on among those not held.
+pub try-best : (ps : List Point) → Sorted Lower ps → (found : Option Point) → lengthAt ps found ≤ treeLength ps → (l : List Point)
+    → tryAll ps (greatestAt ps found) l
+    ≡ greatestAt ps (bestAbove (treeLength ps) ps (subℕ (treeLength ps) (lengthAt ps found)) found (notHeld ps l))
+unfolding tryAll notHeld bestAbove
+try-best ps s found h [] = refl
+try-best ps s found h (c ∷ l) = go (has lower c ps) refl (decLt (treeLength (put lower c ps)) (lengthAt ps found)) (try-best ps s found h l) (λ q. try-best ps s (some c) q l)
+  where
+    go : (b : Bool) → has lower c ps ≡ b → Dec (treeLength (put lower c ps) < lengthAt ps found)
+        → tryAll ps (greatestAt ps found) l ≡ greatestAt ps (bestAbove (treeLength ps) ps (subℕ (treeLength ps) (lengthAt ps found)) found (notHeld ps l))
+        → (treeLength (put lower c ps) ≤ treeLength ps
+        → tryAll ps (greatestAt ps (some c)) l ≡ greatestAt ps (bestAbove (treeLength ps) ps (subℕ (treeLength ps) (treeLength (put lower c ps))) (some c) (notHeld ps l)))
+        → tryAll ps (tried ps (greatestAt ps found) c) l ≡ greatestAt ps (bestAbove (treeLength ps) ps (subℕ (treeLength ps) (lengthAt ps found)) found (notHeld ps (c ∷ l)))
+    go true e d same other =
+        ap (λ (t : Greatest). tryAll ps t l)
+        (lose ps found h c l (omega (arith, h, ap treeLength (put-same lower lower-order c ps s (has-in lower lower-order c ps .0 (subst T (sym e) tt))))))
+        ∙ same ∙ sym (ap (greatestAt ps) (model-held ps found h c l e))
+    go false e (yes q) same other =
+        ap (λ (t : Greatest). tryAll ps t l) (win ps found h c l q) ∙ other (omega (arith, h, q)) ∙ sym (ap (greatestAt ps) (model-win ps found h c l e q))
+    go false e (no q) same other =
+        ap (λ (t : Greatest). tryAll ps t l) (lose ps found h c l (omega arith)) ∙ same ∙ sym (ap (greatestAt ps) (model-lose ps found h c l e (omega arith)))
+
+-- From the tree itself, among all crossings: the best candidate.
+pub try-crossings : (ps : List Point) → Sorted Lower ps
+    → tryAll ps (greatestAt ps none) (crossings (xsOf ps) (ysOf ps)) ≡ greatestAt ps (best ps)
+unfolding best candidates
+try-crossings ps s =
+    try-best ps s none (omega arith) (crossings (xsOf ps) (ysOf ps))
+    ∙ ap (λ (z : ℤ). greatestAt ps (bestAbove (treeLength ps) ps z none (notHeld ps (crossings (xsOf ps) (ysOf ps))))) (sym (no-saving (treeLength ps)))
+
+-- One crossing, by its gain.
+pub tried-is : (ps : List Point) (s : Greatest) (g x y : ℕ) → g ≡ sparedBy ps (pointAt x y) → greater s g x y ≡ tried ps s (pointAt x y)
+unfolding tried
+tried-is ps s g x y e = rw (← e, biased-coordinate x, biased-coordinate y)

@@ -5,19 +5,23 @@ use mathlib.Core.List.{List, [], _∷_, map}
 use Prim.Native.Nat.{ℕ, _≤_, _<_}
 use lib.Dec.{ltb}
 use lib.IntN.{ℤ}
-use lib.ListN.{length, take}
+use lib.ListN.{length, take, getD}
 use lib.Signed.{ltZ}
 use Rattle.plane.specs.Test.{if}
-use Rattle.plane.specs.Point.{Point, lower}
+use Rattle.plane.specs.Point.{Point}
 use Rattle.plane.specs.Coordinate.{biased}
-use Rattle.model.specs.Set.{put, has, sort}
-use Rattle.model.specs.Tree.{treeLength}
+use Rattle.plane.specs.Stored.{pointAt}
+use Rattle.model.specs.Set.{sort}
 use Rattle.tree.specs.Build.{Rises}
 use Rattle.tree.specs.Held.{held}
 use Rattle.tree.specs.Keys.{tab, treeKeys}
+use Rattle.score.specs.Gain.{far, tableAt, gain}
+use Rattle.score.specs.Rows.{RowsGiven}
+use Rattle.score.specs.Nearest.{ColumnGiven}
+use Rattle.score.specs.Prepared.{sparedBy}
 use Rattle.crossing.specs.declared.found.Best.{Best}
 use Rattle.crossing.specs.declared.found.Best.the-variants.{Nothing, At}
-use Rattle.crossing.specs.declared.found.Shortest.{Shortest}
+use Rattle.crossing.specs.declared.found.Greatest.{Greatest}
 
 -- The first n points rise, and the first m keys are those of their tree.
 pub record TreeGiven (xs ys : List ℕ) (n : ℕ) (keys : List ℕ) (m : ℕ) : Type 0 where
@@ -49,26 +53,43 @@ xsOf ps = sort ltZ (map (λ (p : Point). p .x) ps)
 abbrev pub ysOf : List Point → List ℤ
 ysOf ps = sort ltZ (map (λ (p : Point). p .y) ps)
 
--- The best so far, or the crossing c where it makes the tree shorter.
-unfoldable pub shorter : List Point → Shortest → Point → Shortest
-shorter ps s c =
-    let v = treeLength (put lower c ps) in
-    if (ltb v (s .length)) (λ _. record { length = v; best = answerOf (some c) }) (λ _. s)
+-- What the search over columns asks: room for the codes of a column, and the table.
+pub record SearchGiven (xs : List ℕ) (n : ℕ) (table gaps ranks rows : List ℕ) (count : ℕ) : Type 0 where
+  pub room : ColumnGiven xs gaps ranks n count 128 128 128 128
+  pub size : length table ≡ 16384
+  pub given : RowsGiven rows count
 
--- The same where c is not held.
-unfoldable pub tried : List Point → Shortest → Point → Shortest
-tried ps s c = if (has lower c ps) (λ _. s) (λ _. shorter ps s c)
+-- The first `width` numbers are stored coordinates.
+pub record Stored (columns : List ℕ) (width : ℕ) : Type 0 where
+  pub within : width ≤ length columns
+  pub stored : (i : ℕ) → i < width → getD columns i 0 ≤ 65535
+
+-- At each of the first `count` rows the four codes gain what the crossing of x with the row spares.
+abbrev pub Spares : List ℕ → ℕ → List ℕ → ℕ → List ℕ → List ℕ → List ℕ → List ℕ → List Point → Type 0
+Spares table x rows count east west north south ps =
+    (i : ℕ) → i < count
+    → gain (tableAt table) [] (getD east i 0 ∷ getD west i 0 ∷ getD north i 0 ∷ getD south i 0 ∷ []) ≡ sparedBy ps (pointAt x (getD rows i 0))
+
+-- The best so far, or the crossing at (x, y) where its gain g is greater.
+abbrev pub greater : Greatest → ℕ → ℕ → ℕ → Greatest
+greater s g x y = if (ltb (s .gain) g) (λ _. record { gain = g; best = At x y }) (λ _. s)
+
+-- The best so far, or the crossing c where it spares more.
+unfoldable pub tried : List Point → Greatest → Point → Greatest
+tried ps s c =
+    let g = sparedBy ps c in
+    if (ltb (s .gain) g) (λ _. record { gain = g; best = answerOf (some c) }) (λ _. s)
 
 -- The same for each crossing of a list in turn.
-unfoldable pub tryAll : List Point → Shortest → List Point → Shortest
+unfoldable pub tryAll : List Point → Greatest → List Point → Greatest
 tryAll ps s [] = s
 tryAll ps s (c ∷ l) = tryAll ps (tried ps s c) l
 
--- The length of the tree with the point that was found, or `start` where none was.
-abbrev pub lengthAt : List Point → ℕ → Option Point → ℕ
-lengthAt ps start none = start
-lengthAt ps start (some c) = treeLength (put lower c ps)
+-- What the point that was found spares; `far` where none was, since the tree itself has no edge to a crossing.
+abbrev pub gainAt : List Point → Option Point → ℕ
+gainAt ps none = far
+gainAt ps (some c) = sparedBy ps c
 
--- What was found, with that length.
-abbrev pub shortestAt : List Point → ℕ → Option Point → Shortest
-shortestAt ps start found = record { length = lengthAt ps start found; best = answerOf found }
+-- What was found, with that gain.
+abbrev pub greatestAt : List Point → Option Point → Greatest
+greatestAt ps found = record { gain = gainAt ps found; best = answerOf found }

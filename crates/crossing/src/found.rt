@@ -6,8 +6,8 @@ pub enum Best {
     At(u16, u16),
 }
 
-// The shortest length so far, and the crossing that gives it; nothing while that is the length of the tree itself.
-pub struct Shortest {
-    pub length: u64,
+// The greatest gain so far, and the crossing that gives it; nothing while no crossing gains more than makes up for the edge to it.
+pub struct Greatest {
+    pub gain: u32,
     pub best: Best,
 }

@@ -3,22 +3,25 @@
 //
 // The points are the first n of two slices of stored coordinates, lower first, and the keys of their tree the first m of `keys`.
 pub mod found;
+pub mod search;
 
 use found::Best;
-use found::Shortest;
+use found::Greatest;
+use score::gain::FAR;
+use score::rows::all_gaps;
+use score::rows::all_ranks;
+use score::rows::blank;
+use search::all_columns;
 ghost use mathlib.Core.Path.{_≡_};
-ghost use Prim.Native.Nat.{_≤_};
+ghost use Prim.Native.Nat.{_≤_, _<_};
 ghost use lib.Dec.{ltb};
 ghost use lib.ListN.{length, take};
 ghost use Rattle.spanning.specs.Graph.{total};
-ghost use Rattle.plane.specs.Point.{lower};
-ghost use Rattle.plane.specs.Coordinate.{coordinate};
-ghost use Rattle.plane.specs.Stored.{pointAt};
-ghost use Rattle.model.specs.Set.{has, sort};
+ghost use Rattle.model.specs.Set.{sort};
 ghost use Rattle.model.specs.Round as round;
 ghost use Rattle.sets.specs.Array.{Written};
 ghost use Rattle.tree.specs.Keys.{weight};
-ghost use Rattle.crossing.specs.Search.{TreeGiven, Lines, pointsOf, answerOf, tried, tryAll, xsOf, ysOf};
+ghost use Rattle.crossing.specs.Search.{TreeGiven, pointsOf, answerOf};
 
 // The different values among the first n, least first, at the front of `to`. Returns how many there are.
 pub fn lines(values: &[u16], n: usize, to: &mut [u64]) -> usize
@@ -48,102 +51,28 @@ pub fn total_of(keys: &[u64], m: usize) -> u64
     sum
 }
 
-// Whether a point is held at (x, y).
-fn holds(xs: &[u16], ys: &[u16], n: usize, x: u16, y: u16) -> bool
-    requires { ⌜ (n ≤ length (now xs)) × (n ≤ length (now ys)) ⌝ }
-    ensures { λ r. ⌜ r ≡ has lower (pointAt x y) (pointsOf (now (xs .entry)) (now (ys .entry)) n) ⌝ }
-{
-    let mut i = 0;
-    while i < n {
-        if xs[i] == x {
-            if ys[i] == y {
-                return true;
-            }
-        }
-        i += 1;
-    }
-    false
-}
-
-// One crossing more: it takes the place of the best so far where it is not held and makes the tree shorter than that.
-fn try_at(
-    xs: &[u16],
-    ys: &[u16],
-    n: usize,
-    keys: &[u64],
-    m: usize,
-    x: u16,
-    y: u16,
-    known: Shortest,
-) -> Shortest
+// The best crossing of a tree of at least one point, by the search over all crossings.
+fn search_all(xs: &[u16], ys: &[u16], n: usize, keys: &[u64], m: usize) -> Best
     requires { ⌜ TreeGiven (now xs) (now ys) n (now keys) m ⌝ }
-    ensures { λ r. ⌜ r ≡ tried (pointsOf (now (xs .entry)) (now (ys .entry)) n) known (pointAt x y) ⌝ }
+    requires { ⌜ 0 < n ⌝ }
+    ensures { λ r. ⌜ r ≡ answerOf (round.best (pointsOf (now (xs .entry)) (now (ys .entry)) n)) ⌝ }
 {
-    if holds(xs, ys, n, x, y) {
-        return known;
-    }
-    let length = tree::build::length_with(xs, ys, n, keys, m, x, y);
-    if length < known.length {
-        return Shortest {
-            length,
-            best: Best::At(x, y),
-        };
-    }
-    known
-}
-
-// The crossings of one x with the y of every point held, which are given in `rows`, lower first.
-pub fn column(
-    xs: &[u16],
-    ys: &[u16],
-    n: usize,
-    keys: &[u64],
-    m: usize,
-    x: u16,
-    rows: &[u64],
-    count: usize,
-    known: Shortest,
-) -> Shortest
-    requires { ⌜ TreeGiven (now xs) (now ys) n (now keys) m ⌝ }
-    requires { ⌜ Lines (now ys) n (now rows) count ⌝ }
-    ensures { λ r. ⌜ r ≡ tryAll (pointsOf (now (xs .entry)) (now (ys .entry)) n) known
-        (round.column (coordinate x) (ysOf (pointsOf (now (xs .entry)) (now (ys .entry)) n))) ⌝ }
-{
-    let mut best = known;
-    let mut row = 0;
-    while row < count {
-        best = try_at(xs, ys, n, keys, m, x, rows[row] as u16, best);
-        row += 1;
-    }
-    best
-}
-
-// The crossings of every x, which are given in `columns`, with every y, which are given in `rows`.
-fn all_columns(
-    xs: &[u16],
-    ys: &[u16],
-    n: usize,
-    keys: &[u64],
-    m: usize,
-    columns: &[u64],
-    width: usize,
-    rows: &[u64],
-    count: usize,
-    known: Shortest,
-) -> Shortest
-    requires { ⌜ TreeGiven (now xs) (now ys) n (now keys) m ⌝ }
-    requires { ⌜ Lines (now xs) n (now columns) width ⌝ }
-    requires { ⌜ Lines (now ys) n (now rows) count ⌝ }
-    ensures { λ r. ⌜ r ≡ tryAll (pointsOf (now (xs .entry)) (now (ys .entry)) n) known
-        (round.crossings (xsOf (pointsOf (now (xs .entry)) (now (ys .entry)) n)) (ysOf (pointsOf (now (xs .entry)) (now (ys .entry)) n))) ⌝ }
-{
-    let mut best = known;
-    let mut at = 0;
-    while at < width {
-        best = column(xs, ys, n, keys, m, columns[at] as u16, rows, count, best);
-        at += 1;
-    }
-    best
+    let mut columns = [0u64; 128];
+    let width = lines(xs, n, &mut columns);
+    let mut rows = [0u64; 128];
+    let count = lines(ys, n, &mut rows);
+    let mut table = blank();
+    bottleneck::fill(keys, m, n, &mut table);
+    let mut gaps = blank();
+    all_gaps(ys, n, &rows, count, &mut gaps);
+    let mut ranks = [0usize; 128];
+    all_ranks(ys, n, &rows, count, &mut ranks);
+    let start = Greatest {
+        gain: FAR,
+        best: Best::Nothing,
+    };
+    let end = all_columns(xs, n, &table, &gaps, &ranks, &columns, width, &rows, count, start);
+    end.best
 }
 
 // The lowest crossing of greatest saving, if one saves more than 0.
@@ -151,15 +80,8 @@ pub fn best(xs: &[u16], ys: &[u16], n: usize, keys: &[u64], m: usize) -> Best
     requires { ⌜ TreeGiven (now xs) (now ys) n (now keys) m ⌝ }
     ensures { λ r. ⌜ r ≡ answerOf (round.best (pointsOf (now (xs .entry)) (now (ys .entry)) n)) ⌝ }
 {
-    let mut columns = [0u64; 128];
-    let width = lines(xs, n, &mut columns);
-    let mut rows = [0u64; 128];
-    let count = lines(ys, n, &mut rows);
-    let length = total_of(keys, m);
-    let start = Shortest {
-        length,
-        best: Best::Nothing,
-    };
-    let end = all_columns(xs, ys, n, keys, m, &columns, width, &rows, count, start);
-    end.best
+    if n == 0 {
+        return Best::Nothing;
+    }
+    search_all(xs, ys, n, keys, m)
 }

@@ -17,7 +17,7 @@ pub enum Coordinate {
 }
 
 // The distance along one axis.
-fn apart(a: u16, b: u16) -> u16
+pub fn apart(a: u16, b: u16) -> u16
     ensures { λ r. ⌜ r ≡ gap (coordinate a) (coordinate b) ⌝ }
 {
     if a < b { b - a } else { a - b }

@@ -2,3 +2,9 @@ pub mod Bounds
 pub mod Gains
 pub mod Whole
 pub mod Length
+pub mod Filling
+pub mod Four
+pub mod Laps
+pub mod Distances
+pub mod Regions
+pub mod Geometry

@@ -1,6 +1,7 @@
 -- What a crossing spares. A code is an edge from the crossing to a held point: its length times 128, and the point's number.
 use mathlib.Core.List.{List, [], _∷_}
 use Prim.Native.Nat.{ℕ, _+_, _*_, _-_, _/_, _%_, min, max}
+use lib.ListN.{getD}
 
 -- An edge of length d to the point j.
 abbrev pub code : ℕ → ℕ → ℕ
@@ -16,6 +17,14 @@ codePoint k = k % 128
 -- Longer than every edge between two places.
 abbrev pub far : ℕ
 far = 131072
+
+-- The code of an edge of length `far`.
+abbrev pub farCode : ℕ
+farCode = 16777216
+
+-- The entry of two numbers in a table of 128 rows of 128.
+abbrev pub tableAt : List ℕ → ℕ → ℕ → ℕ
+tableAt table u v = getD table (u * 128 + v) 0
 
 -- The bottleneck of the crossing and the point q: over one of the edges in `past`, or over an edge of length `far`. The function t
 -- gives the bottleneck of two held points.

@@ -1,1 +1,4 @@
 pub mod Gain
+pub mod Rows
+pub mod Nearest
+pub mod Prepared

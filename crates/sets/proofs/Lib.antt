@@ -7,3 +7,4 @@ pub mod Putting
 pub mod Results
 pub mod Scanning
 pub mod Scans
+pub mod Rising

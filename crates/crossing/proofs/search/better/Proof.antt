@@ -1,0 +1,15 @@
+-- `crossing::search::better` meets its contract, by the two outcomes of its test.
+use borrow.Author.Tests.{lt-ltb, le-ltb}
+use Rattle.crossing.proofs.search.better.Statement.{statement}
+use Rattle.crossing.proofs.search.better.Tie as tie
+use Rattle.crossing.proofs.search.better.Reads as reads
+use Rattle.crossing.proofs.search.better.Lts as lts
+
+returns : tie.Need-returns
+returns c = rw (lt-ltb _ _ (c .if1 .taken))
+
+returns-2 : tie.Need-returns-2
+returns-2 c = rw (le-ltb _ _ (c .if1 .left))
+
+pub better-spec : {M : Type 1} → statement M
+better-spec = tie.close (tie.spec returns returns-2)

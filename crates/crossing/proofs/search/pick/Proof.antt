@@ -1,0 +1,95 @@
+-- `crossing::search::pick` meets its contract. The invariant: from the best so far, the rows left give what the whole column gives.
+use Prim.Native.Nat.{_-_}
+use native.Mathlib.Omega.{arith}
+use Rattle.crossing.proofs.Steps.{InColumn, column-none, column-more, column-end}
+use Rattle.crossing.proofs.search.pick.Statement.{statement}
+use Rattle.crossing.proofs.search.pick.Tie as tie
+use Rattle.crossing.proofs.search.pick.Reads as reads
+use Rattle.crossing.proofs.search.pick.Lts as lts
+use Rattle.crossing.proofs.search.better.Reads as better-reads
+use Rattle.score.proofs.gain.gain.Reads as gain-reads
+
+abbrev Inv-loop : tie.InvT-loop
+Inv-loop table x rows count east west north south best₀ row₀ best row = InColumn table x rows count east west north south best₀ best row
+
+abbrev μ-loop : tie.MeasureT-loop
+μ-loop table x rows count east west north south best₀ row₀ best row = count - row
+
+loop-holds : tie.Need-loop-holds Inv-loop μ-loop
+loop-holds c = column-none _ _ _ _ _ _ _ _ _
+
+mul-gain : tie.Need-mul-gain Inv-loop μ-loop
+mul-gain c = omega arith
+
+shared-slice-read-gain : tie.Need-shared-slice-read-gain Inv-loop μ-loop
+shared-slice-read-gain c = omega (arith, c .before .before .before .before .before .before .before .before .before .pre .1 .1 .0)
+
+mul-gain-2 : tie.Need-mul-gain-2 Inv-loop μ-loop
+mul-gain-2 c = omega arith
+
+shared-slice-read-gain-2 : tie.Need-shared-slice-read-gain-2 Inv-loop μ-loop
+shared-slice-read-gain-2 c = omega (arith, c .before .before .before .before .before .before .before .before .before .before .pre .1 .1 .1)
+
+mul-gain-3 : tie.Need-mul-gain-3 Inv-loop μ-loop
+mul-gain-3 c = omega arith
+
+shared-slice-read-gain-3 : tie.Need-shared-slice-read-gain-3 Inv-loop μ-loop
+shared-slice-read-gain-3 c = omega (arith, c .before .before .before .before .before .before .before .before .before .before .before .pre .1 .1 .2)
+
+mul-gain-4 : tie.Need-mul-gain-4 Inv-loop μ-loop
+mul-gain-4 c = omega arith
+
+shared-slice-read-gain-4 : tie.Need-shared-slice-read-gain-4 Inv-loop μ-loop
+shared-slice-read-gain-4 c = omega (arith, c .before .before .before .before .before .before .before .before .before .before .before .before .pre .1 .1 .3)
+
+gain-requires : tie.Need-gain-requires Inv-loop μ-loop
+gain-requires c κs = c .before .before .before .before .before .before .before .before .before .before .before .before .pre .0
+
+mul-better : tie.Need-mul-better Inv-loop μ-loop
+mul-better c = omega arith
+
+shared-slice-read-better : tie.Need-shared-slice-read-better Inv-loop μ-loop
+shared-slice-read-better c = omega (arith, c .before .before .before .before .before .before .before .before .before .before .before .before .before .before .pre .1 .0 .within)
+
+cast-better : tie.Need-cast-better Inv-loop μ-loop
+cast-better c = record { fits = omega (arith, c .before .before .before .before .before .before .before .before .before .before .before .before .before .before .pre .1 .0 .stored _ (c .before .before .before .before .before .before .loop-test .taken)) }
+
+better-requires : tie.Need-better-requires Inv-loop μ-loop
+better-requires c κs = tt
+
+add-row : tie.Need-add-row Inv-loop μ-loop
+add-row c = omega arith
+
+loop-less : tie.Need-loop-less Inv-loop μ-loop
+loop-less c = omega arith
+
+loop-again : tie.Need-loop-again Inv-loop μ-loop
+loop-again c = column-more _ _ _ _ _ _ _ _ _ _ _ (c .before .before .before .before .before .before .before .before .loop .inv) (c .before .before .before .before .before .before .before .before .before .before .before .before .before .before .before .pre .1 .0 .within) (c .before .before .before .before .before .before .before .loop-test .taken) _ (c .before .before .gain .ensures) _ (c .better .ensures)
+
+returns : tie.Need-returns Inv-loop μ-loop
+returns c = λ ps s. column-end _ _ _ _ _ _ _ _ _ _ _ (c .before .loop .inv) (c .loop-test .left) ps s
+
+pub pick-spec : {M : Type 1} → statement M
+pick-spec =
+    tie.close
+    (tie.spec
+    Inv-loop
+    μ-loop
+    loop-holds
+    mul-gain
+    shared-slice-read-gain
+    mul-gain-2
+    shared-slice-read-gain-2
+    mul-gain-3
+    shared-slice-read-gain-3
+    mul-gain-4
+    shared-slice-read-gain-4
+    gain-requires
+    mul-better
+    shared-slice-read-better
+    cast-better
+    better-requires
+    add-row
+    loop-less
+    loop-again
+    returns)

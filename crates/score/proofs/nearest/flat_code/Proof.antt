@@ -1,0 +1,19 @@
+-- `score::nearest::flat_code` meets its contract, by the two outcomes of its test.
+use borrow.Author.Needs.{needs}
+use borrow.Author.Tests.{lt-ltb, le-ltb}
+use Rattle.score.proofs.nearest.flat_code.Statement.{statement}
+use Rattle.score.proofs.nearest.flat_code.Tie as tie
+use Rattle.score.proofs.nearest.flat_code.Reads as reads
+use Rattle.score.proofs.nearest.flat_code.Lts as lts
+
+add-result : tie.Need-add-result
+add-result c = search needs
+
+returns : tie.Need-returns
+returns c = rw (lt-ltb _ _ (c .if1 .taken))
+
+returns-2 : tie.Need-returns-2
+returns-2 c = rw (le-ltb _ _ (c .if1 .left))
+
+pub flat-code-spec : {M : Type 1} → statement M
+flat-code-spec = tie.close (tie.spec add-result returns returns-2)
