@@ -37,14 +37,13 @@ use Rattle.plan.specs.Code.{pointOf}
 use Rattle.plan.specs.declared.Plan.{Plan}
 use Rattle.plan.specs.Work as work
 use Rattle.plan.proofs.Codes.{points-has, points-union}
-use Rattle.plan.proofs.Arranging.{arranged-placed}
+use Rattle.plan.proofs.Arranging.{arranged-placed, codes-count}
 use Rattle.plan.proofs.Sweeping.{held-degree}
 use Rattle.deck.specs.declared.Deck.{Deck}
 use Rattle.deck.specs.declared.questions.Answer.{Answer}
 use Rattle.deck.specs.declared.questions.Answer.the-variants.{Refused, Length, Counts, Edge, NoEdge, Degree}
 use Rattle.deck.specs.Form.{row, deckOf, stateOf, Sound, sound}
 use Rattle.deck.specs.Questions.{asked, lengthAnswer, countsAnswer, edgeAnswer, edgeOrNone, degreeAnswer}
-use Rattle.deck.proofs.FromPlan.{codes-count}
 
 pub asked-unsound : (d : Deck) (f : State → Answer) → sound d ≡ false → Refused 11 ≡ asked d f
 unfolding asked

@@ -18,6 +18,7 @@ use Rattle.model.proofs.Set.{has-in}
 use Rattle.plan.specs.declared.Plan.{Plan}
 use Rattle.plan.specs.Code.{code, pointOf, isCode}
 use Rattle.plan.specs.Work as work
+use Rattle.plan.proofs.Arranging.{codes-count}
 use Rattle.plan.proofs.Codes.{points-has, range-code}
 use Rattle.plan.proofs.Sweeping.{true-of}
 use Rattle.deck.specs.declared.Deck.{Deck}
@@ -27,7 +28,6 @@ use Rattle.deck.specs.declared.check.Checked.{Checked}
 use Rattle.deck.specs.Check.{Checks}
 use Rattle.deck.specs.Form.{deckOf, stateOf, Sound, sound}
 use Rattle.deck.specs.Calls.{replyOf, answer, refusal, called}
-use Rattle.deck.proofs.FromPlan.{codes-count}
 use Rattle.deck.proofs.Checking.{of-true, false-of}
 use Rattle.deck.proofs.Forms.{sound-is}
 

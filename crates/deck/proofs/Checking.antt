@@ -35,7 +35,7 @@ use Rattle.deck.specs.declared.check.Checked.{Checked}
 use Rattle.deck.specs.Form.{row, deckOf, stateOf, Sound, sound}
 use Rattle.deck.specs.Check.{ordered, arranged, Checks}
 use Rattle.deck.proofs.Forms.{row-take, row-drop, row-length, sound-is}
-use Rattle.deck.proofs.FromPlan.{codes-row, codes-count}
+use Rattle.deck.proofs.FromPlan.{codes-row}
 
 pub false-of : (b : Bool) → ¬ T b → b ≡ false
 false-of true n = absurd (n tt)

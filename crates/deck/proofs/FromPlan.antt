@@ -4,7 +4,7 @@ use mathlib.Core.List.{List, [], _∷_, _++_, map}
 use Prim.Native.Nat.{ℕ, zero, suc, _+_, _-_, _≤_, _<_}
 use native.Mathlib.Omega.{arith}
 use lib.Dec.{ltb}
-use lib.ListN.{length, take, drop, replicate, length-map, take-append-drop}
+use lib.ListN.{length, take, drop, replicate, take-append-drop}
 use lib.Seq.{length-take-le}
 use Rattle.plane.specs.Edge.{listedBefore}
 use Rattle.model.specs.Set.{sort}
@@ -18,6 +18,7 @@ use Rattle.tree.proofs.Numbers.{ends-listed}
 use Rattle.plan.specs.Code.{code, pointOf}
 use Rattle.plan.specs.declared.Plan.{Plan}
 use Rattle.plan.specs.Work as work
+use Rattle.plan.proofs.Arranging.{codes-count}
 use Rattle.plan.proofs.Codes.{map-points}
 use Rattle.deck.specs.declared.Deck.{Deck}
 use Rattle.deck.specs.Form.{row, deckOf}
@@ -39,9 +40,6 @@ codes-row a n c =
   where
     full : length (take n a) ≡ n
     full = length-take-le n a (omega (arith, c .few, c .size))
-
-pub codes-count : (a : List ℕ) (n : ℕ) → work.Codes a n 64 → n ≡ length (map pointOf (take n a))
-codes-count a n c = sym (length-map (take n a) pointOf ∙ length-take-le n a (omega (arith, c .few, c .size)))
 
 -- The ends of the keys are those of the state's runs in the listing order.
 pub plan-ends : (w : Plan) → work.Planned w → sort ltb (map endsOf (take (w .nkeys) (w .keys))) ≡ map (endsAt (points (work.stateOf w))) (listed (work.stateOf w))

@@ -23,6 +23,7 @@ use Rattle.model.proofs.Round.{candidate-range, prune-shorter}
 use Rattle.plan.specs.declared.Plan.{Plan}
 use Rattle.plan.specs.Code.{code, pointOf, isCode}
 use Rattle.plan.specs.Work as work
+use Rattle.plan.proofs.Arranging.{codes-count}
 use Rattle.plan.proofs.Codes.{point-code, code-is}
 use Rattle.crossing.specs.declared.found.Best.the-variants.{Nothing, At}
 use Rattle.crossing.specs.Search.{answerOf}
@@ -34,7 +35,6 @@ use Rattle.deck.specs.Form.{deckOf, stateOf}
 use Rattle.deck.specs.Rounds.{adds, RoundOf}
 use Rattle.deck.specs.declared.calls.Reply.the-variants.{Finished, Tap}
 use Rattle.deck.specs.Calls.{replyOf, answer}
-use Rattle.deck.proofs.FromPlan.{codes-count}
 
 -- What a round answers for the best candidate.
 roundWith : State → Option Point → RoundResult

@@ -21,7 +21,7 @@ use Rattle.model.proofs.FileParts.{same-eq}
 use Rattle.plan.specs.Weak.{firstWeak}
 use Rattle.plan.specs.declared.Plan.{Plan}
 use Rattle.plan.specs.Work as work
-use Rattle.plan.proofs.Arranging.{arranged-placed}
+use Rattle.plan.proofs.Arranging.{arranged-placed, codes-count}
 use Rattle.plan.proofs.Sweeping.{Found, none-weak, at, found, planned-degree}
 use Rattle.deck.specs.declared.Deck.{Deck}
 use Rattle.deck.specs.declared.build.Built.{Built}
@@ -29,7 +29,7 @@ use Rattle.deck.specs.declared.check.Checked.{Checked}
 use Rattle.deck.specs.Form.{deckOf, stateOf, Sound, sound}
 use Rattle.deck.specs.Check.{arranged, pointed, Checks, unjoined, built}
 use Rattle.deck.proofs.Forms.{sound-is}
-use Rattle.deck.proofs.FromPlan.{codes-row, codes-count}
+use Rattle.deck.proofs.FromPlan.{codes-row}
 use Rattle.deck.proofs.Checking.{of-true, sound-arranged, arranged-few, same-of, refuted, refused, accepted}
 
 module _ (d : Deck) (w : Plan) (p : work.Planned w) (e₁ : w .pins ≡ d .pins) (e₂ : w .npins ≡ d .npins) (e₃ : w .steiner ≡ d .steiner) (e₄ : w .nsteiner ≡ d .nsteiner)

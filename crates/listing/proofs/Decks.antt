@@ -30,12 +30,12 @@ use Rattle.sets.specs.Array.{Written}
 use Rattle.sets.proofs.Results.{written-part}
 use Rattle.tree.specs.Keys.{endsAt}
 use Rattle.plan.specs.Code.{pointOf, isCode}
+use Rattle.plan.proofs.Arranging.{codes-count}
 use Rattle.plan.proofs.Codes.{points-union}
 use Rattle.deck.specs.declared.Deck.{Deck}
 use Rattle.deck.specs.Form.{row, deckOf, stateOf, Sound}
 use Rattle.deck.proofs.Forms.{row-take, row-length}
 use Rattle.deck.proofs.Checking.{sound-pins, sound-steiner}
-use Rattle.deck.proofs.FromPlan.{codes-count}
 use Rattle.listing.specs.Line.{headText, edgeAt, Coded, Ended}
 use Rattle.listing.specs.Text.{Put}
 use Rattle.listing.proofs.Puts.{put-same}

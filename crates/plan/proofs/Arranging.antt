@@ -58,6 +58,10 @@ tab-list f l =
 sorted-of : (l : List ℕ) → rising ltb l ≡ true → Sorted Less l
 sorted-of l e = rising-sorted ltb nat-order l .0 (subst⁻¹ T e tt)
 
+-- A set of codes has as many points as codes.
+pub codes-count : (a : List ℕ) (n : ℕ) → Codes a n 64 → n ≡ length (map pointOf (take n a))
+codes-count a n c = sym (length-map (take n a) pointOf ∙ length-take-le n a (omega (arith, c .few, c .size)))
+
 module _ (pins : List ℕ) (p : ℕ) (steiner : List ℕ) (t : ℕ) (a : Arranged pins p steiner t) where
   abbrev all : List ℕ
   all = union ltb (take p pins) (take t steiner)
