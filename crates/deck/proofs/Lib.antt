@@ -4,8 +4,6 @@ pub mod Checking
 pub mod Demand3
 pub mod Forms
 pub mod FromPlan
+pub mod FromRounds
 pub mod Locating
-pub mod OneRound
 pub mod Pointing
-pub mod Searching
-pub mod ToEnd

@@ -9,6 +9,8 @@ use Rattle.model.specs.State.{State}
 use Rattle.model.specs.Round.{RoundAnswer, finished, tap}
 use Rattle.model.specs.Call as call
 use Rattle.plan.specs.Code.{code}
+use Rattle.rounds.specs.declared.Step.{Step}
+use Rattle.rounds.specs.declared.Step.the-variants as step
 use Rattle.deck.specs.declared.Deck.{Deck}
 use Rattle.deck.specs.declared.calls.Outcome.{Outcome}
 use Rattle.deck.specs.declared.calls.Reply.{Reply}
@@ -28,6 +30,11 @@ replyOf (call.refused n) = Refused n
 replyOf (call.answered finished) = Finished
 replyOf (call.answered (tap p fall)) = Tap (p .x) (p .y) fall
 replyOf (call.rounds n) = Rounds n
+
+-- What a round did, as the reply.
+unfoldable pub stepReply : Step → Reply
+stepReply step.Finished = Finished
+stepReply (step.Tap x y fall) = Tap x y fall
 
 -- The number of a refusal, and 0 for any other reply.
 unfoldable pub refusalNumber : Reply → ℕ

@@ -3,4 +3,3 @@ pub mod Check
 pub mod Demand3
 pub mod Form
 pub mod Questions
-pub mod Rounds

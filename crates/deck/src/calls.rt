@@ -4,16 +4,15 @@ use super::check::check;
 use super::check::deck_of;
 use super::place::Place;
 use super::place::locate;
-use super::rounds::finish_of;
-use super::rounds::round_of;
 use plan::Plan;
+use rounds::Step;
 ghost use mathlib.Core.Path.{_≡_};
 ghost use lib.Dec.{T};
 ghost use Rattle.model.specs.Call as call;
 ghost use Rattle.plan.specs.Code.{pointOf, isCode};
 ghost use Rattle.plan.specs.Work as work;
 ghost use Rattle.deck.specs.Form.{Sound, stateOf};
-ghost use Rattle.deck.specs.Calls.{answer, called, refusal, refusalNumber};
+ghost use Rattle.deck.specs.Calls.{answer, called, refusal, refusalNumber, stepReply};
 
 // What a call replies: done, or a refusal by its number; a round: finished, or the new Steiner point and the whole fall in
 // length; a run to the end: the number of rounds that added a Steiner point.
@@ -40,6 +39,16 @@ pub fn refusal_number(r: Reply) -> u8
         Reply::Finished => 0,
         Reply::Tap(x, y, fall) => 0,
         Reply::Rounds(n) => 0,
+    }
+}
+
+// What a round did, as the reply.
+fn reply_of(s: Step) -> Reply
+    ensures { λ r. ⌜ r ≡ stepReply s ⌝ }
+{
+    match s {
+        Step::Finished => Reply::Finished,
+        Step::Tap(x, y, fall) => Reply::Tap(x, y, fall),
     }
 }
 
@@ -136,11 +145,11 @@ impl Deck {
         if !c.ok {
             return refuse(self, 11);
         }
-        let t = round_of(c.plan);
-        let reply = t.reply;
+        let t = rounds::round_of(c.plan);
+        let step = t.step;
         Outcome {
             next: deck_of(t.plan),
-            reply,
+            reply: reply_of(step),
         }
     }
     // Rounds until finished. Refusal 11.
@@ -151,7 +160,7 @@ impl Deck {
         if !c.ok {
             return refuse(self, 11);
         }
-        let e = finish_of(c.plan);
+        let e = rounds::finish_of(c.plan);
         Outcome {
             next: deck_of(e.plan),
             reply: Reply::Rounds(e.count),

@@ -4,7 +4,6 @@ pub mod calls;
 mod check;
 mod place;
 pub mod questions;
-mod rounds;
 
 ghost use mathlib.Core.Path.{_≡_};
 ghost use Rattle.model.specs.State as state;

@@ -3,7 +3,6 @@ use super::Deck;
 use super::check::check;
 use super::place::Place;
 use super::place::locate;
-use super::rounds::length_of;
 use plan::Plan;
 ghost use mathlib.Core.Path.{_≡_};
 ghost use Prim.Native.Nat.{_/_, _%_, _<_};
@@ -73,7 +72,7 @@ impl Deck {
         if !c.ok {
             return Answer::Refused(11);
         }
-        Answer::Length(length_of(c.plan))
+        Answer::Length(rounds::length_of(c.plan))
     }
 
     // The counts of pins, Steiner points and edges.

@@ -10,21 +10,17 @@ use Rattle.deck.proofs.Deck.length.Tie as tie
 use Rattle.deck.proofs.Deck.length.Reads as reads
 use Rattle.deck.proofs.Deck.length.Lts as lts
 use Rattle.deck.proofs.check.check.Reads as check-reads
-use Rattle.deck.proofs.rounds.length_of.Reads as length-of-reads
+use Rattle.rounds.proofs.length_of.Reads as length-of-reads
 
--- src/questions.rt:72:13
 check-requires : tie.Need-check-requires
 check-requires c κs = search needs
 
--- src/questions.rt:74:13
 returns : tie.Need-returns
 returns c = asked-unsound _ _ (sym (c .before .before .check .ensures .ok) ∙ not-true _ (c .if1 .taken))
 
--- src/questions.rt:76:24
 length-of-requires : tie.Need-length-of-requires
 length-of-requires c κs = checked-sound _ _ (c .before .before .check .ensures) (not-false _ (c .if1 .left)) .1
 
--- src/questions.rt:69:5
 returns-2 : tie.Need-returns-2
 returns-2 c =
     let t = not-false _ (c .before .if1 .left) in

@@ -3,7 +3,7 @@ use mathlib.Core.Path.{sym, _∙_, subst⁻¹}
 use borrow.Author.Tests.{not-true, not-false}
 use Rattle.model.specs.State.{Valid}
 use Rattle.deck.proofs.Calling.{checked-sound, called-unsound, called-sound}
-use Rattle.deck.proofs.ToEnd.{end-answer}
+use Rattle.deck.proofs.FromRounds.{end-answer}
 use borrow.Author.Needs.{needs}
 use Rattle.deck.proofs.Deck.run_to_end.Statement.{statement}
 use Rattle.deck.proofs.Deck.run_to_end.Tie as tie
@@ -12,36 +12,30 @@ use Rattle.deck.proofs.Deck.run_to_end.Lts as lts
 use Rattle.deck.proofs.calls.refuse.Reads as refuse-reads
 use Rattle.deck.proofs.check.check.Reads as check-reads
 use Rattle.deck.proofs.check.deck_of.Reads as deck-of-reads
-use Rattle.deck.proofs.rounds.finish_of.Reads as finish-of-reads
+use Rattle.rounds.proofs.finish_of.Reads as finish-of-reads
 
--- src/calls.rt:137:13
 check-requires : tie.Need-check-requires
 check-requires c κs = search needs
 
--- src/calls.rt:139:13
 refuse-requires : tie.Need-refuse-requires
 refuse-requires c κs = search needs
 
--- src/calls.rt:139:13
 returns : tie.Need-returns
 returns c = c .refuse .ensures ∙ called-unsound _ _ (sym (c .before .before .before .check .ensures .ok) ∙ not-true _ (c .before .if1 .taken))
 
--- src/calls.rt:141:13
 finish-of-requires : tie.Need-finish-of-requires
 finish-of-requires c κs =
     let k = checked-sound _ _ (c .before .before .check .ensures) (not-false _ (c .if1 .left)) in
     (k .1, subst⁻¹ Valid (k .2) (k .0 .valid))
 
--- src/calls.rt:143:19
 deck-of-requires : tie.Need-deck-of-requires
 deck-of-requires c κs = search needs
 
--- src/calls.rt:134:5
 returns-2 : tie.Need-returns-2
 returns-2 c =
     let t = not-false _ (c .before .before .if1 .left) in
     let k = checked-sound _ _ (c .before .before .before .before .check .ensures) t in
-    end-answer (c .before .before .before .before .before .args .self) _ _ _ (k .2) (c .before .finish-of .ensures) (c .deck-of .ensures) ∙ called-sound _ _ (sym (c .before .before .before .before .check .ensures .ok) ∙ t)
+    end-answer (c .before .before .before .before .before .args .self) _ _ (k .2) _ (c .before .finish-of .ensures) (c .deck-of .ensures) ∙ called-sound _ _ (sym (c .before .before .before .before .check .ensures .ok) ∙ t)
 
 pub run-to-end-spec : {M : Type 1} → statement M
 run-to-end-spec =

@@ -1,27 +1,23 @@
--- `deck::rounds::best_of` meets its contract: the search is over the points of the state.
+-- `rounds::best_of` meets its contract: the search is over the points of the state.
 use mathlib.Core.Path.{_≡_, _∙_}
 use lib.ListN.{length}
-use Rattle.deck.proofs.Searching.{given, best-is}
+use Rattle.rounds.proofs.Searching.{given, best-is}
 use borrow.Author.Needs.{needs}
-use Rattle.deck.proofs.rounds.best_of.Statement.{statement}
-use Rattle.deck.proofs.rounds.best_of.Tie as tie
-use Rattle.deck.proofs.rounds.best_of.Reads as reads
-use Rattle.deck.proofs.rounds.best_of.Lts as lts
+use Rattle.rounds.proofs.best_of.Statement.{statement}
+use Rattle.rounds.proofs.best_of.Tie as tie
+use Rattle.rounds.proofs.best_of.Reads as reads
+use Rattle.rounds.proofs.best_of.Lts as lts
 use Rattle.crossing.proofs.best.Reads as best-reads
 
--- src/rounds.rt:28:20
 slice-aggregate-best : tie.Need-slice-aggregate-best
 slice-aggregate-best c = search needs
 
--- src/rounds.rt:28:25
 slice-aggregate-best-2 : tie.Need-slice-aggregate-best-2
 slice-aggregate-best-2 c = search needs
 
--- src/rounds.rt:28:41
 slice-aggregate-best-3 : tie.Need-slice-aggregate-best-3
 slice-aggregate-best-3 c = search needs
 
--- src/rounds.rt:28:5
 best-requires : tie.Need-best-requires
 best-requires c κs =
     let w = c .before .before .before .before .before .before .args .w in
@@ -30,7 +26,6 @@ best-requires c κs =
     let hk : length (w .keys) ≡ 136 = search needs in
     given w (c .before .before .before .before .before .before .pre) hx hy hk
 
--- src/rounds.rt:21:1
 returns : tie.Need-returns
 returns c =
     let w = c .before .before .before .before .before .before .before .args .w in

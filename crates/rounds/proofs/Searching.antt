@@ -1,7 +1,5 @@
 -- A working form has what the search for the best crossing asks for, and the search is over the points of its state.
 use mathlib.Core.Path.{_≡_, ap, _∙_}
-use mathlib.Core.List.{List}
-use Prim.Native.Nat.{ℕ, _≤_}
 use native.Mathlib.Omega.{arith}
 use lib.ListN.{length, take}
 use Rattle.spanning.specs.Graph.{total}

@@ -1,5 +1,5 @@
-// The round and the run to the end on a working form.
-use super::calls::Reply;
+// The round and the run to the end on a working form. Each function asks for a working form in order; whoever hands one in has to
+// show that it is, as the check of a deck does.
 use crossing::found::Best;
 use plan::Plan;
 ghost use mathlib.Core.Path.{_≡_};
@@ -8,13 +8,19 @@ ghost use Rattle.model.specs.Tree.{treeLength};
 ghost use Rattle.model.specs.Round as round;
 ghost use Rattle.plan.specs.Work as work;
 ghost use Rattle.crossing.specs.Search.{answerOf};
-ghost use Rattle.deck.specs.Rounds.{RoundOf, FinishOf};
+ghost use Rattle.rounds.specs.Rounds.{RoundOf, FinishOf};
 
-// A working form after a round, whether the round added a Steiner point, and what it replies.
+// What a round does: it is finished, or adds a Steiner point, with its x, its y and the whole fall in length.
+pub enum Step {
+    Finished,
+    Tap(i32, i32, u64),
+}
+
+// A working form after a round, whether the round added a Steiner point, and what it did.
 pub struct Rounded {
     pub plan: Plan,
     pub added: bool,
-    pub reply: Reply,
+    pub step: Step,
 }
 
 // A working form after a run to the end, and how many rounds added a Steiner point.
@@ -53,7 +59,7 @@ pub fn round_of(w: Plan) -> Rounded
         Best::Nothing => Rounded {
             plan: w,
             added: false,
-            reply: Reply::Finished,
+            step: Step::Finished,
         },
         Best::At(u, v) => {
             let next = plan::change::with_steiner(w, u as u64 * 65536 + v as u64);
@@ -63,7 +69,7 @@ pub fn round_of(w: Plan) -> Rounded
             Rounded {
                 plan: next,
                 added: true,
-                reply: Reply::Tap(x, y, fall),
+                step: Step::Tap(x, y, fall),
             }
         }
     }

@@ -1,25 +1,18 @@
 -- A run to the end on a working form is the model's: its rounds lead where the model's rounds lead, and there is one such place.
 use mathlib.Core.Path.{_≡_, refl, sym, ap, _∙_, subst, subst⁻¹}
-use mathlib.Core.Bool.{Bool, true, false}
-use Prim.Native.Nat.{ℕ, zero, suc, _+_, _≤_, _<_}
+use mathlib.Core.Bool.{true, false}
+use Prim.Native.Nat.{ℕ, suc, _+_, _≤_, _<_}
 use native.Mathlib.Omega.{arith}
 use Rattle.model.specs.State.{State, Valid}
-use Rattle.model.specs.Round.{RoundAnswer, finished, tap, round, finish}
+use Rattle.model.specs.Round.{RoundAnswer, finished, tap, round}
 use Rattle.model.specs.Question.{lengthOfState}
 use Rattle.model.specs.Demand3.{RoundsTo, ended, added}
 use Rattle.model.proofs.Round.{round-valid, round-falls, finish-rounds}
 use Rattle.model.proofs.Demand3.{valid-kept}
 use Rattle.plan.specs.declared.Plan.{Plan}
 use Rattle.plan.specs.Work as work
-use Rattle.model.specs.Call.{step, runToEnd}
-use Rattle.deck.specs.declared.Deck.{Deck}
-use Rattle.deck.specs.declared.calls.Outcome.{Outcome}
-use Rattle.deck.specs.declared.calls.Reply.the-variants.{Rounds}
-use Rattle.deck.specs.Form.{deckOf, stateOf}
-use Rattle.deck.specs.Calls.{replyOf, answer}
-use Rattle.deck.specs.declared.rounds.Rounded.{Rounded}
-use Rattle.deck.specs.declared.rounds.Ended.{Ended}
-use Rattle.deck.specs.Rounds.{adds, RoundOf, FinishOf}
+use Rattle.rounds.specs.declared.Rounded.{Rounded}
+use Rattle.rounds.specs.Rounds.{adds, RoundOf, FinishOf}
 
 -- Rounds alone lead to one state, by one number of them.
 same-end : {s r r′ : State} {k k′ : ℕ} → RoundsTo s k r → RoundsTo s k′ r′ → (k ≡ k′) × (r ≡ r′)
@@ -91,13 +84,3 @@ module _ (w at : Plan) (t : Rounded) (count : ℕ) (run : Running w at t count) 
       let f = is-finished (round s .answer) (sym (run .rounded .added) ∙ stop) in
       let h = same-end (run .rest 0 s (ended f)) (finish-rounds (work.stateOf w) v .0) in
       record { planned = run .planned; final = h .1; count = omega (arith, h .0) }
-
--- The run to the end of a deck from that of its working form.
-pub end-answer : (d e : Deck) (w : Plan) (r : Ended) → work.stateOf w ≡ stateOf d → FinishOf w r → e ≡ deckOf (work.stateOf (r .plan))
-    → _≡_ {A = Outcome} (record { next = e; reply = Rounds (r .count) }) (answer (step (stateOf d) runToEnd))
-unfolding answer step replyOf
-end-answer d e w r same f is =
-    λ i. record {
-      next = (is ∙ ap deckOf (f .final ∙ ap (λ (z : State). finish z .final) same)) i;
-      reply = Rounds ((f .count ∙ ap (λ (z : State). finish z .count) same) i);
-    }

@@ -1,20 +1,18 @@
--- `deck::rounds::length_of` meets its contract: the keys are those of the tree, and their total its length.
+-- `rounds::length_of` meets its contract: the keys are those of the tree, and their total its length.
 use mathlib.Core.Path.{_≡_, _∙_}
 use native.Mathlib.Omega.{arith}
 use lib.ListN.{length}
-use Rattle.deck.proofs.Searching.{length-is}
+use Rattle.rounds.proofs.Searching.{length-is}
 use borrow.Author.Needs.{needs}
-use Rattle.deck.proofs.rounds.length_of.Statement.{statement}
-use Rattle.deck.proofs.rounds.length_of.Tie as tie
-use Rattle.deck.proofs.rounds.length_of.Reads as reads
-use Rattle.deck.proofs.rounds.length_of.Lts as lts
+use Rattle.rounds.proofs.length_of.Statement.{statement}
+use Rattle.rounds.proofs.length_of.Tie as tie
+use Rattle.rounds.proofs.length_of.Reads as reads
+use Rattle.rounds.proofs.length_of.Lts as lts
 use Rattle.crossing.proofs.total_of.Reads as total-of-reads
 
--- src/rounds.rt:17:24
 slice-aggregate-total-of : tie.Need-slice-aggregate-total-of
 slice-aggregate-total-of c = search needs
 
--- src/rounds.rt:17:5
 total-of-requires : tie.Need-total-of-requires
 total-of-requires c κs =
     let w = c .before .before .args .w in
@@ -23,7 +21,6 @@ total-of-requires c κs =
     let hk : length (w .keys) ≡ 136 = search needs in
     (omega (arith, c .before .before .pre .keysFew), omega (arith, c .before .before .pre .keysFew))
 
--- src/rounds.rt:12:1
 returns : tie.Need-returns
 returns c =
     let w = c .before .before .before .args .w in

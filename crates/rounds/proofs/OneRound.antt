@@ -1,9 +1,9 @@
 -- A round on a working form is the model's: the crossing found is its best candidate.
-use mathlib.Core.Path.{_≡_, refl, sym, ap, ap₂, _∙_, subst, subst⁻¹}
+use mathlib.Core.Path.{_≡_, refl, sym, ap, ap₂, _∙_, subst}
 use mathlib.Core.Logic.{inl, ⊎-elim}
 use mathlib.Core.Bool.{true, false}
 use mathlib.Core.Option.{Option, none, some}
-use mathlib.Core.List.{List, List·Memᴰ}
+use mathlib.Core.List.{List·Memᴰ}
 use Prim.Native.Nat.{ℕ, _+_, _*_, _-_, _≤_, _<_}
 use native.Mathlib.Omega.{arith}
 use lib.Dec.{T}
@@ -18,7 +18,7 @@ use Rattle.model.specs.State.{State, Valid, points, prune}
 use Rattle.model.specs.Tree.{treeLength}
 use Rattle.model.specs.Round.{RoundResult, finished, tap, withSteiner, best, round}
 use Rattle.model.proofs.Prune.{points-in, few-steiner}
-use Rattle.model.proofs.Candidate.{Candidate, Best, none-better, shortens, best-view, map-in}
+use Rattle.model.proofs.Candidate.{Candidate, Best, none-better, shortens, best-view}
 use Rattle.model.proofs.Round.{candidate-range, prune-shorter}
 use Rattle.plan.specs.declared.Plan.{Plan}
 use Rattle.plan.specs.Code.{code, pointOf, isCode}
@@ -27,14 +27,8 @@ use Rattle.plan.proofs.Arranging.{codes-count}
 use Rattle.plan.proofs.Codes.{point-code, code-is}
 use Rattle.crossing.specs.declared.found.Best.the-variants.{Nothing, At}
 use Rattle.crossing.specs.Search.{answerOf}
-use Rattle.model.specs.Call.{answered, step, oneRound}
-use Rattle.deck.specs.declared.Deck.{Deck}
-use Rattle.deck.specs.declared.calls.Outcome.{Outcome}
-use Rattle.deck.specs.declared.rounds.Rounded.{Rounded}
-use Rattle.deck.specs.Form.{deckOf, stateOf}
-use Rattle.deck.specs.Rounds.{adds, RoundOf}
-use Rattle.deck.specs.declared.calls.Reply.the-variants.{Finished, Tap}
-use Rattle.deck.specs.Calls.{replyOf, answer}
+use Rattle.rounds.specs.declared.Step.the-variants.{Finished, Tap}
+use Rattle.rounds.specs.Rounds.{adds, stepOf}
 
 -- What a round answers for the best candidate.
 roundWith : State → Option Point → RoundResult
@@ -63,9 +57,9 @@ module _ (s : State) (e : answerOf (best (points s)) ≡ Nothing) where
   unfolding roundWith
   added-stays = sym (ap (λ (r : RoundResult). adds (r .answer)) stays)
 
-  pub reply-stays : Finished ≡ replyOf (answered (round s .answer))
-  unfolding roundWith replyOf
-  reply-stays = sym (ap (λ (r : RoundResult). replyOf (answered (r .answer))) stays)
+  pub step-stays : Finished ≡ stepOf (round s .answer)
+  unfolding roundWith stepOf
+  step-stays = sym (ap (λ (r : RoundResult). stepOf (r .answer)) stays)
 
 -- One was found: what is known of its code.
 pub record Joins (s : State) (u v : ℕ) : Type 0 where
@@ -113,12 +107,12 @@ module _ (s : State) (u v : ℕ) (j : Joins s u v) where
   unfolding roundWith
   added-joins = sym (ap (λ (r : RoundResult). adds (r .answer)) joins)
 
-  pub reply-joins : (s′ : State) (x y : ℤ) (m n : ℕ) → s′ ≡ prune (withSteiner (pointOf (u * 65536 + v)) s) → x ≡ coordinate u → y ≡ coordinate v → m ≡ treeLength (points s) → n ≡ treeLength (points s′)
-      → Tap x y (m - n) ≡ replyOf (answered (round s .answer))
-  unfolding roundWith replyOf
-  reply-joins s′ x y m n e ex ey em en =
+  pub step-joins : (s′ : State) (x y : ℤ) (m n : ℕ) → s′ ≡ prune (withSteiner (pointOf (u * 65536 + v)) s) → x ≡ coordinate u → y ≡ coordinate v → m ≡ treeLength (points s) → n ≡ treeLength (points s′)
+      → Tap x y (m - n) ≡ stepOf (round s .answer)
+  unfolding roundWith stepOf
+  step-joins s′ x y m n e ex ey em en =
       (λ i. Tap ((ex ∙ j .atX) i) ((ey ∙ j .atY) i) (em i - (en ∙ ap (λ (z : State). treeLength (points z)) e) i))
-      ∙ sym (ap (λ (r : RoundResult). replyOf (answered (r .answer))) joins)
+      ∙ sym (ap (λ (r : RoundResult). stepOf (r .answer)) joins)
 
   pub joins-free : List·Memᴰ (pointOf (u * 65536 + v)) (s .pins) → ⊥
   joins-free i = j .candidate .2 (points-in s (pointOf (u * 65536 + v)) .1 (inl i))
@@ -133,13 +127,3 @@ steiner-room w p v =
   where
     count : w .nsteiner ≡ length (work.stateOf w .steiner)
     count = codes-count (w .steiner) (w .nsteiner) (p .arranged .steinerCodes)
-
--- The round of a deck from that of its working form.
-pub round-answer : (d e : Deck) (w : Plan) (t : Rounded) → work.stateOf w ≡ stateOf d → RoundOf w t → e ≡ deckOf (work.stateOf (t .plan))
-    → _≡_ {A = Outcome} (record { next = e; reply = t .reply }) (answer (step (stateOf d) oneRound))
-unfolding answer step
-round-answer d e w t same rounded is =
-    λ i. record {
-      next = (is ∙ ap deckOf (rounded .next ∙ ap (λ (z : State). round z .next) same)) i;
-      reply = (rounded .reply ∙ ap (λ (z : State). replyOf (answered (round z .answer))) same) i;
-    }

@@ -1,16 +1,16 @@
--- `deck::rounds::finish_of` meets its contract. The invariant: what the rounds to come lead to, the model's rounds lead to from the start.
+-- `rounds::finish_of` meets its contract. The invariant: what the rounds to come lead to, the model's rounds lead to from the start.
 use mathlib.Core.Path.{_≡_, refl, sym, _∙_}
 use Prim.Native.Nat.{_-_}
 use native.Mathlib.Omega.{arith}
 use borrow.Author.Needs.{needs}
 use Rattle.model.specs.Question.{lengthOfState}
 use Rattle.plan.specs.Work as work
-use Rattle.deck.proofs.ToEnd.{Running, running-start, running-less, running-fits, running-next, running-more, running-end}
-use Rattle.deck.proofs.rounds.finish_of.Statement.{statement}
-use Rattle.deck.proofs.rounds.finish_of.Tie as tie
-use Rattle.deck.proofs.rounds.finish_of.Reads as reads
-use Rattle.deck.proofs.rounds.finish_of.Lts as lts
-use Rattle.deck.proofs.rounds.round_of.Reads as round-of-reads
+use Rattle.rounds.proofs.ToEnd.{Running, running-start, running-less, running-fits, running-next, running-more, running-end}
+use Rattle.rounds.proofs.finish_of.Statement.{statement}
+use Rattle.rounds.proofs.finish_of.Tie as tie
+use Rattle.rounds.proofs.finish_of.Reads as reads
+use Rattle.rounds.proofs.finish_of.Lts as lts
+use Rattle.rounds.proofs.round_of.Reads as round-of-reads
 
 abbrev Inv-loop : tie.InvT-loop
 Inv-loop at₀ count₀ last₀ more₀ at count last more = Running at₀ at last count × (more ≡ last .added)
@@ -18,33 +18,26 @@ Inv-loop at₀ count₀ last₀ more₀ at count last more = Running at₀ at la
 abbrev μ-loop : tie.MeasureT-loop
 μ-loop at₀ count₀ last₀ more₀ at count last more = lengthOfState (work.stateOf at₀) - count
 
--- src/rounds.rt:80:9
 round-of-requires : tie.Need-round-of-requires Inv-loop μ-loop
 round-of-requires c κs = c .pre
 
--- src/rounds.rt:82:5
 loop-holds : tie.Need-loop-holds Inv-loop μ-loop
 loop-holds c = (running-start _ _ (c .before .pre .0) (c .before .pre .1) (c .round-of .ensures), refl)
 
--- src/rounds.rt:84:9
 add-count : tie.Need-add-count Inv-loop μ-loop
 add-count c =
     let h = running-fits _ _ _ _ (c .before .before .loop .inv .0) (sym (c .before .before .loop .inv .1) ∙ c .before .loop-test .taken) in
     search needs
 
--- src/rounds.rt:85:9
 round-of-requires-2 : tie.Need-round-of-requires-2 Inv-loop μ-loop
 round-of-requires-2 c κs = running-next _ _ _ _ (c .before .before .loop .inv .0) (sym (c .before .before .loop .inv .1) ∙ c .before .loop-test .taken)
 
--- src/rounds.rt:82:5
 loop-less : tie.Need-loop-less Inv-loop μ-loop
 loop-less c = omega (arith, running-less _ _ _ _ (c .before .before .before .loop .inv .0) (sym (c .before .before .before .loop .inv .1) ∙ c .before .before .loop-test .taken))
 
--- src/rounds.rt:82:5
 loop-again : tie.Need-loop-again Inv-loop μ-loop
 loop-again c = (running-more _ _ _ _ (c .before .before .before .loop .inv .0) (sym (c .before .before .before .loop .inv .1) ∙ c .before .before .loop-test .taken) _ (c .round-of2 .ensures), refl)
 
--- src/rounds.rt:73:1
 returns : tie.Need-returns Inv-loop μ-loop
 returns c = running-end _ _ _ _ (c .before .loop .inv .0) (c .before .before .before .pre .1) (sym (c .before .loop .inv .1) ∙ c .loop-test .left)
 

@@ -1,24 +1,29 @@
--- What a round and a run to the end on a working form leave and reply, by the model.
+-- What a round and a run to the end on a working form leave and answer, by the model.
 use mathlib.Core.Path.{_≡_}
 use mathlib.Core.Bool.{Bool, true, false}
 use Rattle.model.specs.Round.{RoundAnswer, finished, tap, round, finish}
-use Rattle.model.specs.Call.{answered}
 use Rattle.plan.specs.declared.Plan.{Plan}
 use Rattle.plan.specs.Work as work
-use Rattle.deck.specs.declared.rounds.Rounded.{Rounded}
-use Rattle.deck.specs.declared.rounds.Ended.{Ended}
-use Rattle.deck.specs.Calls.{replyOf}
+use Rattle.rounds.specs.declared.Rounded.{Rounded}
+use Rattle.rounds.specs.declared.Ended.{Ended}
+use Rattle.rounds.specs.declared.Step.{Step}
+use Rattle.rounds.specs.declared.Step.the-variants.{Finished, Tap}
 
 -- Whether a round added a Steiner point.
 abbrev pub adds : RoundAnswer → Bool
 adds finished = false
 adds (tap c fall) = true
 
+-- What the model answers, as the program's enum.
+unfoldable pub stepOf : RoundAnswer → Step
+stepOf finished = Finished
+stepOf (tap p fall) = Tap (p .x) (p .y) fall
+
 pub record RoundOf (w : Plan) (r : Rounded) : Type 0 where
   pub planned : work.Planned (r .plan)
   pub next : work.stateOf (r .plan) ≡ round (work.stateOf w) .next
   pub added : r .added ≡ adds (round (work.stateOf w) .answer)
-  pub reply : r .reply ≡ replyOf (answered (round (work.stateOf w) .answer))
+  pub step : r .step ≡ stepOf (round (work.stateOf w) .answer)
 
 pub record FinishOf (w : Plan) (r : Ended) : Type 0 where
   pub planned : work.Planned (r .plan)
