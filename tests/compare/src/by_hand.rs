@@ -1,124 +1,210 @@
-//! The algorithm of the proved functions, written by hand: the nearest point
-//! of each octant, their keys put among those of the tree, and Kruskal's pass
-//! with a label for each point.
+//! The scoring of the proved planner, written by hand: a table of the longest
+//! edge on the tree's path between each two points, filled once for a tree, and
+//! the nearest point of each of four regions, for all crossings of one column
+//! together.
 
+use crate::by_hand_tree::{tree, Tree};
 use crate::points::Stored;
 
-/// Larger than every key: the mark of an octant with no point.
-const NO_KEY: u64 = u64::MAX;
+/// The most points, and the most lines of one direction.
+pub const ROOM: usize = 128;
 
-/// The most keys of a pass: those of a tree of 127 points and of a star.
-const ROOM: usize = 144;
+/// A length that no edge has.
+const NO_LENGTH: u32 = 131_072;
 
-/// A tree's keys, least first.
-struct Keys {
-    list: [u64; ROOM],
-    count: usize,
+/// The key of no point: that length, and point 0. A key is 128 times the length
+/// to a point, and the point's number.
+const FAR: i32 = 131_072 * 128;
+
+/// For each two points the longest edge on the tree's path between them.
+pub struct Longest {
+    rows: Vec<[u32; ROOM]>,
 }
 
-impl Keys {
-    fn none() -> Keys {
-        Keys {
-            list: [0; ROOM],
-            count: 0,
+impl Longest {
+    pub fn new() -> Longest {
+        Longest {
+            rows: vec![[0; ROOM]; ROOM],
         }
     }
 
-    /// Takes the keys of another.
-    fn copy(&mut self, other: &Keys) {
-        self.count = other.count;
-        self.list[..other.count].copy_from_slice(&other.list[..other.count]);
+    /// Fills the table for a tree. Each point joins those before it by one edge,
+    /// so its row is that of the edge's other end, with this edge.
+    pub fn fill(&mut self, tree: &Tree, points: usize) {
+        self.rows[0] = [0; ROOM];
+        for join in tree.joins() {
+            let (new, old) = (join.point as usize, join.to as usize);
+            let mut row = self.rows[old];
+            for longest in &mut row[..points] {
+                *longest = join.length.max(*longest);
+            }
+            row[new] = 0;
+            self.rows[new] = row;
+            for (other, longest) in self.rows[..points].iter_mut().zip(row) {
+                other[new] = longest;
+            }
+        }
     }
 
-    fn push(&mut self, key: u64) {
-        self.list[self.count] = key;
-        self.count += 1;
+    /// The length that is added to the tree with a point at the nearest places
+    /// given as keys, less `NO_LENGTH`: what their edges put out of the tree.
+    #[inline(always)]
+    fn saved(&self, keys: [i32; 4]) -> u32 {
+        let keys = keys.map(|key| key as u32);
+        let mut saved = 0;
+        for (place, key) in keys.iter().enumerate() {
+            let mut longest = NO_LENGTH;
+            for other in &keys[..place] {
+                let between = self.rows[(other % 128) as usize][(key % 128) as usize];
+                longest = longest.min(between.max(other / 128));
+            }
+            saved += longest.saturating_sub(key / 128);
+        }
+        saved
     }
+}
 
-    /// Puts a key in its place; no key is there twice.
-    fn insert(&mut self, key: u64) {
-        let kept = &self.list[..self.count];
-        let at = kept
-            .iter()
-            .position(|&other| key <= other)
-            .unwrap_or(self.count);
-        self.list.copy_within(at..self.count, at + 1);
-        self.list[at] = key;
-        self.count += 1;
+/// The nearest point of each region for each row of a column. While they are
+/// searched, each is what its key lacks to `FAR`, so that 0 is no point.
+struct Column {
+    west: [i32; ROOM],
+    east: [i32; ROOM],
+    north: [i32; ROOM],
+    south: [i32; ROOM],
+}
+
+impl Column {
+    fn keys(&self, row: usize) -> [i32; 4] {
+        [
+            FAR - self.east[row],
+            FAR - self.west[row],
+            FAR - self.north[row],
+            FAR - self.south[row],
+        ]
+    }
+}
+
+/// One point against rows on one side of it: it is steep where the way along
+/// the column is longer than the way across, and else flat.
+#[inline(always)]
+fn offer(
+    rows: &[i32],
+    along: impl Fn(i32) -> i32,
+    across: i32,
+    steep: &mut [i32],
+    flat: &mut [i32],
+) {
+    let lack = FAR - across;
+    for ((row, steep), flat) in rows.iter().zip(steep).zip(flat) {
+        let along = along(*row);
+        let is_steep = along > across;
+        *steep = (if is_steep { lack - along } else { 0 }).max(*steep);
+        *flat = (if is_steep { 0 } else { lack - along }).max(*flat);
+    }
+}
+
+/// The rows of a round: their coordinates, least first, and 128 times those; for
+/// each point the number of rows below it.
+pub struct Rows {
+    pub ys: Vec<u16>,
+    scaled: Vec<i32>,
+    below: Vec<usize>,
+}
+
+impl Rows {
+    /// The rows, which rise, for points at the heights `held`.
+    pub fn new(ys: &[u16], held: &[u16]) -> Rows {
+        assert!(ys.len() <= ROOM && held.len() <= ROOM);
+        let below = |y: &u16| ys.iter().map(|row| u16::from(row < y)).sum::<u16>();
+        Rows {
+            ys: ys.to_vec(),
+            scaled: ys.iter().map(|&y| i32::from(y) * 128).collect(),
+            below: held.iter().map(|y| below(y).into()).collect(),
+        }
+    }
+}
+
+/// The nearest points of the crossings of one x with all rows.
+fn column(xs: &[u16], ys: &[u16], x: u16, rows: &Rows) -> Column {
+    let [west, east, north, south] = [[0; ROOM]; 4];
+    let mut found = Column {
+        west,
+        east,
+        north,
+        south,
+    };
+    let count = rows.scaled.len();
+    for (point, (&px, &py)) in xs.iter().zip(ys).enumerate() {
+        let across = i32::from(px.abs_diff(x)) * 128 + point as i32;
+        let y = i32::from(py) * 128;
+        let below = rows.below[point];
+        let flat = if px < x {
+            &mut found.west
+        } else {
+            &mut found.east
+        };
+        let (flat_below, flat_above) = flat[..count].split_at_mut(below);
+        let (rows_below, rows_above) = rows.scaled.split_at(below);
+        offer(
+            rows_below,
+            |row| y - row,
+            across,
+            &mut found.north[..below],
+            flat_below,
+        );
+        offer(
+            rows_above,
+            |row| row - y,
+            across,
+            &mut found.south[below..count],
+            flat_above,
+        );
+    }
+    found
+}
+
+/// The length of the tree with each crossing of one x with the rows, to `each`
+/// in their order; `length` is that of the tree.
+#[inline(always)]
+pub fn score_column(
+    xs: &[u16],
+    ys: &[u16],
+    length: u32,
+    longest: &Longest,
+    x: u16,
+    rows: &Rows,
+    mut each: impl FnMut(u16, u32),
+) {
+    let found = column(xs, ys, x, rows);
+    for (row, &y) in rows.ys.iter().enumerate() {
+        each(y, length + NO_LENGTH - longest.saved(found.keys(row)));
     }
 }
 
 /// The lengths of the trees with each crossing; where a point is held there
-/// already, the length of the tree as it is.
+/// already, the length of the tree as it is. Crossings of one x with rising y
+/// that stand together are scored together.
 pub fn lengths(points: &Stored, crossings: &Stored) -> Vec<u64> {
     let (xs, ys) = (&points.xs[..], &points.ys[..]);
-    let (mut tree, mut work) = (Keys::none(), Keys::none());
-    let mut plain = 0;
-    for n in 0..xs.len() {
-        with_star(&tree, nearest(&xs[..n], &ys[..n], xs[n], ys[n]), &mut work);
-        tree.count = 0;
-        plain = pass(&work, |key| tree.push(key));
-    }
-    let tried = crossings.xs.iter().zip(&crossings.ys).map(|(&x, &y)| {
-        if holds(xs, ys, x, y) {
-            return plain;
+    let tree = tree(xs, ys);
+    let mut longest = Longest::new();
+    longest.fill(&tree, xs.len());
+    let mut found = Vec::with_capacity(crossings.len());
+    while found.len() < crossings.len() {
+        let start = found.len();
+        let x = crossings.xs[start];
+        let mut end = start + 1;
+        while end < crossings.len()
+            && end - start < ROOM
+            && crossings.xs[end] == x
+            && crossings.ys[end - 1] < crossings.ys[end]
+        {
+            end += 1;
         }
-        with_star(&tree, nearest(xs, ys, x, y), &mut work);
-        pass(&work, |_| ())
-    });
-    tried.collect()
-}
-
-fn holds(xs: &[u16], ys: &[u16], x: u16, y: u16) -> bool {
-    xs.iter().zip(ys).any(|(&px, &py)| px == x && py == y)
-}
-
-/// The octant of a difference that is not 0, 0.
-fn octant(dx: i32, dy: i32) -> usize {
-    let first = dy > 0 || (dy == 0 && dx > 0);
-    let (x, y) = if first { (dx, dy) } else { (-dx, -dy) };
-    let reached = (x <= y) as usize + (x <= 0) as usize + (y <= -x) as usize;
-    reached + if first { 0 } else { 4 }
-}
-
-/// For each octant of (x, y), the least key to one of the points.
-fn nearest(xs: &[u16], ys: &[u16], x: u16, y: u16) -> [u64; 8] {
-    let mut best = [NO_KEY; 8];
-    for (j, (&px, &py)) in xs.iter().zip(ys).enumerate() {
-        let (dx, dy) = (px as i32 - x as i32, py as i32 - y as i32);
-        let length = dx.unsigned_abs() as u64 + dy.unsigned_abs() as u64;
-        let key = (length * 128 + j as u64) * 128 + xs.len() as u64;
-        let place = &mut best[octant(dx, dy)];
-        *place = key.min(*place);
+        let rows = Rows::new(&crossings.ys[start..end], ys);
+        score_column(xs, ys, tree.length, &longest, x, &rows, |_, length| {
+            found.push(u64::from(length));
+        });
     }
-    best
-}
-
-/// The keys of the tree with those of a star, to `work`.
-fn with_star(tree: &Keys, star: [u64; 8], work: &mut Keys) {
-    work.copy(tree);
-    for key in star {
-        if key != NO_KEY {
-            work.insert(key);
-        }
-    }
-}
-
-/// Kruskal's pass: hands each key that joins two parts to `keep`, and returns
-/// the total of their lengths.
-fn pass(keys: &Keys, mut keep: impl FnMut(u64)) -> u64 {
-    let mut labels: [u8; 128] = std::array::from_fn(|i| i as u8);
-    let mut total = 0;
-    for &key in &keys.list[..keys.count] {
-        let a = labels[(key / 128 % 128) as usize];
-        let b = labels[(key % 128) as usize];
-        if a != b {
-            keep(key);
-            total += key / 16_384;
-            for label in &mut labels {
-                *label = if *label == a { b } else { *label };
-            }
-        }
-    }
-    total
+    found
 }

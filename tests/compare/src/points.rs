@@ -26,6 +26,14 @@ impl Stored {
         }
     }
 
+    /// The points.
+    pub fn points(&self) -> Vec<Point> {
+        let coordinate = |z: u16| i64::from(z) - BIAS;
+        let each = self.xs.iter().zip(&self.ys);
+        each.map(|(&x, &y)| Point::new(coordinate(x), coordinate(y)))
+            .collect()
+    }
+
     pub fn len(&self) -> usize {
         self.xs.len()
     }

@@ -1,14 +1,14 @@
 //! Nanoseconds per crossing of the ways to score crossings, which must agree on
 //! every length: a, the whole tree afresh from all pairs sorted (once as tuples
-//! and once packed in one number each); b, the proved functions; c, their
-//! algorithm written by hand.
+//! and once packed in one number each); b, the proved functions; c, the
+//! planner's scoring written by hand.
 
+use compare::cpu_time::timed;
 use compare::points::{free_crossings, on_grid, Stored};
 use compare::{by_hand, proved, sorted_pairs};
 use reference::generate::Random;
 use reference::plane::Point;
 use std::hint::black_box;
-use std::time::Instant;
 
 /// Point sets of one kind.
 struct Case {
@@ -90,12 +90,10 @@ impl Way {
     /// Runs every job once, and keeps the time if it is the least, in
     /// nanoseconds.
     fn measure(&mut self, jobs: &[Job]) {
-        let start = Instant::now();
-        let runs = jobs
-            .iter()
-            .map(|(points, crossings)| (self.run)(black_box(points), black_box(crossings)));
-        self.found = runs.flatten().collect();
-        self.least = self.least.min(start.elapsed().as_nanos() as f64);
+        let score = |(points, crossings): &Job| (self.run)(black_box(points), black_box(crossings));
+        let (found, time) = timed(|| jobs.iter().flat_map(score).collect());
+        self.found = found;
+        self.least = self.least.min(time);
     }
 }
 
