@@ -18,16 +18,18 @@ const FAR: i32 = 131_072 * 128;
 
 /// For each two points the longest edge on the tree's path between them.
 pub struct Longest {
-    rows: Vec<[u32; ROOM]>,
+    rows: Box<[[u32; ROOM]; ROOM]>,
+}
+
+impl Default for Longest {
+    fn default() -> Longest {
+        Longest {
+            rows: Box::new([[0; ROOM]; ROOM]),
+        }
+    }
 }
 
 impl Longest {
-    pub fn new() -> Longest {
-        Longest {
-            rows: vec![[0; ROOM]; ROOM],
-        }
-    }
-
     /// Fills the table for a tree. Each point joins those before it by one edge,
     /// so its row is that of the edge's other end, with this edge.
     pub fn fill(&mut self, tree: &Tree, points: usize) {
@@ -46,8 +48,9 @@ impl Longest {
         }
     }
 
-    /// The length that is added to the tree with a point at the nearest places
-    /// given as keys, less `NO_LENGTH`: what their edges put out of the tree.
+    /// What the tree with one point more saves against an edge of length
+    /// `NO_LENGTH` to that point, from the keys of its nearest points: what each
+    /// edge puts out of the tree beyond its own length.
     #[inline(always)]
     fn saved(&self, keys: [i32; 4]) -> u32 {
         let keys = keys.map(|key| key as u32);
@@ -187,7 +190,7 @@ pub fn score_column(
 pub fn lengths(points: &Stored, crossings: &Stored) -> Vec<u64> {
     let (xs, ys) = (&points.xs[..], &points.ys[..]);
     let tree = tree(xs, ys);
-    let mut longest = Longest::new();
+    let mut longest = Longest::default();
     longest.fill(&tree, xs.len());
     let mut found = Vec::with_capacity(crossings.len());
     while found.len() < crossings.len() {

@@ -84,7 +84,7 @@ pub fn run_to_end(pins: &[Point]) -> Ended {
         points: Stored::of(pins),
         is_tap: vec![false; pins.len()],
     };
-    let mut longest = Longest::new();
+    let mut longest = Longest::default();
     let mut tree = held.tree();
     let mut rounds = 0;
     while let Some((x, y)) = held.best(&tree, &mut longest) {

@@ -1,6 +1,6 @@
 //! The proved tree, the proved deck and the proved entries for C beside other
-//! implementations: the reference of document 01 for the tests, and two more
-//! for the bench.
+//! implementations: the reference of document 01 for the tests, and others for
+//! the bench.
 
 pub mod agree;
 pub mod by_hand;
