@@ -88,8 +88,10 @@ pub fn run_to_end(pins: &[Point]) -> Ended {
     let mut tree = held.tree();
     let mut rounds = 0;
     while let Some((x, y)) = held.best(&tree, &mut longest) {
+        let before = tree.length;
         held.insert(x, y);
         tree = held.sweep();
+        assert!(tree.length < before, "a round that shortens the tree");
         rounds += 1;
     }
     Ended {
