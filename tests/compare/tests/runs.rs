@@ -5,7 +5,7 @@ use compare::by_hand_run::run_to_end;
 use compare::deck::Deck;
 use compare::runs::{ended, run_afresh, run_proved, Ended};
 use compare::{by_hand, prim, sorted_pairs};
-use reference::generate::{pins, Random, KINDS};
+use reference::generate::{most_pins, pins, Random, KINDS};
 use reference::session::{finish, length, Reply, State};
 
 /// The run to the end by the reference.
@@ -47,4 +47,14 @@ fn small_decks() {
 #[test]
 fn larger_decks() {
     assert!(compare(72, 56, 20) > 80);
+}
+
+#[test]
+fn full_decks_of_even_pitch() {
+    let mut random = Random::new(73);
+    for _ in 0..200 {
+        let held = most_pins(&mut random);
+        let deck = Deck::of(&State::new(held.clone(), Vec::new()));
+        assert_eq!(run_to_end(&held), ended(&run_proved(&deck)), "{held:?}");
+    }
 }
