@@ -10,6 +10,7 @@ use Rattle.plane.specs.Stored.{pointAt}
 use Rattle.model.specs.Round.{column, crossings}
 use Rattle.sets.proofs.Part.{next, at-end}
 use Rattle.score.specs.Gain.{tableAt, gain}
+use Rattle.score.specs.Nearest.{codeOf}
 use Rattle.score.specs.Prepared.{Prepared}
 use Rattle.crossing.specs.declared.found.Greatest.{Greatest}
 use Rattle.crossing.specs.Search.{Spares, greater, tried, tryAll, pointsOf}
@@ -26,16 +27,16 @@ module _ (table : List ℕ) (x : ℕ) (rows : List ℕ) (count : ℕ) (east west
   column-none = record { within = omega arith; rest = λ ps h. refl }
 
   module _ (top : Greatest) (row : ℕ) (r : InColumn table x rows count east west north south known top row) where
-    pub column-more : count ≤ length rows → row < count → (g : ℕ)
-        → g ≡ gain (tableAt table) [] (getD east row 0 ∷ getD west row 0 ∷ getD north row 0 ∷ getD south row 0 ∷ [])
+    pub column-more : count ≤ length rows → row < count → (g k₀ k₁ k₂ k₃ : ℕ) → k₀ ≡ codeOf (getD east row 0) → k₁ ≡ codeOf (getD west row 0)
+        → k₂ ≡ codeOf (getD north row 0) → k₃ ≡ codeOf (getD south row 0) → g ≡ gain (tableAt table) [] (k₀ ∷ k₁ ∷ k₂ ∷ k₃ ∷ [])
         → (after : Greatest) → after ≡ greater top g x (getD rows row 0) → InColumn table x rows count east west north south known after (row + 1)
     unfolding tryAll column
-    column-more size h g eg after e =
+    column-more size h g k₀ k₁ k₂ k₃ e₀ e₁ e₂ e₃ eg after e =
         let left : List ℕ = drop (row + 1) (take count rows) in
         record {
           within = omega arith;
           rest = λ ps s.
-              ap (λ (t : Greatest). tryAll ps t (column (coordinate x) (map coordinate left))) (e ∙ tried-is ps top g x (getD rows row 0) (eg ∙ s row h))
+              ap (λ (t : Greatest). tryAll ps t (column (coordinate x) (map coordinate left))) (e ∙ tried-is ps top g x (getD rows row 0) (eg ∙ (λ i. gain (tableAt table) [] (e₀ i ∷ e₁ i ∷ e₂ i ∷ e₃ i ∷ [])) ∙ s row h))
               ∙ ap (λ (l : List ℕ). tryAll ps top (column (coordinate x) (map coordinate l))) (sym (next rows count row size h))
               ∙ r .rest ps s;
         }

@@ -15,9 +15,9 @@ use Rattle.model.specs.Set.{sort}
 use Rattle.tree.specs.Build.{Rises}
 use Rattle.tree.specs.Held.{held}
 use Rattle.tree.specs.Keys.{tab, treeKeys}
-use Rattle.score.specs.Gain.{far, tableAt, gain}
+use Rattle.score.specs.Gain.{far, farCode, tableAt, gain}
 use Rattle.score.specs.Rows.{RowsGiven}
-use Rattle.score.specs.Nearest.{ColumnGiven}
+use Rattle.score.specs.Nearest.{codeOf, ColumnGiven}
 use Rattle.score.specs.Prepared.{sparedBy}
 use Rattle.crossing.specs.declared.found.Best.{Best}
 use Rattle.crossing.specs.declared.found.Best.the-variants.{Nothing, At}
@@ -64,11 +64,16 @@ pub record Stored (columns : List ℕ) (width : ℕ) : Type 0 where
   pub within : width ≤ length columns
   pub stored : (i : ℕ) → i < width → getD columns i 0 ≤ 65535
 
--- At each of the first `count` rows the four codes gain what the crossing of x with the row spares.
+-- Margins of the first `count` rows.
+pub record Margins (count : ℕ) (l : List ℕ) : Type 0 where
+  pub within : count ≤ length l
+  pub low : (i : ℕ) → i < count → getD l i 0 ≤ farCode
+
+-- At each of the first `count` rows the codes of the four margins gain what the crossing of x with the row spares.
 abbrev pub Spares : List ℕ → ℕ → List ℕ → ℕ → List ℕ → List ℕ → List ℕ → List ℕ → List Point → Type 0
 Spares table x rows count east west north south ps =
     (i : ℕ) → i < count
-    → gain (tableAt table) [] (getD east i 0 ∷ getD west i 0 ∷ getD north i 0 ∷ getD south i 0 ∷ []) ≡ sparedBy ps (pointAt x (getD rows i 0))
+    → gain (tableAt table) [] (codeOf (getD east i 0) ∷ codeOf (getD west i 0) ∷ codeOf (getD north i 0) ∷ codeOf (getD south i 0) ∷ []) ≡ sparedBy ps (pointAt x (getD rows i 0))
 
 -- The best so far, or the crossing at (x, y) where its gain g is greater.
 abbrev pub greater : Greatest → ℕ → ℕ → ℕ → Greatest

@@ -71,7 +71,18 @@ fn search_all(xs: &[u16], ys: &[u16], n: usize, keys: &[u64], m: usize) -> Best
         gain: FAR,
         best: Best::Nothing,
     };
-    let end = all_columns(xs, n, &table, &gaps, &ranks, &columns, width, &rows, count, start);
+    let end = all_columns(
+        xs,
+        n,
+        &table,
+        &gaps,
+        &ranks,
+        &columns,
+        width,
+        &rows,
+        count,
+        start,
+    );
     end.best
 }
 

@@ -2,6 +2,7 @@
 use super::found::Best;
 use super::found::Greatest;
 use score::gain::gain;
+use score::nearest::code_of;
 use score::nearest::nearest;
 use score::nearest::no_codes;
 ghost use mathlib.Core.Path.{_≡_};
@@ -13,7 +14,7 @@ ghost use Rattle.plane.specs.Coordinate.{coordinate};
 ghost use Rattle.model.specs.Round as round;
 ghost use Rattle.score.specs.Rows.{RowsGiven};
 ghost use Rattle.score.specs.Prepared.{Prepared};
-ghost use Rattle.crossing.specs.Search.{SearchGiven, Stored, Spares, pointsOf, greater, tryAll};
+ghost use Rattle.crossing.specs.Search.{SearchGiven, Stored, Margins, Spares, pointsOf, greater, tryAll};
 
 // A crossing of the gain g: it takes the place of the best so far where it gains more.
 fn better(known: Greatest, g: u32, x: u16, y: u16) -> Greatest
@@ -28,7 +29,7 @@ fn better(known: Greatest, g: u32, x: u16, y: u16) -> Greatest
     known
 }
 
-// The crossings of one x with the first `count` rows, whose nearest points are given by their codes.
+// The crossings of one x with the first `count` rows, whose nearest points are given by the margins of their codes.
 fn pick(
     table: &[u32],
     x: u16,
@@ -42,7 +43,7 @@ fn pick(
 ) -> Greatest
     requires { ⌜ length (now table) ≡ 16384 ⌝ }
     requires { ⌜ RowsGiven (now rows) count ⌝ }
-    requires { ⌜ (count ≤ length (now east)) × (count ≤ length (now west)) × (count ≤ length (now north)) × (count ≤ length (now south)) ⌝ }
+    requires { ⌜ Margins count (now east) × Margins count (now west) × Margins count (now north) × Margins count (now south) ⌝ }
     ensures { λ r. ⌜ ((ps : List Point)
         → Spares (now (table .entry)) x (now (rows .entry)) count (now (east .entry)) (now (west .entry)) (now (north .entry)) (now (south .entry)) ps
         → r ≡ tryAll ps known (round.column (coordinate x) (map coordinate (take count (now (rows .entry)))))) ⌝ }
@@ -50,7 +51,13 @@ fn pick(
     let mut best = known;
     let mut row = 0;
     while row < count {
-        let g = gain(table, east[row], west[row], north[row], south[row]);
+        let g = gain(
+            table,
+            code_of(east[row]),
+            code_of(west[row]),
+            code_of(north[row]),
+            code_of(south[row]),
+        );
         best = better(best, g, x, rows[row] as u16);
         row += 1;
     }
@@ -77,7 +84,18 @@ pub fn column(
     let mut west = no_codes();
     let mut north = no_codes();
     let mut south = no_codes();
-    nearest(xs, n, gaps, ranks, count, x, &mut east, &mut west, &mut north, &mut south);
+    nearest(
+        xs,
+        n,
+        gaps,
+        ranks,
+        count,
+        x,
+        &mut east,
+        &mut west,
+        &mut north,
+        &mut south,
+    );
     pick(table, x, rows, count, &east, &west, &north, &south, known)
 }
 
@@ -103,7 +121,17 @@ pub fn all_columns(
     let mut best = known;
     let mut at = 0;
     while at < width {
-        best = column(xs, n, table, gaps, ranks, columns[at] as u16, rows, count, best);
+        best = column(
+            xs,
+            n,
+            table,
+            gaps,
+            ranks,
+            columns[at] as u16,
+            rows,
+            count,
+            best,
+        );
         at += 1;
     }
     best

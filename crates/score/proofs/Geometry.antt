@@ -124,27 +124,43 @@ module _ (xs ys : List ℕ) (n : ℕ) (table gaps ranks rows : List ℕ) (count 
 
   round-east : Round (East xs gaps x r)
   round-east i j hi hj a b l =
-      omega (arith, between-is i j, dist-is j,
-      flat-near x y (getD xs i 0) (getD ys i 0) (getD xs j 0) (getD ys j 0) (omega (arith, l, dist-is i, dist-is j)) (inl (a .0, b .0)) (flat-is i hi .0 (a .1)) (flat-is j hj .0 (b .1)))
+      omega (
+        arith,
+        between-is i j,
+        dist-is j,
+        flat-near x y (getD xs i 0) (getD ys i 0) (getD xs j 0) (getD ys j 0) (omega (arith, l, dist-is i, dist-is j)) (inl (a .0, b .0)) (flat-is i hi .0 (a .1)) (flat-is j hj .0 (b .1)),
+      )
 
   round-west : Round (West xs gaps x r)
   round-west i j hi hj a b l =
-      omega (arith, between-is i j, dist-is j,
-      flat-near x y (getD xs i 0) (getD ys i 0) (getD xs j 0) (getD ys j 0) (omega (arith, l, dist-is i, dist-is j)) (inr (omega (arith, a .0), omega (arith, b .0))) (flat-is i hi .0 (a .1)) (flat-is j hj .0 (b .1)))
+      omega (
+        arith,
+        between-is i j,
+        dist-is j,
+        flat-near x y (getD xs i 0) (getD ys i 0) (getD xs j 0) (getD ys j 0) (omega (arith, l, dist-is i, dist-is j)) (inr (omega (arith, a .0), omega (arith, b .0))) (flat-is i hi .0 (a .1)) (flat-is j hj .0 (b .1)),
+      )
 
   round-north : Round (North xs gaps ranks x r)
   unfolding y
   round-north i j hi hj a b l =
-      omega (arith, between-is i j, dist-is j,
-      steep-near x y (getD xs i 0) (getD ys i 0) (getD xs j 0) (getD ys j 0) (omega (arith, l, dist-is i, dist-is j))
-      (inl (omega (arith, p .ranked i hi .below r (a .0)), omega (arith, p .ranked j hj .below r (b .0)))) (steep-is i hi (a .1)) (steep-is j hj (b .1)))
+      omega (
+        arith,
+        between-is i j,
+        dist-is j,
+        steep-near x y (getD xs i 0) (getD ys i 0) (getD xs j 0) (getD ys j 0) (omega (arith, l, dist-is i, dist-is j))
+            (inl (omega (arith, p .ranked i hi .below r (a .0)), omega (arith, p .ranked j hj .below r (b .0)))) (steep-is i hi (a .1)) (steep-is j hj (b .1)),
+      )
 
   round-south : Round (South xs gaps ranks x r)
   unfolding y
   round-south i j hi hj a b l =
-      omega (arith, between-is i j, dist-is j,
-      steep-near x y (getD xs i 0) (getD ys i 0) (getD xs j 0) (getD ys j 0) (omega (arith, l, dist-is i, dist-is j))
-      (inr (p .ranked i hi .above r (a .0) below, p .ranked j hj .above r (b .0) below)) (steep-is i hi (a .1)) (steep-is j hj (b .1)))
+      omega (
+        arith,
+        between-is i j,
+        dist-is j,
+        steep-near x y (getD xs i 0) (getD ys i 0) (getD xs j 0) (getD ys j 0) (omega (arith, l, dist-is i, dist-is j))
+            (inr (p .ranked i hi .above r (a .0) below, p .ranked j hj .above r (b .0) below)) (steep-is i hi (a .1)) (steep-is j hj (b .1)),
+      )
 
   module _ (storedX : x ≤ 65535) where
     near : (j : ℕ) → dist (at j) c ≤ 131070

@@ -46,6 +46,11 @@ pub fn gain(table: &[u32], east: u32, west: u32, north: u32, south: u32) -> u32
 {
     let w = over(table, east, west, FAR);
     let n = over(table, west, north, over(table, east, north, FAR));
-    let s = over(table, north, south, over(table, west, south, over(table, east, south, FAR)));
+    let s = over(
+        table,
+        north,
+        south,
+        over(table, west, south, over(table, east, south, FAR)),
+    );
     spared(FAR, east) + spared(w, west) + spared(n, north) + spared(s, south)
 }

@@ -1,6 +1,5 @@
 -- `crossing::best` meets its contract: with no point there is no crossing, and else the search finds the best.
 
-
 use Rattle.crossing.proofs.Preparing.{none-best}
 use borrow.Author.Needs.{needs}
 use Rattle.crossing.proofs.best.Statement.{statement}

@@ -46,7 +46,7 @@ slice-aggregate-all-gaps-2 : tie.Need-slice-aggregate-all-gaps-2
 slice-aggregate-all-gaps-2 c = search needs
 
 all-gaps-requires : tie.Need-all-gaps-requires
-all-gaps-requires c κs = 
+all-gaps-requires c κs =
     let p = c .before .before .before .before .before .before .before .before .before .before .before .before .before .before .before .before .pre .0 in
     (rows-written (c .before .before .before .before .before .before .before .before .before .before .before .before .before .before .before .before .pre .0) (λ i. c .before .before .before .before .before .before .before .before .before .before .before .before .before .before .shared-slice-known2 .given i .fits) (c .before .before .before .before .before .before .before .before .lines2 .ensures), p .inYs, omega (arith, p .few), c .before .before .blank2 .ensures)
 
@@ -57,7 +57,7 @@ slice-aggregate-all-ranks-2 : tie.Need-slice-aggregate-all-ranks-2
 slice-aggregate-all-ranks-2 c = search needs
 
 all-ranks-requires : tie.Need-all-ranks-requires
-all-ranks-requires c κs = 
+all-ranks-requires c κs =
     let p = c .before .before .before .before .before .before .before .before .before .before .before .before .before .before .before .before .before .before .before .before .pre .0 in
     (rows-written (c .before .before .before .before .before .before .before .before .before .before .before .before .before .before .before .before .before .before .before .before .pre .0) (λ i. c .before .before .before .before .before .before .before .before .before .before .before .before .before .before .before .before .before .before .shared-slice-known2 .given i .fits) (c .before .before .before .before .before .before .before .before .before .before .before .before .lines2 .ensures), p .inYs, omega (arith, p .few))
 
@@ -77,17 +77,18 @@ slice-aggregate-all-columns-5 : tie.Need-slice-aggregate-all-columns-5
 slice-aggregate-all-columns-5 c = search needs
 
 all-columns-requires : tie.Need-all-columns-requires
-all-columns-requires c κs = 
+all-columns-requires c κs =
     let p = c .before .before .before .before .before .before .before .before .before .before .before .before .before .before .before .before .before .before .before .before .before .before .before .before .before .before .before .pre .0 in
     let rows = rows-written (c .before .before .before .before .before .before .before .before .before .before .before .before .before .before .before .before .before .before .before .before .before .before .before .before .before .before .before .pre .0) (λ i. c .before .before .before .before .before .before .before .before .before .before .before .before .before .before .before .before .before .before .before .before .before .before .before .before .before .shared-slice-known2 .given i .fits) (c .before .before .before .before .before .before .before .before .before .before .before .before .before .before .before .before .before .before .before .lines2 .ensures) in
     let fill = c .before .before .before .before .before .before .before .before .before .before .before .before .before .before .before .fill in
     let gaps = c .before .before .before .before .before .before .before .before .before .before .all-gaps in
-    let ranks = c .before .before .before .before .before .before .all-ranks in
-    (search-given p (λ i. c .before .before .before .before .before .before .before .before .before .before .before .before .before .before .before .before .before .before .before .before .before .before .before .before .before .shared-slice-known2 .given i .fits) rows (gaps .ensures) (ranks .ensures) (fill .kept .1 .1 .1 .0 ∙ c .before .before .before .before .before .before .before .before .before .before .before .before .before .before .before .before .before .blank .ensures) (gaps .kept .1 .1 .1 .1 .0 ∙ c .before .before .before .before .before .before .before .before .before .before .before .before .before .blank2 .ensures) (ranks .kept .1 .1 .1 .1 .0),
-    columns-written p (λ i. c .before .before .before .before .before .before .before .before .before .before .before .before .before .before .before .before .before .before .before .before .before .before .before .before .before .before .shared-slice-known .given i .fits) (c .before .before .before .before .before .before .before .before .before .before .before .before .before .before .before .before .before .before .before .before .before .before .lines .ensures))
+    let ranks = c .before .before .before .before .before .before .all-ranks in (
+      search-given p (λ i. c .before .before .before .before .before .before .before .before .before .before .before .before .before .before .before .before .before .before .before .before .before .before .before .before .before .shared-slice-known2 .given i .fits) rows (gaps .ensures) (ranks .ensures) (fill .kept .1 .1 .1 .0 ∙ c .before .before .before .before .before .before .before .before .before .before .before .before .before .before .before .before .before .blank .ensures) (gaps .kept .1 .1 .1 .1 .0 ∙ c .before .before .before .before .before .before .before .before .before .before .before .before .before .blank2 .ensures) (ranks .kept .1 .1 .1 .1 .0),
+      columns-written p (λ i. c .before .before .before .before .before .before .before .before .before .before .before .before .before .before .before .before .before .before .before .before .before .before .before .before .before .before .shared-slice-known .given i .fits) (c .before .before .before .before .before .before .before .before .before .before .before .before .before .before .before .before .before .before .before .before .before .before .lines .ensures),
+    )
 
 returns : tie.Need-returns
-returns c = 
+returns c =
     let p = c .before .before .before .before .before .before .before .before .before .before .before .before .before .before .before .before .before .before .before .before .before .before .before .before .before .before .before .before .pre .0 in
     let columns = lines-written _ _ (c .before .before .before .before .before .before .before .before .before .before .before .before .before .before .before .before .before .before .before .before .before .before .before .lines .ensures) in
     let rows = rows-written (c .before .before .before .before .before .before .before .before .before .before .before .before .before .before .before .before .before .before .before .before .before .before .before .before .before .before .before .before .pre .0) (λ i. c .before .before .before .before .before .before .before .before .before .before .before .before .before .before .before .before .before .before .before .before .before .before .before .before .before .before .shared-slice-known2 .given i .fits) (c .before .before .before .before .before .before .before .before .before .before .before .before .before .before .before .before .before .before .before .before .lines2 .ensures) in

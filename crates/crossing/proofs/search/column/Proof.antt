@@ -1,7 +1,7 @@
 -- `crossing::search::column` meets its contract: the nearest points by regions at each row, and the best by their gains.
 use mathlib.Core.Path.{_∙_}
 use native.Mathlib.Omega.{arith}
-use Rattle.crossing.proofs.Columns.{room-given, rows-none, rows-spare}
+use Rattle.crossing.proofs.Columns.{room-given, rows-none, rows-margins, rows-spare}
 use borrow.Author.Needs.{needs}
 use Rattle.crossing.proofs.search.column.Statement.{statement}
 use Rattle.crossing.proofs.search.column.Tie as tie
@@ -36,7 +36,7 @@ slice-aggregate-nearest-4 : tie.Need-slice-aggregate-nearest-4
 slice-aggregate-nearest-4 c = search needs
 
 nearest-requires : tie.Need-nearest-requires
-nearest-requires c κs = 
+nearest-requires c κs =
     let e = c .before .before .before .before .before .before .before .no-codes .ensures in
     let w = c .before .before .before .before .before .before .no-codes2 .ensures in
     let s = c .before .before .before .before .before .no-codes3 .ensures in
@@ -57,14 +57,15 @@ slice-aggregate-pick-4 : tie.Need-slice-aggregate-pick-4
 slice-aggregate-pick-4 c = search needs
 
 pick-requires : tie.Need-pick-requires
-pick-requires c κs = 
+pick-requires c κs =
     let p = c .before .before .before .before .before .before .before .before .before .before .before .before .before .before .before .before .before .before .before .before .before .before .pre in
     let kept = c .before .before .before .before .before .before .before .before .nearest .kept in
+    let at = c .before .before .before .before .before .before .before .before .nearest .ensures in
     let e = c .before .before .before .before .before .before .before .before .before .before .before .before .before .before .before .before .no-codes .ensures .0 in
     let w = c .before .before .before .before .before .before .before .before .before .before .before .before .before .before .before .no-codes2 .ensures .0 in
     let s = c .before .before .before .before .before .before .before .before .before .before .before .before .before .before .no-codes3 .ensures .0 in
     let t = c .before .before .before .before .before .before .before .before .before .before .before .before .before .no-codes4 .ensures .0 in
-    (p .size, (p .given, (omega (arith, p .room .rows, kept .1 .1 .1 .1 .1 .1 .0, e), omega (arith, p .room .rows, kept .1 .1 .1 .1 .1 .1 .1 .0, w), omega (arith, p .room .rows, kept .1 .1 .1 .1 .1 .1 .1 .1 .0, s), omega (arith, p .room .rows, kept .1 .1 .1 .1 .1 .1 .1 .1 .1 .0, t))))
+    (p .size, (p .given, (rows-margins p _ (kept .1 .1 .1 .1 .1 .1 .0 ∙ e) (at .lowEast), rows-margins p _ (kept .1 .1 .1 .1 .1 .1 .1 .0 ∙ w) (at .lowWest), rows-margins p _ (kept .1 .1 .1 .1 .1 .1 .1 .1 .0 ∙ s) (at .lowNorth), rows-margins p _ (kept .1 .1 .1 .1 .1 .1 .1 .1 .1 .0 ∙ t) (at .lowSouth))))
 
 returns : tie.Need-returns
 returns c = λ ys p. c .pick .ensures _ (rows-spare ys p _ (omega (arith, c .before .before .before .before .before .before .before .before .before .before .before .before .before .before .before .before .before .before .before .before .before .before .before .fits .x)) (c .before .before .before .before .before .before .before .before .before .nearest .ensures))

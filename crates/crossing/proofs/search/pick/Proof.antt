@@ -8,6 +8,7 @@ use Rattle.crossing.proofs.search.pick.Reads as reads
 use Rattle.crossing.proofs.search.pick.Lts as lts
 use Rattle.crossing.proofs.search.better.Reads as better-reads
 use Rattle.score.proofs.gain.gain.Reads as gain-reads
+use Rattle.score.proofs.nearest.code_of.Reads as code-of-reads
 
 abbrev Inv-loop : tie.InvT-loop
 Inv-loop table x rows count east west north south best₀ row₀ best row = InColumn table x rows count east west north south best₀ best row
@@ -18,41 +19,53 @@ abbrev μ-loop : tie.MeasureT-loop
 loop-holds : tie.Need-loop-holds Inv-loop μ-loop
 loop-holds c = column-none _ _ _ _ _ _ _ _ _
 
-mul-gain : tie.Need-mul-gain Inv-loop μ-loop
-mul-gain c = omega arith
+mul-code-of : tie.Need-mul-code-of Inv-loop μ-loop
+mul-code-of c = omega arith
 
-shared-slice-read-gain : tie.Need-shared-slice-read-gain Inv-loop μ-loop
-shared-slice-read-gain c = omega (arith, c .before .before .before .before .before .before .before .before .before .pre .1 .1 .0)
+shared-slice-read-code-of : tie.Need-shared-slice-read-code-of Inv-loop μ-loop
+shared-slice-read-code-of c = omega (arith, c .before .before .before .before .before .before .before .before .before .pre .1 .1 .0 .within)
 
-mul-gain-2 : tie.Need-mul-gain-2 Inv-loop μ-loop
-mul-gain-2 c = omega arith
+code-of-requires : tie.Need-code-of-requires Inv-loop μ-loop
+code-of-requires c κs = c .before .before .before .before .before .before .before .before .before .pre .1 .1 .0 .low _ (c .before .loop-test .taken)
 
-shared-slice-read-gain-2 : tie.Need-shared-slice-read-gain-2 Inv-loop μ-loop
-shared-slice-read-gain-2 c = omega (arith, c .before .before .before .before .before .before .before .before .before .before .pre .1 .1 .1)
+mul-code-of-2 : tie.Need-mul-code-of-2 Inv-loop μ-loop
+mul-code-of-2 c = omega arith
 
-mul-gain-3 : tie.Need-mul-gain-3 Inv-loop μ-loop
-mul-gain-3 c = omega arith
+shared-slice-read-code-of-2 : tie.Need-shared-slice-read-code-of-2 Inv-loop μ-loop
+shared-slice-read-code-of-2 c = omega (arith, c .before .before .before .before .before .before .before .before .before .before .before .pre .1 .1 .1 .within)
 
-shared-slice-read-gain-3 : tie.Need-shared-slice-read-gain-3 Inv-loop μ-loop
-shared-slice-read-gain-3 c = omega (arith, c .before .before .before .before .before .before .before .before .before .before .before .pre .1 .1 .2)
+code-of-requires-2 : tie.Need-code-of-requires-2 Inv-loop μ-loop
+code-of-requires-2 c κs = c .before .before .before .before .before .before .before .before .before .before .before .pre .1 .1 .1 .low _ (c .before .before .before .loop-test .taken)
 
-mul-gain-4 : tie.Need-mul-gain-4 Inv-loop μ-loop
-mul-gain-4 c = omega arith
+mul-code-of-3 : tie.Need-mul-code-of-3 Inv-loop μ-loop
+mul-code-of-3 c = omega arith
 
-shared-slice-read-gain-4 : tie.Need-shared-slice-read-gain-4 Inv-loop μ-loop
-shared-slice-read-gain-4 c = omega (arith, c .before .before .before .before .before .before .before .before .before .before .before .before .pre .1 .1 .3)
+shared-slice-read-code-of-3 : tie.Need-shared-slice-read-code-of-3 Inv-loop μ-loop
+shared-slice-read-code-of-3 c = omega (arith, c .before .before .before .before .before .before .before .before .before .before .before .before .before .pre .1 .1 .2 .within)
+
+code-of-requires-3 : tie.Need-code-of-requires-3 Inv-loop μ-loop
+code-of-requires-3 c κs = c .before .before .before .before .before .before .before .before .before .before .before .before .before .pre .1 .1 .2 .low _ (c .before .before .before .before .before .loop-test .taken)
+
+mul-code-of-4 : tie.Need-mul-code-of-4 Inv-loop μ-loop
+mul-code-of-4 c = omega arith
+
+shared-slice-read-code-of-4 : tie.Need-shared-slice-read-code-of-4 Inv-loop μ-loop
+shared-slice-read-code-of-4 c = omega (arith, c .before .before .before .before .before .before .before .before .before .before .before .before .before .before .before .pre .1 .1 .3 .within)
+
+code-of-requires-4 : tie.Need-code-of-requires-4 Inv-loop μ-loop
+code-of-requires-4 c κs = c .before .before .before .before .before .before .before .before .before .before .before .before .before .before .before .pre .1 .1 .3 .low _ (c .before .before .before .before .before .before .before .loop-test .taken)
 
 gain-requires : tie.Need-gain-requires Inv-loop μ-loop
-gain-requires c κs = c .before .before .before .before .before .before .before .before .before .before .before .before .pre .0
+gain-requires c κs = c .before .before .before .before .before .before .before .before .before .before .before .before .before .before .before .before .pre .0
 
 mul-better : tie.Need-mul-better Inv-loop μ-loop
 mul-better c = omega arith
 
 shared-slice-read-better : tie.Need-shared-slice-read-better Inv-loop μ-loop
-shared-slice-read-better c = omega (arith, c .before .before .before .before .before .before .before .before .before .before .before .before .before .before .pre .1 .0 .within)
+shared-slice-read-better c = omega (arith, c .before .before .before .before .before .before .before .before .before .before .before .before .before .before .before .before .before .before .pre .1 .0 .within)
 
 cast-better : tie.Need-cast-better Inv-loop μ-loop
-cast-better c = record { fits = omega (arith, c .before .before .before .before .before .before .before .before .before .before .before .before .before .before .pre .1 .0 .stored _ (c .before .before .before .before .before .before .loop-test .taken)) }
+cast-better c = record { fits = omega (arith, c .before .before .before .before .before .before .before .before .before .before .before .before .before .before .before .before .before .before .pre .1 .0 .stored _ (c .before .before .before .before .before .before .before .before .before .before .loop-test .taken)) }
 
 better-requires : tie.Need-better-requires Inv-loop μ-loop
 better-requires c κs = tt
@@ -64,7 +77,9 @@ loop-less : tie.Need-loop-less Inv-loop μ-loop
 loop-less c = omega arith
 
 loop-again : tie.Need-loop-again Inv-loop μ-loop
-loop-again c = column-more _ _ _ _ _ _ _ _ _ _ _ (c .before .before .before .before .before .before .before .before .loop .inv) (c .before .before .before .before .before .before .before .before .before .before .before .before .before .before .before .pre .1 .0 .within) (c .before .before .before .before .before .before .before .loop-test .taken) _ (c .before .before .gain .ensures) _ (c .better .ensures)
+loop-again c =
+    column-more _ _ _ _ _ _ _ _ _ _ _ (c .before .before .before .before .before .before .before .before .before .before .before .before .loop .inv) (c .before .before .before .before .before .before .before .before .before .before .before .before .before .before .before .before .before .before .before .pre .1 .0 .within) (c .before .before .before .before .before .before .before .before .before .before .before .loop-test .taken) _ _ _ _ _ (c .before .before .before .before .before .before .before .before .before .code-of .ensures) (c .before .before .before .before .before .before .before .code-of2 .ensures) (c .before .before .before .before .before .code-of3 .ensures) (c .before .before .before .code-of4 .ensures)
+    (c .before .before .gain .ensures) _ (c .better .ensures)
 
 returns : tie.Need-returns Inv-loop μ-loop
 returns c = λ ps s. column-end _ _ _ _ _ _ _ _ _ _ _ (c .before .loop .inv) (c .loop-test .left) ps s
@@ -76,14 +91,18 @@ pick-spec =
     Inv-loop
     μ-loop
     loop-holds
-    mul-gain
-    shared-slice-read-gain
-    mul-gain-2
-    shared-slice-read-gain-2
-    mul-gain-3
-    shared-slice-read-gain-3
-    mul-gain-4
-    shared-slice-read-gain-4
+    mul-code-of
+    shared-slice-read-code-of
+    code-of-requires
+    mul-code-of-2
+    shared-slice-read-code-of-2
+    code-of-requires-2
+    mul-code-of-3
+    shared-slice-read-code-of-3
+    code-of-requires-3
+    mul-code-of-4
+    shared-slice-read-code-of-4
+    code-of-requires-4
     gain-requires
     mul-better
     shared-slice-read-better

@@ -34,37 +34,43 @@ spared-requires-2 : tie.Need-spared-requires-2
 spared-requires-2 c κs = search needs
 
 add-result : tie.Need-add-result
-add-result c = 
-    record { fits = omega (
-      arith,
-      (gain-small _ _ _ (c .before .spared .ensures) (omega arith)),
-      (gain-small _ _ _ (c .spared2 .ensures) (least-small _ _ _ (c .before .before .before .before .before .before .before .over .ensures) (omega arith))),
-    ) }
+add-result c =
+    record {
+      fits = omega (
+        arith,
+        (gain-small _ _ _ (c .before .spared .ensures) (omega arith)),
+        (gain-small _ _ _ (c .spared2 .ensures) (least-small _ _ _ (c .before .before .before .before .before .before .before .over .ensures) (omega arith))),
+      );
+    }
 
 spared-requires-3 : tie.Need-spared-requires-3
 spared-requires-3 c κs = search needs
 
 add-result-2 : tie.Need-add-result-2
-add-result-2 c = 
-    record { fits = omega (
-      arith,
-      (gain-small _ _ _ (c .before .before .spared .ensures) (omega arith)),
-      (gain-small _ _ _ (c .before .spared2 .ensures) (least-small _ _ _ (c .before .before .before .before .before .before .before .before .over .ensures) (omega arith))),
-      (gain-small _ _ _ (c .spared3 .ensures) (least-small _ _ _ (c .before .before .before .before .before .before .over3 .ensures) (least-small _ _ _ (c .before .before .before .before .before .before .before .over2 .ensures) (omega arith)))),
-    ) }
+add-result-2 c =
+    record {
+      fits = omega (
+        arith,
+        (gain-small _ _ _ (c .before .before .spared .ensures) (omega arith)),
+        (gain-small _ _ _ (c .before .spared2 .ensures) (least-small _ _ _ (c .before .before .before .before .before .before .before .before .over .ensures) (omega arith))),
+        (gain-small _ _ _ (c .spared3 .ensures) (least-small _ _ _ (c .before .before .before .before .before .before .over3 .ensures) (least-small _ _ _ (c .before .before .before .before .before .before .before .over2 .ensures) (omega arith)))),
+      );
+    }
 
 spared-requires-4 : tie.Need-spared-requires-4
 spared-requires-4 c κs = search needs
 
 add-result-3 : tie.Need-add-result-3
-add-result-3 c = 
-    record { fits = omega (
-      arith,
-      (gain-small _ _ _ (c .before .before .before .spared .ensures) (omega arith)),
-      (gain-small _ _ _ (c .before .before .spared2 .ensures) (least-small _ _ _ (c .before .before .before .before .before .before .before .before .before .over .ensures) (omega arith))),
-      (gain-small _ _ _ (c .before .spared3 .ensures) (least-small _ _ _ (c .before .before .before .before .before .before .before .over3 .ensures) (least-small _ _ _ (c .before .before .before .before .before .before .before .before .over2 .ensures) (omega arith)))),
-      (gain-small _ _ _ (c .spared4 .ensures) (least-small _ _ _ (c .before .before .before .before .over6 .ensures) (least-small _ _ _ (c .before .before .before .before .before .over5 .ensures) (least-small _ _ _ (c .before .before .before .before .before .before .over4 .ensures) (omega arith))))),
-    ) }
+add-result-3 c =
+    record {
+      fits = omega (
+        arith,
+        (gain-small _ _ _ (c .before .before .before .spared .ensures) (omega arith)),
+        (gain-small _ _ _ (c .before .before .spared2 .ensures) (least-small _ _ _ (c .before .before .before .before .before .before .before .before .before .over .ensures) (omega arith))),
+        (gain-small _ _ _ (c .before .spared3 .ensures) (least-small _ _ _ (c .before .before .before .before .before .before .before .over3 .ensures) (least-small _ _ _ (c .before .before .before .before .before .before .before .before .over2 .ensures) (omega arith)))),
+        (gain-small _ _ _ (c .spared4 .ensures) (least-small _ _ _ (c .before .before .before .before .over6 .ensures) (least-small _ _ _ (c .before .before .before .before .before .over5 .ensures) (least-small _ _ _ (c .before .before .before .before .before .before .over4 .ensures) (omega arith))))),
+      );
+    }
 
 returns : tie.Need-returns
 returns c = four _ _ _ _ _ _ _ _ _ _ _ _ _ _ _ (c .before .before .before .before .before .before .before .before .before .over .ensures) (c .before .before .before .before .before .before .before .before .over2 .ensures) (c .before .before .before .before .before .before .before .over3 .ensures) (c .before .before .before .before .before .before .over4 .ensures) (c .before .before .before .before .before .over5 .ensures) (c .before .before .before .before .over6 .ensures) (c .before .before .before .spared .ensures) (c .before .before .spared2 .ensures) (c .before .spared3 .ensures) (c .spared4 .ensures)

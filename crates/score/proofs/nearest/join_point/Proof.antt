@@ -32,6 +32,9 @@ cast-ahead-2 c = search needs
 add-ahead : tie.Need-add-ahead
 add-ahead c = search needs
 
+sub-left : tie.Need-sub-left
+sub-left c = omega arith
+
 mul-if1 : tie.Need-mul-if1
 mul-if1 c = search needs
 
@@ -48,7 +51,9 @@ shared-slice-read-turn : tie.Need-shared-slice-read-turn
 shared-slice-read-turn c = search needs
 
 turn-requires : tie.Need-turn-requires
-turn-requires c κs = turn-given (c .before .before .before .before .before .before .before .before .before .before .before .before .before .before .before .pre .0) (c .before .before .before .before .before .before .before .before .before .before .before .before .before .before .before .pre .1 .0) (c .before .before .before .before .before .before .before .before .before .before .before .before .before .before .before .pre .0 .inWest) (omega arith)
+turn-requires c κs =
+    let p = c .before .before .before .before .before .before .before .before .before .before .before .before .before .before .before .pre in
+    turn-given (p .0) (p .1 .0) (p .0 .inWest) (omega arith) refl (p .1 .1 .lowNorth) (p .1 .1 .lowSouth) (p .1 .1 .lowWest)
 
 same-length : tie.Need-same-length
 same-length c = search needs
@@ -60,7 +65,7 @@ same-length-3 : tie.Need-same-length-3
 same-length-3 c = search needs
 
 returns : tie.Need-returns
-returns c = 
+returns c =
     let turn = c .before .before .before .before .before .before .turn .ensures in
     turned-west _ _ _ _ _ _ _ _ (ap (λ (z : ℕ). z * 128 + c .before .before .before .before .before .before .before .before .before .before .before .before .before .before .before .before .before .before .before .before .before .before .args .j) (c .before .before .before .before .before .before .before .before .before .before .before .before .before .apart .ensures)) refl _ _ _ _ (turn .0) (turn .1 .0) _ _ (turn .1 .1) (c .before .before .before .before .before .before .before .before .before .before .before .before .before .before .before .before .before .before .before .before .before .before .args .east .now) (c .before .before .before .before .before .before .before .before .before .before .before .if1 .taken) (c .before .before .before .before .before .before .before .before .before .before .before .before .before .before .before .before .before .before .before .before .before .before .pre .1 .1)
 
@@ -74,7 +79,9 @@ shared-slice-read-turn-2 : tie.Need-shared-slice-read-turn-2
 shared-slice-read-turn-2 c = search needs
 
 turn-requires-2 : tie.Need-turn-requires-2
-turn-requires-2 c κs = turn-given (c .before .before .before .before .before .before .before .before .before .before .before .before .before .before .before .pre .0) (c .before .before .before .before .before .before .before .before .before .before .before .before .before .before .before .pre .1 .0) (c .before .before .before .before .before .before .before .before .before .before .before .before .before .before .before .pre .0 .inEast) (omega arith)
+turn-requires-2 c κs =
+    let p = c .before .before .before .before .before .before .before .before .before .before .before .before .before .before .before .pre in
+    turn-given (p .0) (p .1 .0) (p .0 .inEast) (omega arith) refl (p .1 .1 .lowNorth) (p .1 .1 .lowSouth) (p .1 .1 .lowEast)
 
 same-length-4 : tie.Need-same-length-4
 same-length-4 c = search needs
@@ -86,7 +93,7 @@ same-length-6 : tie.Need-same-length-6
 same-length-6 c = search needs
 
 returns-2 : tie.Need-returns-2
-returns-2 c = 
+returns-2 c =
     let turn = c .before .before .before .before .before .before .turn2 .ensures in
     turned-east _ _ _ _ _ _ _ _ (ap (λ (z : ℕ). z * 128 + c .before .before .before .before .before .before .before .before .before .before .before .before .before .before .before .before .before .before .before .before .before .before .args .j) (c .before .before .before .before .before .before .before .before .before .before .before .before .before .apart .ensures)) refl _ _ _ _ (turn .0) (turn .1 .0) _ _ (turn .1 .1) (c .before .before .before .before .before .before .before .before .before .before .before .before .before .before .before .before .before .before .before .before .before .before .args .west .now) (c .before .before .before .before .before .before .before .before .before .before .before .if1 .left) (c .before .before .before .before .before .before .before .before .before .before .before .before .before .before .before .before .before .before .before .before .before .before .pre .1 .1)
 
@@ -101,6 +108,7 @@ join-point-spec =
     mul-ahead
     cast-ahead-2
     add-ahead
+    sub-left
     mul-if1
     shared-slice-read-if1
     mul-turn

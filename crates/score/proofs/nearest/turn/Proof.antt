@@ -12,7 +12,7 @@ lap-requires : tie.Need-lap-requires
 lap-requires c κs = turn-first (c .before .before .before .before .before .before .pre)
 
 lap-requires-2 : tie.Need-lap-requires-2
-lap-requires-2 c κs = turn-second (c .before .before .before .before .before .before .before .before .before .before .before .before .before .pre) (c .before .before .before .before .before .before .lap .kept .1 .1 .1 .1 .1 .1 .0)
+lap-requires-2 c κs = turn-second (c .before .before .before .before .before .before .before .before .before .before .before .before .before .pre) (c .before .before .before .before .before .before .lap .kept .1 .1 .1 .1 .1 .1 .1 .0) (c .before .before .before .before .before .before .lap .ensures .1)
 
 same-length : tie.Need-same-length
 same-length c = search needs
@@ -24,7 +24,7 @@ same-length-3 : tie.Need-same-length-3
 same-length-3 c = search needs
 
 returns : tie.Need-returns
-returns c = 
+returns c =
     let p = c .before .before .before .before .before .before .before .before .before .before .before .before .before .before .before .before .before .before .pre in
     let first = c .before .before .before .before .before .before .before .before .before .before .before .lap in
     let second = c .before .before .before .before .lap2 in
