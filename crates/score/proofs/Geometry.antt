@@ -1,15 +1,12 @@
 -- Of two points in one region of a crossing, the nearer is no farther from the other than the other is from the crossing. So the
 -- nearest points of the four regions do for all, and their gain is what the crossing spares.
-use mathlib.Core.Path.{_≡_, refl, sym, ap, ap₂, _∙_}
+use mathlib.Core.Path.{_≡_, refl, _∙_}
 use mathlib.Core.Logic.{_⊎_, inl, inr, ⊎-elim, _↔_}
 use mathlib.Core.List.{List, [], _∷_, List·Memᴰ, List·Memᴰ·head as head, List·Memᴰ·tail as tail, List·Memᴰ·cases-cons as cases, List·Memᴰ·not-nil as not-nil}
-use Prim.Native.Nat.{ℕ, _+_, _*_, _-_, _/_, _%_, _≤_, _<_}
+use Prim.Native.Nat.{ℕ, _+_, _*_, _-_, _≤_, _<_}
 use native.Mathlib.Decide.{decLt, decLe}
 use native.Mathlib.Omega.{arith}
-use lib.Dec.{T, ltb, ltb→lt}
 use lib.ListN.{length, getD}
-use Rattle.spanning.specs.Graph.{Conn, total}
-use Rattle.spanning.specs.Bottleneck.{Within}
 use Rattle.spanning.proofs.OneMore.{tree-bottleneck}
 use Rattle.plane.specs.Point.{Point, lower, gap, dist}
 use Rattle.plane.specs.Coordinate.{coordinate}
@@ -22,17 +19,13 @@ use Rattle.model.specs.Tree.{treeLength}
 use Rattle.tree.specs.Held.{held}
 use Rattle.tree.specs.Keys.{weight, keyGraph, tab, allKeys, treeKeys}
 use Rattle.tree.proofs.AllKeys.{all-keys-sorted}
-use Rattle.tree.proofs.Join.{tab-in}
-use Rattle.tree.proofs.Sorted.{ps-sorted, one-to-one}
-use Rattle.tree.proofs.Total.{tree-keys-total}
+use Rattle.tree.proofs.Joined.{rising-total}
 use Rattle.score.specs.Gain.{code, codeLength, codePoint, far, farCode, tableAt, gain}
-use Rattle.score.specs.Rows.{gapCode}
 use Rattle.score.specs.Nearest.{aheadOf, codeAt, East, West, North, South, Nearest, AtRow}
 use Rattle.score.specs.Prepared.{Prepared, sparedBy}
 use Rattle.score.proofs.Bounds.{Table}
 use Rattle.score.proofs.Gains.{light}
-use Rattle.score.proofs.Whole.{Nearby}
-use Rattle.score.proofs.Length.{length-with}
+use Rattle.score.proofs.WithCrossing.{length-with}
 
 abbrev gapOf : ℕ → ℕ → ℕ
 gapOf u v = gap (coordinate u) (coordinate v)
@@ -221,13 +214,17 @@ module _ (xs ys : List ℕ) (n : ℕ) (table gaps ranks rows : List ℕ) (count 
           let tree = tree-bottleneck keyGraph nat-order weight light (allKeys at n) (all-keys-sorted at n) z in
           (λ l. tree .0 (unfold treeKeys in p .bottlenecks u v hu hv z .0 l), λ d. p .bottlenecks u v hu hv z .1 (unfold treeKeys in tree .1 d))
 
-      pub spared-is : gain (tableAt table) [] (e ∷ w ∷ s ∷ t ∷ []) ≡ sparedBy (tab (held xs ys) n) (pointAt x (getD rows r 0))
+      -- The tree with the crossing is shorter by their gain than with an edge of length `far`.
+      pub gain-is : treeLength (put lower (pointAt x (getD rows r 0)) (tab (held xs ys) n)) + gain (tableAt table) [] (e ∷ w ∷ s ∷ t ∷ [])
+          ≡ far + treeLength (tab (held xs ys) n)
       unfolding at y c ks
-      spared-is =
+      gain-is =
           omega (
             arith,
             length-with at n (p .some) (p .few) (p .rises) (λ i j _ _. omega (arith, close i j)) c (λ i _. omega (arith, near i)) (tableAt table) bottlenecks ks
                 (record { edges = edges; covers = covers }),
-            tree-keys-total at n (omega (arith, p .few)) (one-to-one at n (omega (arith, p .few)) (p .rises)) (tab at n)
-                (ps-sorted at n (omega (arith, p .few)) (p .rises)) (tab-in at n),
+            rising-total at n (omega (arith, p .few)) (p .rises),
           )
+
+      pub spared-is : gain (tableAt table) [] (e ∷ w ∷ s ∷ t ∷ []) ≡ sparedBy (tab (held xs ys) n) (pointAt x (getD rows r 0))
+      spared-is = omega (arith, gain-is)

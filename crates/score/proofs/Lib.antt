@@ -1,10 +1,13 @@
 pub mod Bounds
 pub mod Gains
 pub mod Whole
-pub mod Length
+pub mod WithCrossing
 pub mod Filling
 pub mod Four
 pub mod Laps
 pub mod Distances
 pub mod Regions
 pub mod Geometry
+pub mod TreeKeys
+pub mod Columns
+pub mod Measuring

@@ -5,5 +5,6 @@
 // in x, and north and south, where it is larger. A code is an edge from the crossing to a point: its length times 128, and the
 // point's number.
 pub mod gain;
+pub mod length;
 pub mod nearest;
 pub mod rows;

@@ -1,4 +1,5 @@
--- The total of the keys with one more point c behind the last is the length of the tree of the points with c.
+-- The total of the keys of points that rise is the length of their tree; with one more point c behind the last, it is the length
+-- of the tree of the points with c.
 use mathlib.Core.Path.{_≡_, refl, sym, ap, ap₂, _∙_, subst, subst⁻¹}
 use mathlib.Core.Logic.{_⊎_, inl, inr, ⊎-elim, _↔_}
 use mathlib.Core.Bool.{Bool, true, false, not}
@@ -23,6 +24,9 @@ use Rattle.tree.proofs.AllKeys.{rays-same, all-keys-same}
 use Rattle.tree.proofs.Join.{tab-in}
 use Rattle.tree.proofs.Sorted.{ps-sorted, one-to-one}
 use Rattle.tree.proofs.Total.{tree-keys-total}
+
+pub rising-total : (at : ℕ → Point) (n : ℕ) → n ≤ 128 → Rises at n → total weight (treeKeys at n) ≡ treeLength (tab at n)
+rising-total at n small rises = tree-keys-total at n small (one-to-one at n small rises) (tab at n) (ps-sorted at n small rises) (tab-in at n)
 
 -- The points with c behind the first n.
 extended : (ℕ → Point) → Point → ℕ → ℕ → Point

@@ -2,7 +2,8 @@
 -- from the tree itself the search over all crossings finds the best candidate.
 use mathlib.Core.Path.{_∙_}
 use native.Mathlib.Omega.{arith}
-use Rattle.crossing.proofs.Preparing.{lines-written, tree-filling, columns-written, rows-written, search-given, prepared, best-found}
+use Rattle.score.proofs.TreeKeys.{tree-filling}
+use Rattle.crossing.proofs.Preparing.{lines-written, columns-written, rows-written, search-given, prepared, best-found}
 use borrow.Author.Needs.{needs}
 use Rattle.crossing.proofs.search_all.Statement.{statement}
 use Rattle.crossing.proofs.search_all.Tie as tie
@@ -34,7 +35,11 @@ slice-aggregate-fill : tie.Need-slice-aggregate-fill
 slice-aggregate-fill c = search needs
 
 fill-requires : tie.Need-fill-requires
-fill-requires c κs = tree-filling (c .before .before .before .before .before .before .before .before .before .before .before .pre .0) (λ i. c .before .before .before .before .before .before .before .before .before .before .shared-slice-known .given i .fits) (λ i. c .before .before .before .before .before .before .before .before .before .shared-slice-known2 .given i .fits) (c .before .blank .ensures)
+fill-requires c κs =
+    let start = c .before .before .before .before .before .before .before .before .before .before .before in
+    let p = start .pre .0 in
+    tree-filling (start .args .xs .now) (start .args .ys .now) _ (p .few) (λ i. c .before .before .before .before .before .before .before .before .before .before .shared-slice-known .given i .fits) (λ i. c .before .before .before .before .before .before .before .before .before .shared-slice-known2 .given i .fits)
+    (p .within) (p .tree) (c .before .blank .ensures)
 
 blank-requires-2 : tie.Need-blank-requires-2
 blank-requires-2 c κs = search needs

@@ -1,7 +1,8 @@
 -- `crossing::search::column` meets its contract: the nearest points by regions at each row, and the best by their gains.
 use mathlib.Core.Path.{_∙_}
 use native.Mathlib.Omega.{arith}
-use Rattle.crossing.proofs.Columns.{room-given, rows-none, rows-margins, rows-spare}
+use Rattle.score.proofs.Columns.{room-given, rows-none}
+use Rattle.crossing.proofs.Columns.{rows-margins, rows-spare}
 use borrow.Author.Needs.{needs}
 use Rattle.crossing.proofs.search.column.Statement.{statement}
 use Rattle.crossing.proofs.search.column.Tie as tie
@@ -42,7 +43,7 @@ nearest-requires c κs =
     let s = c .before .before .before .before .before .no-codes3 .ensures in
     let t = c .before .before .before .before .no-codes4 .ensures in
     let p = c .before .before .before .before .before .before .before .before .before .before .before .before .before .pre in
-    (room-given p (e .0) (w .0) (s .0) (t .0), rows-none p _ (c .before .before .before .before .before .before .before .no-codes .result) (c .before .before .before .before .before .before .no-codes2 .result) (c .before .before .before .before .before .no-codes3 .result) (c .before .before .before .before .no-codes4 .result) e w s t)
+    (room-given (p .room) (e .0) (w .0) (s .0) (t .0), rows-none (p .room) _ (c .before .before .before .before .before .before .before .no-codes .result) (c .before .before .before .before .before .before .no-codes2 .result) (c .before .before .before .before .before .no-codes3 .result) (c .before .before .before .before .no-codes4 .result) e w s t)
 
 slice-aggregate-pick : tie.Need-slice-aggregate-pick
 slice-aggregate-pick c = search needs

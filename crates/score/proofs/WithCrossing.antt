@@ -1,10 +1,10 @@
 -- The length of the tree with a crossing, from the gain of the edges to its nearest points. Where a point is held at the crossing,
 -- the edge to it spares all but the tree's own length.
-use mathlib.Core.Path.{_≡_, refl, sym, ap, _∙_, subst, subst⁻¹}
-use mathlib.Core.Logic.{_⊎_, inl, inr, ⊎-elim, _↔_}
-use mathlib.Core.Bool.{Bool, true, false, not}
-use mathlib.Core.List.{List, [], _∷_, List·Memᴰ, List·Memᴰ·head as head, List·Memᴰ·cases-cons as cases, List·Memᴰ·not-nil as not-nil}
-use Prim.Native.Nat.{ℕ, _+_, _*_, _-_, _/_, _%_, _≤_, _<_}
+use mathlib.Core.Path.{_≡_, refl, sym, ap, _∙_, subst}
+use mathlib.Core.Logic.{inr, ⊎-elim}
+use mathlib.Core.Bool.{Bool, true, false}
+use mathlib.Core.List.{List, [], _∷_, List·Memᴰ·head as head, List·Memᴰ·cases-cons as cases, List·Memᴰ·not-nil as not-nil}
+use Prim.Native.Nat.{ℕ, _+_, _≤_, _<_}
 use native.Mathlib.Omega.{arith}
 use lib.Dec.{T}
 use Rattle.spanning.specs.Graph.{total}
@@ -17,10 +17,9 @@ use Rattle.model.proofs.Set.{has-in, put-same}
 use Rattle.tree.specs.Build.{Rises}
 use Rattle.tree.specs.Keys.{weight, tab, allKeys, treeKeys, joinedKeys}
 use Rattle.tree.proofs.Join.{tab-in}
-use Rattle.tree.proofs.Joined.{joined-total}
-use Rattle.tree.proofs.Sorted.{ps-sorted, one-to-one}
-use Rattle.tree.proofs.Total.{tree-keys-total}
-use Rattle.score.specs.Gain.{code, codeLength, codePoint, far, bound, gain}
+use Rattle.tree.proofs.Joined.{rising-total, joined-total}
+use Rattle.tree.proofs.Sorted.{ps-sorted}
+use Rattle.score.specs.Gain.{code, codePoint, far, bound, gain}
 use Rattle.score.proofs.Bounds.{Table}
 use Rattle.score.proofs.Whole.{Nearby, joined-weight}
 
@@ -58,7 +57,7 @@ module _ (at : ℕ → Point) (n : ℕ) (some : 0 < n) (small : n < 128) (rises 
           let m = has-in lower lower-order c (tab at n) .0 (rw e tt) in
           let r = tab-in at n c .0 m in
           held-weight (r .0) (r .1) (r .2)
-          ∙ tree-keys-total at n (omega arith) (one-to-one at n (omega arith) rises) (tab at n) (ps-sorted at n (omega arith) rises) (tab-in at n)
+          ∙ rising-total at n (omega arith) rises
           ∙ ap treeLength (sym (put-same lower lower-order c (tab at n) (ps-sorted at n (omega arith) rises) m))
       go false e =
           joined-total at c n small rises
