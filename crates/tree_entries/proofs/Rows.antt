@@ -1,5 +1,5 @@
 -- The length of a tree by its keys, and a row of lengths.
-use mathlib.Core.Path.{_≡_, refl, sym, ap, _∙_}
+use mathlib.Core.Path.{_≡_, refl, sym, ap, _∙_, subst}
 use mathlib.Core.List.{List, [], _∷_, _++_}
 use Prim.Native.Nat.{ℕ, suc, _+_, _*_, _≤_, _<_}
 use native.Mathlib.Numerals.{add-one}
@@ -7,24 +7,20 @@ use native.Mathlib.Omega.{arith}
 use lib.ListN.{length, take, drop, getD, set}
 use lib.Seq.{take-suc, drop-cons, set-at, append-snoc}
 use Rattle.spanning.specs.Graph.{total}
-use Rattle.plane.specs.Point.{Point, lower}
-use Rattle.plane.specs.Stored.{pointAt}
-use Rattle.plane.proofs.Order.{lower-order}
-use Rattle.model.specs.Tree.{treeLength}
-use Rattle.model.proofs.Set.{put-same}
+use Rattle.spanning.specs.Kruskal.{kruskal}
+use Rattle.model.specs.Set.{put, union}
+use Rattle.model.specs.Tree.{pairs, edges, mst, treeLength}
 use Rattle.tree.specs.Held.{held}
 use Rattle.tree.specs.Keys.{weight, tab, treeKeys}
-use Rattle.tree.specs.Build.{Rises, BuildRequires, WithRequires, lengthWith}
+use Rattle.tree.specs.Build.{BuildRequires, lengthWith}
 use Rattle.tree.specs.Front.{Front}
-use Rattle.tree.proofs.Join.{tab-in}
 use Rattle.tree.proofs.Numbers.{tab-length}
-use Rattle.tree.proofs.Sorted.{ps-sorted, one-to-one}
-use Rattle.tree.proofs.Total.{tree-keys-total}
+use Rattle.tree.proofs.Joined.{rising-total}
 use Rattle.tree.proofs.Front.{front-take}
 use Rattle.tree.proofs.Step.{keys-most}
-use Rattle.tree_entries.specs.Answers.{Among, Points}
-use Rattle.tree_entries.specs.Given.{Given}
-use Rattle.tree_entries.proofs.Passed.{not-among}
+use Rattle.bottleneck.specs.Table.{Bottlenecks}
+use Rattle.score.specs.Length.{Measured}
+use Rattle.tree_entries.specs.Answers.{Points}
 
 -- The sum of the lengths of the keys passed.
 pub record Summed (keys : List ℕ) (m sum i : ℕ) : Type 0 where
@@ -58,32 +54,10 @@ sum-more keys m sum i w size s h e =
 pub sum-end : (keys : List ℕ) (m sum i : ℕ) → Summed keys m sum i → m ≤ i → sum ≡ total weight (take m keys)
 sum-end keys m sum i s h = let e : i ≡ m = omega (arith, s .within) in s .is ∙ ap (λ (j : ℕ). total weight (take j keys)) e
 
--- The total of the tree's keys is the length of the tree.
-pub plain-total : (at : ℕ → Point) (n : ℕ) → n < 128 → Rises at n → total weight (treeKeys at n) ≡ treeLength (tab at n)
-plain-total at n small rises =
-    tree-keys-total at n (omega arith) (one-to-one at n (omega arith) rises) (tab at n) (ps-sorted at n (omega arith) rises) (tab-in at n)
-
--- With a point that is held already, the tree is as it was.
-pub length-held : (xs ys : List ℕ) (n : ℕ) (keys : List ℕ) (m plain x y : ℕ) → Given xs ys n keys m plain → Among (held xs ys) n (pointAt x y)
-    → plain ≡ lengthWith xs ys n x y
-length-held xs ys n keys m plain x y g a =
-    g .length
-    ∙ ap treeLength
-    (sym (put-same lower lower-order (pointAt x y) (tab (held xs ys) n) (ps-sorted (held xs ys) n (omega (arith, g .few)) (g .rises))
-    (tab-in (held xs ys) n (pointAt x y) .1 (a .place, a .below, a .same))))
-
-pub with-given : (xs ys : List ℕ) (n : ℕ) (keys : List ℕ) (m plain x y : ℕ) → Given xs ys n keys m plain → ¬ Among (held xs ys) n (pointAt x y)
-    → WithRequires xs ys n keys m x y
-with-given xs ys n keys m plain x y g a =
-    record {
-      inXs = g .inXs;
-      inYs = g .inYs;
-      few = g .few;
-      rises = g .rises;
-      within = g .within;
-      tree = g .tree;
-      apart = not-among (held xs ys) n (pointAt x y) a;
-    }
+-- With no other point the tree has no edge.
+pub length-alone : (xs ys : List ℕ) (n x y : ℕ) → n ≡ 0 → 0 ≡ lengthWith xs ys n x y
+unfolding tab put treeLength mst edges pairs union kruskal total
+length-alone xs ys n x y e = rw e refl
 
 -- A row of values at the front of an array, with one value more.
 pub row-more : (f : ℕ → ℕ) (old new : List ℕ) (i v : ℕ) → i < length old → new ≡ tab f i ++ drop i old → v ≡ f i → set new i v ≡ tab f (i + 1) ++ drop (i + 1) old
@@ -111,15 +85,17 @@ pub keys-few : (xs ys before keys : List ℕ) (m : ℕ) → Points xs ys → Fro
 keys-few xs ys before keys m p f =
     omega (arith, f .count, p .few, keys-most (held xs ys) (length xs) (omega (arith, p .few)) (p .rises))
 
-pub tree-given : (xs ys before keys : List ℕ) (m plain : ℕ) → Points xs ys → m ≤ length keys → Front (treeKeys (held xs ys) (length xs)) before keys m
-    → plain ≡ total weight (take m keys) → Given xs ys (length xs) keys m plain
-tree-given xs ys before keys m plain p w f s =
+-- What was worked out of the tree is what its length with a point more is measured by.
+pub tree-measured : (xs ys before keys table : List ℕ) (m plain : ℕ) → Points xs ys → Front (treeKeys (held xs ys) (length xs)) before keys m
+    → plain ≡ total weight (take m keys) → length table ≡ 16384 → Bottlenecks (take m keys) (length xs) table
+    → Measured xs ys (length xs) table plain
+tree-measured xs ys before keys table m plain p f s size b =
     record {
       inXs = omega arith;
       inYs = omega (arith, p .same);
       few = omega (arith, p .few);
       rises = p .rises;
-      within = w;
-      tree = front-take f;
-      length = s ∙ ap (total weight) (front-take f) ∙ plain-total (held xs ys) (length xs) (omega (arith, p .few)) (p .rises);
+      size = size;
+      bottlenecks = subst (λ (l : List ℕ). Bottlenecks l (length xs) table) (front-take f) b;
+      is = s ∙ ap (total weight) (front-take f) ∙ rising-total (held xs ys) (length xs) (omega (arith, p .few)) (p .rises);
     }

@@ -3,10 +3,9 @@
 use mathlib.Core.Path.{_≡_}
 use mathlib.Core.Bool.{Bool, true, false}
 use mathlib.Core.List.{List, map}
-use Prim.Native.Nat.{ℕ, _+_, _≤_, _<_}
+use Prim.Native.Nat.{ℕ, _+_, _≤_}
 use lib.Dec.{ltb}
 use lib.ListN.{length, getD}
-use Rattle.plane.specs.Point.{Point}
 use Rattle.model.specs.Set.{sort}
 use Rattle.tree.specs.Held.{held}
 use Rattle.tree.specs.Keys.{tab, treeKeys, endsOf}
@@ -17,12 +16,6 @@ use Rattle.tree.specs.Front.{Front}
 pub record Says (P : Type 0) (r : Bool) : Type 0 where
   pub sure : r ≡ true → P
   pub not : r ≡ false → ¬ P
-
--- The point p is one of the first n.
-pub record Among (at : ℕ → Point) (n : ℕ) (p : Point) : Type 0 where
-  pub place : ℕ
-  pub below : place < n
-  pub same : p ≡ at place
 
 -- At most 127 points, each lower than the next.
 pub record Points (xs ys : List ℕ) : Type 0 where

@@ -1,7 +1,8 @@
-// The lengths of the tree with a point more, for many such points: the tree is built once, and each point is tried on it.
-use super::points::holds;
+// The lengths of the tree with a point more, for many such points: the tree and the table of its bottlenecks are made once, and each
+// point is tried on them.
+use score::length::length_with;
+use score::rows::blank;
 use tree::build::build;
-use tree::build::length_with;
 ghost use mathlib.Core.Path.{_≡_};
 ghost use mathlib.Core.List.{_++_};
 ghost use Prim.Native.Nat.{_≤_};
@@ -9,8 +10,9 @@ ghost use lib.ListN.{length, take, drop};
 ghost use Rattle.spanning.specs.Graph.{total};
 ghost use Rattle.tree.specs.Keys.{weight};
 ghost use Rattle.tree.specs.Build.{lengthWith};
+ghost use Rattle.score.specs.Length.{Measured};
 ghost use Rattle.tree_entries.specs.Answers.{Points, lengthsWith};
-ghost use Rattle.tree_entries.specs.Given.{Given, Tried};
+ghost use Rattle.tree_entries.specs.Given.{Tried};
 
 // The length of a key, with its bound.
 fn length_of(k: u64) -> u64
@@ -33,24 +35,15 @@ fn sum_of(keys: &[u64], m: usize) -> u64
     sum
 }
 
-// The length of the tree of the first n points and the point at (x, y): `plain`, that of the tree, where it is one of them.
-fn length_at(
-    xs: &[u16],
-    ys: &[u16],
-    n: usize,
-    keys: &[u64],
-    m: usize,
-    plain: u64,
-    x: u16,
-    y: u16,
-) -> u64
-    requires { ⌜ Given (now xs) (now ys) n (now keys) m plain ⌝ }
+// The length of the tree of the first n points and the point at (x, y): 0 where there is no other.
+fn length_at(xs: &[u16], ys: &[u16], n: usize, table: &[u32], plain: u64, x: u16, y: u16) -> u64
+    requires { ⌜ Measured (now xs) (now ys) n (now table) plain ⌝ }
     ensures { λ r. ⌜ r ≡ lengthWith (now (xs .entry)) (now (ys .entry)) n x y ⌝ }
 {
-    if holds(xs, ys, n, x, y) {
-        return plain;
+    if n == 0 {
+        return 0;
     }
-    length_with(xs, ys, n, keys, m, x, y)
+    length_with(xs, ys, n, table, plain, x, y)
 }
 
 // Tries each crossing on a tree.
@@ -58,21 +51,20 @@ fn try_each(
     xs: &[u16],
     ys: &[u16],
     n: usize,
-    keys: &[u64],
-    m: usize,
+    table: &[u32],
     plain: u64,
     cx: &[u16],
     cy: &[u16],
     out: &mut [u64],
 )
-    requires { ⌜ Tried (now xs) (now ys) n (now keys) m plain (now cx) (now cy) (length (now out)) ⌝ }
+    requires { ⌜ Tried (now xs) (now ys) n (now table) plain (now cx) (now cy) (length (now out)) ⌝ }
     ensures { λ _. ⌜ now (out .exit)
         ≡ lengthsWith (now (xs .entry)) (now (ys .entry)) n (now (cx .entry)) (now (cy .entry)) (length (now (cx .entry)))
         ++ drop (length (now (cx .entry))) (now (out .entry)) ⌝ }
 {
     let mut i = 0;
     while i < cx.len() {
-        out[i] = length_at(xs, ys, n, keys, m, plain, cx[i], cy[i]);
+        out[i] = length_at(xs, ys, n, table, plain, cx[i], cy[i]);
         i += 1;
     }
 }
@@ -88,5 +80,7 @@ pub fn lengths(xs: &[u16], ys: &[u16], cx: &[u16], cy: &[u16], out: &mut [u64])
     let mut keys = [0u64; 144];
     let m = build(xs, ys, n, &mut keys);
     let plain = sum_of(&keys, m);
-    try_each(xs, ys, n, &keys, m, plain, cx, cy, out);
+    let mut table = blank();
+    bottleneck::fill(&keys, m, n, &mut table);
+    try_each(xs, ys, n, &table, plain, cx, cy, out);
 }

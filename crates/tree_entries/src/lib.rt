@@ -1,7 +1,7 @@
 // The tree for callers outside: functions over slices that ask nothing of their caller. A refusal is the answer REFUSED, and
 // nothing is written then.
-pub mod lengths;
-pub mod points;
+mod lengths;
+mod points;
 
 use lengths::lengths;
 use points::accepts;

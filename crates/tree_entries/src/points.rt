@@ -1,11 +1,10 @@
-// What is asked of points that come from outside, and whether a point is among them.
+// What is asked of points that come from outside.
 ghost use mathlib.Core.Bool.{true, false};
 ghost use Prim.Native.Nat.{_≤_, _<_};
 ghost use lib.ListN.{length};
-ghost use Rattle.plane.specs.Stored.{pointAt};
 ghost use Rattle.tree.specs.Held.{held};
 ghost use Rattle.tree.specs.Build.{Rises};
-ghost use Rattle.tree_entries.specs.Answers.{Points, Says, Among};
+ghost use Rattle.tree_entries.specs.Answers.{Points, Says};
 
 // Whether each of the first n points is lower than the next.
 fn rises(xs: &[u16], ys: &[u16], n: usize) -> bool
@@ -33,21 +32,4 @@ pub fn accepts(xs: &[u16], ys: &[u16]) -> bool
         return false;
     }
     rises(xs, ys, xs.len())
-}
-
-// Whether the point at (x, y) is one of the first n.
-pub fn holds(xs: &[u16], ys: &[u16], n: usize, x: u16, y: u16) -> bool
-    requires { ⌜ (n ≤ length (now xs)) × (n ≤ length (now ys)) ⌝ }
-    ensures { λ r. ⌜ Says (Among (held (now (xs .entry)) (now (ys .entry))) n (pointAt x y)) r ⌝ }
-{
-    let mut i = 0;
-    while i < n {
-        if xs[i] == x {
-            if ys[i] == y {
-                return true;
-            }
-        }
-        i += 1;
-    }
-    false
 }

@@ -1,20 +1,19 @@
 -- `tree_entries::lengths::length_at` meets its contract.
-use Rattle.tree_entries.proofs.Rows.{length-held, with-given}
+use Rattle.tree_entries.proofs.Rows.{length-alone}
 use borrow.Author.Needs.{needs}
 use Rattle.tree_entries.proofs.lengths.length_at.Statement.{statement}
 use Rattle.tree_entries.proofs.lengths.length_at.Tie as tie
 
-holds-requires : tie.Need-holds-requires
-holds-requires c κs = search needs
-
 returns : tie.Need-returns
-returns c = length-held _ _ _ _ _ _ _ _ (c .before .before .before .before .before .pre) (c .before .holds .ensures .sure (c .if1 .taken))
+returns c =
+    let a = c .before .before .before .before .args in
+    length-alone (a .xs .now) (a .ys .now) _ _ _ (c .if1 .taken)
 
 length-with-requires : tie.Need-length-with-requires
-length-with-requires c κs = with-given _ _ _ _ _ _ _ _ (c .before .before .before .before .before .pre) (c .before .holds .ensures .not (c .if1 .left))
+length-with-requires c κs = search needs
 
 returns-2 : tie.Need-returns-2
 returns-2 c = search needs
 
 pub length-at-spec : {M : Type 1} → statement M
-length-at-spec = tie.close (tie.spec holds-requires returns length-with-requires returns-2)
+length-at-spec = tie.close (tie.spec returns length-with-requires returns-2)

@@ -1,6 +1,9 @@
 -- `tree_entries::lengths::lengths` meets its contract.
+use mathlib.Core.Path.{_∙_}
 use native.Mathlib.Omega.{arith}
-use Rattle.tree_entries.proofs.Rows.{build-given, keys-few, tree-given}
+use Rattle.tree.proofs.Front.{front-take}
+use Rattle.score.proofs.TreeKeys.{tree-filling}
+use Rattle.tree_entries.proofs.Rows.{keys-few, tree-measured}
 use borrow.Author.Needs.{needs}
 use Rattle.tree_entries.proofs.lengths.lengths.Statement.{statement}
 use Rattle.tree_entries.proofs.lengths.lengths.Tie as tie
@@ -9,7 +12,7 @@ slice-aggregate-build : tie.Need-slice-aggregate-build
 slice-aggregate-build c = search needs
 
 build-requires : tie.Need-build-requires
-build-requires c κs = build-given _ _ _ (c .before .before .before .before .before .before .pre .0) (omega (arith, c .before .before .before .before .before .before .pre .0 .few))
+build-requires c κs = search needs
 
 slice-aggregate-sum-of : tie.Need-slice-aggregate-sum-of
 slice-aggregate-sum-of c = search needs
@@ -17,19 +20,36 @@ slice-aggregate-sum-of c = search needs
 sum-of-requires : tie.Need-sum-of-requires
 sum-of-requires c κs =
     let b = c .before .before in
-    let few = keys-few _ _ _ _ _ (b .before .before .before .before .before .before .before .pre .0) (b .build .ensures) in
+    let few = keys-few _ _ _ _ _ (c .before .before .before .before .before .before .before .before .before .pre .0) (b .build .ensures) in
     (omega (arith, b .build .kept .1 .1 .1 .0), omega arith)
+
+blank-requires : tie.Need-blank-requires
+blank-requires c κs = search needs
+
+slice-aggregate-fill : tie.Need-slice-aggregate-fill
+slice-aggregate-fill c = search needs
+
+slice-aggregate-fill-2 : tie.Need-slice-aggregate-fill-2
+slice-aggregate-fill-2 c = search needs
+
+fill-requires : tie.Need-fill-requires
+fill-requires c κs =
+    let b = c .before .before .before .before .before .before .build in
+    let start = c .before .before .before .before .before .before .before .before .before .before .before .before .before in
+    let few = keys-few _ _ _ _ _ (start .pre .0) (b .ensures) in
+    tree-filling (start .args .xs .now) (start .args .ys .now) _ (omega (arith, start .pre .0 .few))
+    (λ i. c .before .before .before .before .before .before .before .before .before .before .before .before .shared-slice-known .given i .fits) (λ i. c .before .before .before .before .before .before .before .before .before .before .before .shared-slice-known2 .given i .fits)
+    (omega (arith, b .kept .1 .1 .1 .0)) (front-take (b .ensures)) (c .before .before .blank .ensures)
 
 slice-aggregate-try-each : tie.Need-slice-aggregate-try-each
 slice-aggregate-try-each c = search needs
 
 try-each-requires : tie.Need-try-each-requires
 try-each-requires c κs =
-    let b = c .before .before .before .before .before in
-    let p = b .before .before .before .before .before .before .before .pre in
-    let few = keys-few _ _ _ _ _ (p .0) (b .build .ensures) in
+    let p = c .before .before .before .before .before .before .before .before .before .before .before .before .before .before .before .before .before .pre in
+    let fill = c .before .before .before .fill in
     record {
-      given = tree-given _ _ _ _ _ _ (p .0) (omega (arith, b .build .kept .1 .1 .1 .0)) (b .build .ensures) (c .before .before .sum-of .ensures);
+      given = tree-measured _ _ _ _ _ _ _ (p .0) (c .before .before .before .before .before .before .before .before .before .before .build .ensures) (c .before .before .before .before .before .before .before .sum-of .ensures) (fill .kept .1 .1 .1 .0 ∙ c .before .before .before .before .before .before .blank .ensures) (fill .ensures);
       both = p .1;
       fits = p .2;
     }
@@ -48,6 +68,10 @@ lengths-spec =
     build-requires
     slice-aggregate-sum-of
     sum-of-requires
+    blank-requires
+    slice-aggregate-fill
+    slice-aggregate-fill-2
+    fill-requires
     slice-aggregate-try-each
     try-each-requires
     same-length

@@ -11,10 +11,10 @@ use Rattle.tree_entries.proofs.lengths.try_each.Statement.{statement}
 use Rattle.tree_entries.proofs.lengths.try_each.Tie as tie
 
 abbrev Inv-loop : tie.InvT-loop
-Inv-loop xs ys n keys m plain cx cy out₀ i₀ out i = (i ≤ length cx) × (length out ≡ length out₀) × (out ≡ lengthsWith xs ys n cx cy i ++ drop i out₀)
+Inv-loop xs ys n table plain cx cy out₀ i₀ out i = (i ≤ length cx) × (length out ≡ length out₀) × (out ≡ lengthsWith xs ys n cx cy i ++ drop i out₀)
 
 abbrev μ-loop : tie.MeasureT-loop
-μ-loop xs ys n keys m plain cx cy out₀ i₀ out i = length cx - i
+μ-loop xs ys n table plain cx cy out₀ i₀ out i = length cx - i
 
 loop-holds : tie.Need-loop-holds Inv-loop μ-loop
 loop-holds c = (omega arith, refl, row-none _ _)
