@@ -7,7 +7,7 @@ use lib.Dec.{ltb}
 use lib.ListN.{length, take, drop}
 use lib.Seq.{drop-drop, take-at, drop-append-add}
 use Rattle.model.specs.Set.{put}
-use Rattle.tree.specs.Front.{Front, Spans}
+use Rattle.tree.specs.Front.{Front}
 use Rattle.tree.proofs.Place.{put-size}
 
 -- Behind the list the array is as it was.
@@ -16,9 +16,6 @@ drop-front l before n h =
     let e : length l + (n - length l) ≡ n = omega arith in
     subst (λ (m : ℕ). drop m (l ++ drop (length l) before) ≡ drop m before) e
     (drop-append-add l (drop (length l) before) (n - length l) ∙ drop-drop (n - length l) (length l) before)
-
-pub span-front : {l before after : List ℕ} {r s : ℕ} → Spans l before after r s → Front l before after r
-span-front p = record { count = p .count; front = p .front }
 
 module _ {l before after : List ℕ} {r : ℕ} (f : Front l before after r) where
   pub front-take : take r after ≡ l

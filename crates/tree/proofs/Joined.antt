@@ -1,14 +1,13 @@
 -- The total of the keys of points that rise is the length of their tree; with one more point c behind the last, it is the length
 -- of the tree of the points with c.
-use mathlib.Core.Path.{_≡_, refl, sym, ap, ap₂, _∙_, subst, subst⁻¹}
+use mathlib.Core.Path.{_≡_, refl, sym, ap, ap₂, _∙_}
 use mathlib.Core.Logic.{_⊎_, inl, inr, ⊎-elim, _↔_}
-use mathlib.Core.Bool.{Bool, true, false, not}
-use mathlib.Core.List.{List, [], _∷_, List·Memᴰ}
-use Prim.Native.Nat.{ℕ, zero, suc, _+_, _≤_, _<_}
+use mathlib.Core.List.{[], List·Memᴰ}
+use Prim.Native.Nat.{ℕ, suc, _≤_, _<_}
 use native.Mathlib.Decide.{ℕ-discrete}
 use native.Mathlib.Nat.{lt-irrefl}
 use native.Mathlib.Omega.{arith}
-use lib.Dec.{T, T-not, ltb, ltb→lt, lt→ltb, nltb→le}
+use lib.Dec.{T-not, ltb, ltb→lt, lt→ltb}
 use Rattle.spanning.specs.Graph.{total}
 use Rattle.spanning.specs.Kruskal.{kruskal}
 use Rattle.plane.specs.Test.{if}

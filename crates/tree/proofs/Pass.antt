@@ -2,51 +2,29 @@
 -- what Kruskal's method keeps of the rest, is all that it keeps.
 use mathlib.Core.Path.{_≡_, refl, sym, ap, _∙_}
 use mathlib.Core.List.{List, [], _∷_, _++_, append-nil}
-use Prim.Native.Nat.{ℕ, suc, _+_, _*_, _≤_, _<_}
+use Prim.Native.Nat.{ℕ, suc, _+_, _≤_, _<_}
 use native.Mathlib.Numerals.{add-one}
 use native.Mathlib.Omega.{arith}
-use lib.ListN.{length, take, drop, getD, set, length-append, length-set, length-take}
+use lib.ListN.{length, take, drop, getD, set, length-append, length-set}
 use lib.Seq.{slice-cons, slice-empty, append-snoc, drop-cons, set-at}
-use Rattle.spanning.specs.Graph.{total}
 use Rattle.spanning.specs.Kruskal.{comp, kruskal}
-use Rattle.spanning.proofs.Component.{kruskal-skip, kruskal-keep, kruskal-cases}
-use Rattle.tree.specs.Keys.{keyGraph, weight, low, high}
-use Rattle.tree.specs.Front.{Spans, moved}
+use Rattle.spanning.proofs.Component.{kruskal-skip, kruskal-keep}
+use Rattle.tree.specs.Keys.{keyGraph, low, high}
+use Rattle.tree.specs.Front.{Front, moved}
 use Rattle.tree.proofs.Labels.{relabelled}
 
 -- After the first i keys: those that were kept stand at the front of the array, in their order in `kept` and latest first in `seen`.
-pub record Pass (keys : List ℕ) (count : ℕ) (old new labels : List ℕ) (n sum i : ℕ) : Type 0 where
+pub record Pass (keys : List ℕ) (count : ℕ) (old new labels : List ℕ) (n i : ℕ) : Type 0 where
   pub kept : List ℕ
   pub seen : List ℕ
   pub within : i ≤ count
   pub few : n ≤ i
-  pub fits : sum ≤ 1125899906842623 * n
   pub labelled : length labels ≡ 128
   pub size : length new ≡ length old
   pub label : (u : ℕ) → u < 128 → getD labels u 0 ≡ comp keyGraph seen u
   pub count-kept : n ≡ length kept
   pub front : new ≡ kept ++ drop (length kept) old
-  pub sum-kept : sum ≡ total weight kept
   pub rest : kept ++ kruskal keyGraph seen (drop i (take count keys)) ≡ kruskal keyGraph [] (take count keys)
-
-total-more : (l : List ℕ) (k : ℕ) → total weight (l ++ k ∷ []) ≡ total weight l + weight k
-unfolding total
-total-more [] k = omega arith
-total-more (x ∷ l) k = omega (arith, total-more l k)
-
-pub kruskal-size : (F l : List ℕ) → length (kruskal keyGraph F l) ≤ length l
-unfolding kruskal
-kruskal-size F [] = omega arith
-kruskal-size F (e ∷ l) =
-    let s = kruskal-size F l in
-    let t = kruskal-size (e ∷ F) l in
-    kruskal-cases keyGraph F e l (λ K. length K ≤ suc (length l)) (λ _. omega arith) (λ _. omega arith)
-
--- For a caller: no more keys are kept than there are.
-pub span-few :
-    (keys : List ℕ) (count : ℕ) (old new : List ℕ) (n sum : ℕ) → Spans (kruskal keyGraph [] (take count keys)) old new n sum → n ≤ count
-span-few keys count old new n sum p =
-    omega (arith, p .count, kruskal-size [] (take count keys), length-take count keys)
 
 kruskal-nil : (F : List ℕ) → kruskal keyGraph F [] ≡ []
 unfolding kruskal
@@ -54,30 +32,28 @@ kruskal-nil F = refl
 
 module _ (keys : List ℕ) (count : ℕ) (old : List ℕ) (size : count ≤ length keys) (room : count ≤ length old) where
   pub pass-begin :
-      (labels : List ℕ) → length labels ≡ 128 → ((u : ℕ) → u < 128 → getD labels u 0 ≡ u) → Pass keys count old old labels 0 0 0
-  unfolding comp total
+      (labels : List ℕ) → length labels ≡ 128 → ((u : ℕ) → u < 128 → getD labels u 0 ≡ u) → Pass keys count old old labels 0 0
+  unfolding comp
   pass-begin labels h e = record {
     kept = [];
     seen = [];
     within = omega arith;
     few = omega arith;
-    fits = omega arith;
     labelled = h;
     size = refl;
     label = e;
     count-kept = refl;
     front = refl;
-    sum-kept = refl;
     rest = refl;
   }
 
-  module _ (new labels : List ℕ) (n sum i : ℕ) (r : Pass keys count old new labels n sum i) where
-    pub pass-end : count ≤ i → Spans (kruskal keyGraph [] (take count keys)) old new n sum
+  module _ (new labels : List ℕ) (n i : ℕ) (r : Pass keys count old new labels n i) where
+    pub pass-end : count ≤ i → Front (kruskal keyGraph [] (take count keys)) old new n
     pass-end h =
         let e : i ≡ count = omega (arith, r .within) in
         let all : r .kept ≡ kruskal keyGraph [] (take count keys) =
         sym (append-nil (r .kept)) ∙ sym (ap (λ (l : List ℕ). r .kept ++ l) (rw (e, slice-empty) (kruskal-nil (r .seen)))) ∙ r .rest in
-        record { count = r .count-kept ∙ ap length all; front = rw (← all) (r .front); sum = r .sum-kept ∙ ap (total weight) all }
+        record { count = r .count-kept ∙ ap length all; front = rw (← all) (r .front) }
 
     -- The next key k, between the labels a and b.
     module _ (h : i < count) (k a b : ℕ) (hk : k ≡ getD keys i 0) (ha : a ≡ getD labels (low k) 0) (hb : b ≡ getD labels (high k) 0) where
@@ -90,31 +66,29 @@ module _ (keys : List ℕ) (count : ℕ) (old : List ℕ) (size : count ≤ leng
       b-is : b ≡ comp keyGraph (r .seen) (high k)
       b-is = hb ∙ r .label (high k) (omega arith)
 
-      pub pass-skip : a ≡ b → Pass keys count old new labels n sum (i + 1)
+      pub pass-skip : a ≡ b → Pass keys count old new labels n (i + 1)
       unfolding keyGraph
       pass-skip e = record {
         kept = r .kept;
         seen = r .seen;
         within = omega arith;
         few = omega (arith, r .few);
-        fits = r .fits;
         labelled = r .labelled;
         size = r .size;
         label = r .label;
         count-kept = r .count-kept;
         front = r .front;
-        sum-kept = r .sum-kept;
         rest = ap (λ (l : List ℕ). r .kept ++ l)
             (sym (ap (kruskal keyGraph (r .seen)) first ∙ kruskal-skip keyGraph (r .seen) k (drop (i + 1) (take count keys)) (sym a-is ∙ e ∙ b-is)))
             ∙ r .rest;
       }
 
       pub pass-keep :
-          ¬ (a ≡ b) → (w : ℕ) → (w ≡ weight k) × (w < 1125899906842624) → (labels′ : List ℕ) → length labels′ ≡ length labels
+          ¬ (a ≡ b) → (labels′ : List ℕ) → length labels′ ≡ length labels
           → ((u : ℕ) → u < 128 → getD labels′ u 0 ≡ moved a b (getD labels u 0))
-          → Pass keys count old (set new n k) labels′ (n + 1) (sum + w) (i + 1)
+          → Pass keys count old (set new n k) labels′ (n + 1) (i + 1)
       unfolding keyGraph
-      pass-keep m w hw labels′ same e =
+      pass-keep m labels′ same e =
           let kept = r .kept ++ k ∷ [] in
           let long : length kept ≡ suc (length (r .kept)) = length-append (r .kept) (k ∷ []) ∙ omega arith in
           record {
@@ -122,14 +96,12 @@ module _ (keys : List ℕ) (count : ℕ) (old : List ℕ) (size : count ≤ leng
             seen = k ∷ r .seen;
             within = omega arith;
             few = omega (arith, r .few);
-            fits = omega (arith, r .fits);
             labelled = same ∙ r .labelled;
             size = length-set new n k ∙ r .size;
             label = λ u g. e u g ∙ relabelled (r .seen) k a b a-is b-is u (getD labels u 0) (r .label u g);
             count-kept = omega (arith, r .count-kept);
             front = rw (r .front, long, append-snoc, drop-cons old (length (r .kept)) 0 (omega (arith, r .count-kept, r .few)))
                 (set-at (r .kept) (getD old (length (r .kept)) 0) (drop (suc (length (r .kept))) old) k n (sym (r .count-kept)));
-            sum-kept = omega (arith, r .sum-kept, total-more (r .kept) k);
             rest = append-snoc (r .kept) k (kruskal keyGraph (k ∷ r .seen) (drop (i + 1) (take count keys)))
                 ∙ ap (λ (l : List ℕ). r .kept ++ l)
                 (sym (ap (kruskal keyGraph (r .seen)) first

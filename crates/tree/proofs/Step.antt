@@ -1,39 +1,35 @@
--- One step of building a tree, and the length with one point more: the keys of the star among those of the tree, passed by
--- Kruskal's method, are the keys with the new point.
+-- One step of building a tree: the keys of the star among those of the tree, passed by Kruskal's method, are the keys with the new
+-- point.
 use mathlib.Core.Path.{_≡_, refl, sym, ap, ap₂, _∙_, subst, subst⁻¹}
-use mathlib.Core.List.{List, [], _∷_, _++_, map}
-use Prim.Native.Nat.{ℕ, zero, suc, _+_, _-_, _≤_, _<_}
+use mathlib.Core.List.{List, [], _++_}
+use Prim.Native.Nat.{ℕ, suc, _+_, _≤_, _<_}
 use native.Mathlib.Numerals.{add-one}
 use native.Mathlib.Omega.{arith}
 use lib.Dec.{ltb}
 use lib.ListN.{length, take, drop, getD, length-map}
 use lib.Seq.{take-at, length-take-le}
-use lib.IntN.{ℤ}
-use Rattle.spanning.specs.Graph.{total}
 use Rattle.spanning.specs.Kruskal.{kruskal}
-use Rattle.spanning.specs.Order.{StrictTotal}
 use Rattle.spanning.proofs.Sorted.{sorted-distinct}
 use Rattle.spanning.proofs.Count.{tree-count}
-use Rattle.plane.specs.Point.{Point, lower, Lower, gap, dist}
+use Rattle.plane.specs.Point.{Point, Lower, gap, dist}
 use Rattle.plane.specs.Edge.{planar}
 use Rattle.plane.specs.Coordinate.{coordinate}
 use Rattle.plane.specs.Stored.{pointAt}
-use Rattle.plane.proofs.Whole.{plus, minus, gap-le}
+use Rattle.plane.proofs.Whole.{gap-le}
 use Rattle.plane.proofs.Order.{lower-order}
 use Rattle.plane.proofs.Stored.{coordinate-value}
-use Rattle.model.specs.Set.{put, union}
-use Rattle.model.specs.Tree.{mst, treeLength}
+use Rattle.model.specs.Set.{union}
+use Rattle.model.specs.Tree.{mst}
 use Rattle.model.proofs.Tree.{mst-run-tree}
 use Rattle.model.proofs.Bounds.{edges-fewer}
-use Rattle.tree.specs.Front.{Front, Spans}
+use Rattle.tree.specs.Front.{Front}
 use Rattle.tree.specs.Held.{held}
-use Rattle.tree.specs.Keys.{keyGraph, weight, edgeOf, tab, rays, allKeys, treeKeys, joinedKeys, octantKeys, offered}
-use Rattle.tree.specs.Build.{Rises, BuildRequires, JoinRequires, WithRequires, lengthWith}
-use Rattle.tree.proofs.Front.{front-take, front-drop, span-front}
+use Rattle.tree.specs.Keys.{keyGraph, edgeOf, tab, rays, allKeys, treeKeys, joinedKeys, octantKeys, offered}
+use Rattle.tree.specs.Build.{Rises, JoinRequires}
+use Rattle.tree.proofs.Front.{front-take}
 use Rattle.tree.proofs.Numbers.{tab-length}
 use Rattle.tree.proofs.Sorted.{ps-sorted, tree-keys-mst}
 use Rattle.tree.proofs.Join.{joined-keys}
-use Rattle.tree.proofs.Joined.{joined-total}
 
 -- Stored coordinates are 16 bits.
 abbrev pub Words : List ℕ → Type 0
@@ -78,18 +74,12 @@ module _ (at : ℕ → Point) (c : Point) (n : ℕ) (small : n < 128) (near : (i
       ∙ sym (joined-keys at c n small near apart)
 
   -- As the point behind the last: the tree of one point more.
-  pub next-tree : c ≡ at n → (keys′ : List ℕ) (r s : ℕ) → length (treeKeys at n) ≤ length (treeKeys at (suc n)) → m ≡ length (treeKeys at n)
-      → Spans (kruskal keyGraph [] (take w work₂)) keys keys′ r s → Front (treeKeys at (n + 1)) keys keys′ r
-  next-tree e keys′ r s grow count p =
-      subst⁻¹ (λ (z : ℕ). Front (treeKeys at z) keys keys′ r) (add-one n) (subst (λ (l : List ℕ). Front l keys keys′ r) (passed ∙ same) (span-front p))
+  pub next-tree : c ≡ at n → (keys′ : List ℕ) (r : ℕ) → Front (kruskal keyGraph [] (take w work₂)) keys keys′ r → Front (treeKeys at (n + 1)) keys keys′ r
+  next-tree e keys′ r p =
+      subst⁻¹ (λ (z : ℕ). Front (treeKeys at z) keys keys′ r) (add-one n) (subst (λ (l : List ℕ). Front l keys keys′ r) (passed ∙ same) p)
     where
       same : joinedKeys at c n ≡ treeKeys at (suc n)
       same = unfold joinedKeys treeKeys allKeys in ap (λ (q : Point). kruskal keyGraph [] (union ltb (rays at q n n) (allKeys at n))) e
-
-  -- Its total: the length of the tree with c.
-  pub with-total : Rises at n → (kept kept′ : List ℕ) (r s : ℕ) → Spans (kruskal keyGraph [] (take w work₂)) kept kept′ r s
-      → s ≡ treeLength (put lower c (tab at n))
-  with-total rises kept kept′ r s p = p .sum ∙ ap (total weight) passed ∙ joined-total at c n small rises apart
 
 -- The tree has few keys.
 pub join-count : {xs ys keys : List ℕ} {n m : ℕ} → JoinRequires xs ys n keys m → m ≤ n
@@ -100,25 +90,12 @@ pub join-few : {xs ys keys : List ℕ} {n m : ℕ} → JoinRequires xs ys n keys
 join-few {xs} {ys} {keys} {n} {m} p =
     omega (arith, join-count p, p .few)
 
-pub with-few : {xs ys keys : List ℕ} {n m x y : ℕ} → WithRequires xs ys n keys m x y → m ≤ 128
-with-few {xs} {ys} {keys} {n} {m} p =
-    omega (arith, length-take-le m keys (p .within), ap length (p .tree), p .few, keys-most (held xs ys) n (omega (arith, p .few)) (p .rises))
-
--- The step of a join, and the length with a point, from what their callees leave.
+-- The step of a join, from what its callees leave.
 pub join-step : (xs ys keys : List ℕ) (n m : ℕ) → JoinRequires xs ys n keys m → Words xs → Words ys
-    → (work₀ work₁ work₂ star keys′ : List ℕ) (w r s : ℕ) → work₁ ≡ take m keys ++ drop m work₀ → star ≡ octantKeys (held xs ys) (held xs ys n) n
-    → Front (union ltb (offered star) (take m work₁)) work₁ work₂ w → Spans (kruskal keyGraph [] (take w work₂)) keys keys′ r s
+    → (work₀ work₁ work₂ star keys′ : List ℕ) (w r : ℕ) → work₁ ≡ take m keys ++ drop m work₀ → star ≡ octantKeys (held xs ys) (held xs ys n) n
+    → Front (union ltb (offered star) (take m work₁)) work₁ work₂ w → Front (kruskal keyGraph [] (take w work₂)) keys keys′ r
     → Front (treeKeys (held xs ys) (n + 1)) keys keys′ r
-join-step xs ys keys n m p wx wy work₀ work₁ work₂ star keys′ w r s copied is added spans =
+join-step xs ys keys n m p wx wy work₀ work₁ work₂ star keys′ w r copied is added spans =
     next-tree (held xs ys) (held xs ys n) n (p .few) (λ i h. near-words (getD xs i 0) (getD ys i 0) (getD xs n 0) (getD ys n 0) (wx i) (wy i) (wx n) (wy n))
     (λ i h e. lower-order .irrefl (held xs ys n) (subst⁻¹ (λ (z : Point). Lower z (held xs ys n)) e (p .rises i n h (omega arith))))
-    keys work₀ work₁ work₂ star m w (p .within) (p .tree) copied is added refl keys′ r s
-    (keys-grow (held xs ys) n (p .few) (λ i j h k. p .rises i j h (omega arith))) (p .count) spans
-
-pub with-length : (xs ys keys : List ℕ) (n m x y : ℕ) → WithRequires xs ys n keys m x y → Words xs → Words ys → x < 65536 → y < 65536
-    → (work₀ work₁ work₂ star kept kept′ : List ℕ) (w r s : ℕ) → work₁ ≡ take m keys ++ drop m work₀ → star ≡ octantKeys (held xs ys) (pointAt x y) n
-    → Front (union ltb (offered star) (take m work₁)) work₁ work₂ w → Spans (kruskal keyGraph [] (take w work₂)) kept kept′ r s
-    → s ≡ lengthWith xs ys n x y
-with-length xs ys keys n m x y p wx wy hx hy work₀ work₁ work₂ star kept kept′ w r s copied is added spans =
-    with-total (held xs ys) (pointAt x y) n (p .few) (λ i h. near-words (getD xs i 0) (getD ys i 0) x y (wx i) (wy i) hx hy) (p .apart)
-    keys work₀ work₁ work₂ star m w (p .within) (p .tree) copied is added (p .rises) kept kept′ r s spans
+    keys work₀ work₁ work₂ star m w (p .within) (p .tree) copied is added refl keys′ r spans

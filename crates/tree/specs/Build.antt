@@ -31,15 +31,6 @@ pub record JoinRequires (xs ys : List ℕ) (n : ℕ) (keys : List ℕ) (m : ℕ)
   pub tree : take m keys ≡ treeKeys (held xs ys) n
   pub count : m ≡ length (treeKeys (held xs ys) n)
 
-pub record WithRequires (xs ys : List ℕ) (n : ℕ) (keys : List ℕ) (m x y : ℕ) : Type 0 where
-  pub inXs : n ≤ length xs
-  pub inYs : n ≤ length ys
-  pub few : n < 128
-  pub rises : Rises (held xs ys) n
-  pub within : m ≤ length keys
-  pub tree : take m keys ≡ treeKeys (held xs ys) n
-  pub apart : (i : ℕ) → i < n → ¬ (pointAt x y ≡ held xs ys i)
-
 -- The length of the tree of the first n points and the point at (x, y).
 abbrev pub lengthWith : List ℕ → List ℕ → ℕ → ℕ → ℕ → ℕ
 lengthWith xs ys n x y = treeLength (put lower (pointAt x y) (tab (held xs ys) n))

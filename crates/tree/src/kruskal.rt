@@ -5,21 +5,8 @@ ghost use mathlib.Core.List.{[]};
 ghost use Prim.Native.Nat.{ℕ, _≤_, _<_};
 ghost use lib.ListN.{length, take, getD};
 ghost use Rattle.spanning.specs.Kruskal.{kruskal};
-ghost use Rattle.tree.specs.Keys.{keyGraph, weight};
-ghost use Rattle.tree.specs.Front.{moved, Spans};
-
-// What a pass kept: how many keys, and the sum of their lengths.
-pub struct Spanned {
-    pub count: usize,
-    pub total: u64,
-}
-
-// The length of a key, with its bound.
-fn length_of(k: u64) -> u64
-    ensures { λ r. ⌜ (r ≡ weight k) × (r < 1125899906842624) ⌝ }
-{
-    k / 16384
-}
+ghost use Rattle.tree.specs.Keys.{keyGraph};
+ghost use Rattle.tree.specs.Front.{Front, moved};
 
 // The label c, with b in the place of a.
 fn choice(c: u8, a: u8, b: u8) -> u8
@@ -54,31 +41,28 @@ pub fn separate(labels: &mut [u8])
     }
 }
 
-// Writes those of the first `count` keys that Kruskal's method keeps to the front of `out`, in their order. The keys need be in
-// no order here. A key is below 2^64, so the total of 1,024 lengths fits.
-pub fn span(keys: &[u64], count: usize, out: &mut [u64]) -> Spanned
-    requires { ⌜ (count ≤ length (now keys)) × (count ≤ length (now out)) × (count ≤ 1024) ⌝ }
-    ensures { λ r. ⌜ Spans (kruskal keyGraph [] (take count (now (keys .entry)))) (now (out .entry)) (now (out .exit)) (r .count) (r .total) ⌝ }
+// Writes those of the first `count` keys that Kruskal's method keeps to the front of `out`, in their order, and returns their number.
+// The keys need be in no order here.
+pub fn span(keys: &[u64], count: usize, out: &mut [u64]) -> usize
+    requires { ⌜ (count ≤ length (now keys)) × (count ≤ length (now out)) ⌝ }
+    ensures { λ r. ⌜ Front (kruskal keyGraph [] (take count (now (keys .entry)))) (now (out .entry)) (now (out .exit)) r ⌝ }
 {
     let mut labels = [0u8; 128];
     separate(&mut labels);
     let mut n = 0;
-    let mut total: u64 = 0;
     let mut i = 0;
     while i < count {
         let k = keys[i];
-        let length = length_of(k);
         let low = (k / 128 % 128) as usize;
         let high = (k % 128) as usize;
         let a = labels[low];
         let b = labels[high];
         i += 1;
         if a != b {
-            total += length;
             out[n] = k;
             n += 1;
             relabel(&mut labels, a, b);
         }
     }
-    Spanned { count: n, total }
+    n
 }

@@ -8,10 +8,10 @@ use Rattle.tree.proofs.kruskal.span.Statement.{statement}
 use Rattle.tree.proofs.kruskal.span.Tie as tie
 
 abbrev Inv-loop : tie.InvT-loop
-Inv-loop keys count out₀ labels₀ n₀ total₀ i₀ out labels n total i = Pass keys count out₀ out labels n total i
+Inv-loop keys count out₀ labels₀ n₀ i₀ out labels n i = Pass keys count out₀ out labels n i
 
 abbrev μ-loop : tie.MeasureT-loop
-μ-loop keys count out₀ labels₀ n₀ total₀ i₀ out labels n total i = count - i
+μ-loop keys count out₀ labels₀ n₀ i₀ out labels n i = count - i
 
 slice-aggregate-separate : tie.Need-slice-aggregate-separate Inv-loop μ-loop
 slice-aggregate-separate c = refl
@@ -30,9 +30,6 @@ mul-k c = omega arith
 shared-slice-read-k : tie.Need-shared-slice-read-k Inv-loop μ-loop
 shared-slice-read-k c = omega arith
 
-length-of-requires : tie.Need-length-of-requires Inv-loop μ-loop
-length-of-requires c κs = tt
-
 array-read-a : tie.Need-array-read-a Inv-loop μ-loop
 array-read-a c = omega arith
 
@@ -41,9 +38,6 @@ array-read-b c = omega arith
 
 add-i : tie.Need-add-i Inv-loop μ-loop
 add-i c = omega arith
-
-add-total : tie.Need-add-total Inv-loop μ-loop
-add-total c = omega arith
 
 mul-out : tie.Need-mul-out Inv-loop μ-loop
 mul-out c = omega arith
@@ -55,10 +49,10 @@ add-n : tie.Need-add-n Inv-loop μ-loop
 add-n c = omega arith
 
 slice-aggregate-relabel : tie.Need-slice-aggregate-relabel Inv-loop μ-loop
-slice-aggregate-relabel c = sym (c .before .before .before .before .before .loop .inv .labelled)
+slice-aggregate-relabel c = sym (c .before .before .before .before .loop .inv .labelled)
 
 relabel-requires : tie.Need-relabel-requires Inv-loop μ-loop
-relabel-requires c κs = c .before .before .before .before .before .loop .inv .labelled
+relabel-requires c κs = c .before .before .before .before .loop .inv .labelled
 
 loop-less : tie.Need-loop-less Inv-loop μ-loop
 loop-less c = omega arith
@@ -66,21 +60,21 @@ loop-less c = omega arith
 loop-again : tie.Need-loop-again Inv-loop μ-loop
 loop-again c =
     let branch = c .before .before .before in
-    let turn = branch .before .before .before in
+    let turn = branch .before .before in
     let head = turn .before in
     let start = head .before .before .before .before .before .before in
-    pass-keep _ _ _ (start .pre .0) (start .pre .1) _ _ _ _ _ (head .loop .inv) (turn .loop-test .taken) _ _ _ refl refl refl
-    (branch .if1 .taken) _ (branch .before .length-of .ensures) _ (c .before .relabel .kept .0) (c .before .relabel .ensures)
+    pass-keep _ _ _ (start .pre .0) (start .pre .1) _ _ _ _ (head .loop .inv) (turn .loop-test .taken) _ _ _ refl refl refl
+    (branch .if1 .taken) _ (c .before .relabel .kept .0) (c .before .relabel .ensures)
 
 loop-less-2 : tie.Need-loop-less-2 Inv-loop μ-loop
 loop-less-2 c = omega arith
 
 loop-again-2 : tie.Need-loop-again-2 Inv-loop μ-loop
 loop-again-2 c =
-    let turn = c .before .before .before in
+    let turn = c .before .before in
     let head = turn .before in
     let start = head .before .before .before .before .before .before in
-    pass-skip _ _ _ (start .pre .0) (start .pre .1) _ _ _ _ _ (head .loop .inv) (turn .loop-test .taken) _ _ _ refl refl refl (c .if1 .left)
+    pass-skip _ _ _ (start .pre .0) (start .pre .1) _ _ _ _ (head .loop .inv) (turn .loop-test .taken) _ _ _ refl refl refl (c .if1 .left)
 
 same-length : tie.Need-same-length Inv-loop μ-loop
 same-length c = c .before .loop .inv .size
@@ -89,7 +83,7 @@ returns : tie.Need-returns Inv-loop μ-loop
 returns c =
     let head = c .before in
     let start = head .before .before .before .before .before .before in
-    pass-end _ _ _ (start .pre .0) (start .pre .1) _ _ _ _ _ (head .loop .inv) (c .loop-test .left)
+    pass-end _ _ _ (start .pre .0) (start .pre .1) _ _ _ _ (head .loop .inv) (c .loop-test .left)
 
 pub span-spec : {M : Type 1} → statement M
 span-spec =
@@ -102,11 +96,9 @@ span-spec =
     loop-holds
     mul-k
     shared-slice-read-k
-    length-of-requires
     array-read-a
     array-read-b
     add-i
-    add-total
     mul-out
     slice-write-out
     add-n
