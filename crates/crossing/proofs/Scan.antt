@@ -12,7 +12,6 @@ use lib.IntN.{ℤ, pos, subℕ}
 use lib.Signed.{ltZ}
 use borrow.Author.Tests.{lt-ltb, le-ltb}
 use Rattle.spanning.specs.Order.{Sorted}
-use Rattle.plane.specs.Test.{if}
 use Rattle.plane.specs.Point.{Point, lower, Lower}
 use Rattle.plane.specs.Stored.{pointAt}
 use Rattle.plane.proofs.Order.{lower-order}
@@ -26,7 +25,6 @@ use Rattle.model.proofs.Candidate.{save-less, less-save}
 use Rattle.model.proofs.Set.{has-in, put-same}
 use Rattle.score.specs.Gain.{far}
 use Rattle.score.specs.Prepared.{sparedBy}
-use Rattle.crossing.specs.declared.found.Best.the-variants.{At}
 use Rattle.crossing.specs.declared.found.Greatest.{Greatest}
 use Rattle.crossing.specs.Search.{xsOf, ysOf, greater, tried, tryAll, gainAt, greatestAt}
 

@@ -6,14 +6,13 @@ use native.Mathlib.Omega.{arith}
 use lib.ListN.{length, take, drop, getD}
 use Rattle.plane.specs.Point.{Point}
 use Rattle.plane.specs.Coordinate.{coordinate}
-use Rattle.plane.specs.Stored.{pointAt}
 use Rattle.model.specs.Round.{column, crossings}
 use Rattle.sets.proofs.Part.{next, at-end}
 use Rattle.score.specs.Gain.{tableAt, gain}
 use Rattle.score.specs.Nearest.{codeOf}
 use Rattle.score.specs.Prepared.{Prepared}
 use Rattle.crossing.specs.declared.found.Greatest.{Greatest}
-use Rattle.crossing.specs.Search.{Spares, greater, tried, tryAll, pointsOf}
+use Rattle.crossing.specs.Search.{Spares, greater, tryAll, pointsOf}
 use Rattle.crossing.proofs.Scan.{try-append, tried-is}
 
 -- The column x of the rows from `row` on is left to try.

@@ -1,25 +1,26 @@
 -- From arranged codes to a working form in order: the codes merged are the points of the state, their coordinates rise, and the
 -- keys built are those of the tree.
-use mathlib.Core.Path.{_≡_, refl, sym, ap, ap₂, _∙_, subst, subst⁻¹}
-use mathlib.Core.Logic.{_⊎_, inl, inr, ⊎-elim, _↔_}
-use mathlib.Core.Bool.{Bool, true, false, not, _&&_}
-use mathlib.Core.List.{List, [], _∷_, map, List·Memᴰ, List·Memᴰ·head as head, List·Memᴰ·tail as tail, List·Memᴰ·not-nil as not-nil}
-use Prim.Native.Nat.{ℕ, zero, suc, _+_, _/_, _%_, _≤_, _<_}
+use mathlib.Core.Path.{_≡_, sym, ap, ap₂, _∙_, subst, subst⁻¹}
+use mathlib.Core.Logic.{_⊎_, ⊎-elim}
+use mathlib.Core.Bool.{true}
+use mathlib.Core.List.{List, map, List·Memᴰ}
+use Prim.Native.Nat.{ℕ, _+_, _/_, _%_, _≤_, _<_}
 use native.Mathlib.Omega.{arith}
-use lib.Dec.{T, leb, leb→le, ltb, ltb→lt, lt→ltb}
-use lib.ListN.{length, take, drop, getD, length-map, List·getD-map}
+use lib.Dec.{T, leb, leb→le, ltb, lt→ltb}
+use lib.ListN.{length, take, getD, length-map, List·getD-map}
 use lib.Seq.{ext-getD, getD-take, length-take-le}
-use Rattle.spanning.specs.Order.{StrictTotal, Sorted}
+use Rattle.spanning.specs.Order.{Sorted}
 use Rattle.plane.specs.Stored.{pointAt}
 use Rattle.plane.specs.Point.{Point, inRange, lower, Lower}
 use Rattle.plane.proofs.Test.{and-parts}
 use Rattle.plane.proofs.Order.{nat-order, lower-order}
 use Rattle.model.specs.Set.{union, rising}
-use Rattle.model.specs.State.{State, points, Placed}
+use Rattle.model.specs.State.{points, Placed}
 use Rattle.model.proofs.Set.{union-in, union-sorted, rising-sorted, union-length}
 use Rattle.model.proofs.Candidate.{map-in}
 use Rattle.sets.specs.Array.{Written}
 use Rattle.sets.proofs.Results.{written-part}
+use Rattle.sets.proofs.Rising.{get-in, get-rises}
 use Rattle.tree.specs.Front.{Front}
 use Rattle.tree.specs.Held.{held}
 use Rattle.tree.specs.Keys.{tab, treeKeys}
@@ -29,25 +30,11 @@ use Rattle.tree.proofs.OctantKeys.{tab-get, tab-same}
 use Rattle.tree.proofs.Front.{front-take}
 use Rattle.tree.proofs.Step.{keys-most}
 use Rattle.plan.specs.Code.{code, pointOf, isCode}
-use Rattle.plan.specs.declared.Plan.{Plan}
-use Rattle.plan.specs.Work.{Codes, Arranged, Planned, stateAt, stateOf}
+use Rattle.plan.specs.Work.{Codes, Arranged, Planned, stateAt}
 use Rattle.plan.proofs.Codes.{code-point, code-order, range-code, points-union, points-rising}
 
 abbrev Less : ℕ → ℕ → Type 0
 Less a b = T (ltb a b)
-
--- Elements of a rising list rise with their places.
-pub get-in : (l : List ℕ) (i : ℕ) → i < length l → List·Memᴰ (getD l i 0) l
-get-in [] i h = absurd (omega arith)
-get-in (a ∷ l) zero h = head refl
-get-in (a ∷ l) (suc i) h = tail (get-in l i (omega arith))
-
-pub get-rises : (l : List ℕ) → Sorted Less l → (i j : ℕ) → i < j → j < length l → getD l i 0 < getD l j 0
-get-rises [] s i j h k = absurd (omega arith)
-get-rises (a ∷ l) s zero zero h k = absurd (omega arith)
-get-rises (a ∷ l) s zero (suc j) h k = ltb→lt a (getD l j 0) (s .0 (getD l j 0) (get-in l j (omega arith)))
-get-rises (a ∷ l) s (suc i) zero h k = absurd (omega arith)
-get-rises (a ∷ l) s (suc i) (suc j) h k = get-rises l (s .1) i j (omega arith) (omega arith)
 
 -- A table of a list's images is the list of images.
 pub tab-list : (f : ℕ → Point) (l : List ℕ) → tab (λ (i : ℕ). f (getD l i 0)) (length l) ≡ map f l

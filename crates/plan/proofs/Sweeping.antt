@@ -30,7 +30,7 @@ use Rattle.plan.specs.Weak.{firstWeak}
 use Rattle.plan.specs.declared.Plan.{Plan}
 use Rattle.plan.specs.Work.{Codes, Arranged, Planned, stateAt, stateOf}
 use Rattle.plan.proofs.Codes.{points-out, points-union}
-use Rattle.plan.proofs.Arranging.{get-in}
+use Rattle.sets.proofs.Rising.{get-in}
 
 -- What the search finds, as the definition does: none, or the point at a place.
 pub data Found (l : List ℕ) : Option Point → ℕ → Type 0 where

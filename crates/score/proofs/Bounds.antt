@@ -1,22 +1,20 @@
 -- The bottleneck of the crossing and a held point goes over exactly one of the crossing's edges: a walk leaves the crossing by
 -- an edge, and goes on by edges between held points, whose bottlenecks are known.
-use mathlib.Core.Path.{_≡_, refl, sym, ap, _∙_, subst, subst⁻¹}
+use mathlib.Core.Path.{_≡_, refl, sym, ap, _∙_, subst}
 use mathlib.Core.Logic.{_⊎_, inl, inr, ⊎-elim, _↔_}
 use mathlib.Core.List.{List, [], _∷_, List·Memᴰ, List·Memᴰ·head as head, List·Memᴰ·tail as tail, List·Memᴰ·cases-cons as cases, List·Memᴰ·not-nil as not-nil}
-use Prim.Native.Nat.{ℕ, zero, suc, _+_, _*_, _-_, _/_, _%_, _≤_, _<_, min, max}
+use Prim.Native.Nat.{ℕ, _+_, _*_, _≤_, _<_, min, max}
 use native.Mathlib.Decide.{decLt}
 use native.Mathlib.Omega.{arith}
 use lib.Dec.{T, ltb}
-use Rattle.spanning.specs.Graph.{Graph, Conn, stop, fwd, bwd, In}
+use Rattle.spanning.specs.Graph.{Conn, stop, fwd, bwd, In}
 use Rattle.spanning.specs.Order.{Sorted}
 use Rattle.spanning.specs.Bottleneck.{Within}
 use Rattle.spanning.proofs.Conn.{conn-edge, conn-sym, conn-trans, conn-mono}
-use Rattle.plane.specs.Point.{Point, dist}
 use Rattle.plane.proofs.Order.{nat-order}
 use Rattle.model.specs.Set.{put}
 use Rattle.model.proofs.Set.{put-in, put-sorted}
-use Rattle.tree.specs.Keys.{key, weight, low, high, keyGraph, allKeys}
-use Rattle.tree.proofs.AllKeys.{KeyAt, all-keys-in, all-keys-sorted, key-ends, all-keys-join}
+use Rattle.tree.specs.Keys.{weight, low, high, keyGraph}
 use Rattle.score.specs.Gain.{code, codeLength, codePoint, far, bound}
 
 -- The key of a code's edge to the crossing, whose number is n.

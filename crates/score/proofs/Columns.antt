@@ -5,7 +5,6 @@ use Prim.Native.Nat.{ℕ, _≤_, _<_}
 use native.Mathlib.Omega.{arith}
 use lib.ListN.{length, getD}
 use Rattle.tree.proofs.Step.{Words}
-use Rattle.score.specs.Gain.{farCode}
 use Rattle.score.specs.Rows.{RowsGiven, Gaps, Ranks}
 use Rattle.score.specs.Nearest.{codeOf, AtRow, AtRows, ColumnGiven}
 use Rattle.score.proofs.Geometry.{gap-small}

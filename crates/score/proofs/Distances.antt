@@ -1,14 +1,14 @@
 -- What is kept of the points and rows: the rows below a point, its distances to the rows, and those of all points.
 use mathlib.Core.Path.{_≡_, refl, sym, ap, _∙_}
-use mathlib.Core.Logic.{_⊎_, inl, inr, ⊎-elim, dite}
+use mathlib.Core.Logic.{inl, inr, ⊎-elim, dite}
 use mathlib.Core.List.{List}
 use Prim.Native.Nat.{ℕ, _+_, _*_, _-_, _≤_, _<_}
-use native.Mathlib.Decide.{ℕ-discrete, decLt}
+use native.Mathlib.Decide.{ℕ-discrete}
 use native.Mathlib.Omega.{arith}
 use lib.ListN.{length, getD, set, length-set}
 use lib.Seq.{getD-set-same, getD-set-other}
 use Rattle.score.specs.Rows.{RowsGiven, Ranked, gapCode, RowGaps, Gaps, Ranks}
-use Rattle.score.proofs.Filling.{Filled, fill-none, fill-more}
+use Rattle.score.proofs.Filling.{Filled, fill-more}
 
 -- The rows before r are below y.
 pub record Below (rows : List ℕ) (count y r : ℕ) : Type 0 where

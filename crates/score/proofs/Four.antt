@@ -1,6 +1,6 @@
 -- The gains of four codes, one after the other, from the parts that are worked out one by one.
-use mathlib.Core.Path.{_≡_, refl, sym, ap, _∙_}
-use mathlib.Core.List.{List, [], _∷_}
+use mathlib.Core.Path.{_≡_, ap, _∙_}
+use mathlib.Core.List.{[], _∷_}
 use Prim.Native.Nat.{ℕ, _+_, _-_, _≤_, min, max}
 use native.Mathlib.Omega.{arith}
 use Rattle.score.specs.Gain.{codeLength, codePoint, far, bound, gain}

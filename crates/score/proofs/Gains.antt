@@ -1,28 +1,24 @@
 -- The edges of a crossing, added one after the other: each lowers the least weight by its gain, so that the length of the tree with
 -- the crossing is the tree's own length, and the length `far`, less the gains. Edges beside them change nothing if each has
 -- one of them in its region that is no longer.
-use mathlib.Core.Path.{_≡_, refl, sym, ap, _∙_, subst, subst⁻¹}
-use mathlib.Core.Logic.{_⊎_, inl, inr, ⊎-elim, _↔_}
+use mathlib.Core.Path.{_≡_, refl, subst, subst⁻¹}
+use mathlib.Core.Logic.{_⊎_, inl, ⊎-elim, _↔_}
 use mathlib.Core.List.{List, [], _∷_, List·Memᴰ, List·Memᴰ·head as head, List·Memᴰ·tail as tail, List·Memᴰ·cases-cons as cases, List·Memᴰ·not-nil as not-nil}
-use Prim.Native.Nat.{ℕ, zero, suc, _+_, _*_, _-_, _/_, _%_, _≤_, _<_, min, max}
-use native.Mathlib.Decide.{decLt}
+use Prim.Native.Nat.{ℕ, _+_, _-_, _≤_, _<_}
 use native.Mathlib.Omega.{arith}
 use lib.Dec.{T, ltb, ltb→lt}
-use Rattle.spanning.specs.Graph.{Graph, Conn, stop, fwd, bwd, In, total}
+use Rattle.spanning.specs.Graph.{Conn, stop, fwd, bwd, In, total}
 use Rattle.spanning.specs.Kruskal.{kruskal}
-use Rattle.spanning.specs.Order.{Sorted}
 use Rattle.spanning.specs.Bottleneck.{Within}
-use Rattle.spanning.proofs.Conn.{conn-edge, conn-sym, conn-trans, conn-mono}
 use Rattle.spanning.proofs.Sorted.{mem-shift}
-use Rattle.spanning.proofs.OneMore.{one-more, one-more-closed, one-more-bridge}
-use Rattle.plane.specs.Point.{Point, dist}
+use Rattle.spanning.proofs.OneMore.{one-more, one-more-bridge}
 use Rattle.plane.proofs.Order.{nat-order}
-use Rattle.model.specs.Set.{put, union}
-use Rattle.model.proofs.Set.{put-in, put-sorted, union-in, union-sorted}
-use Rattle.tree.specs.Keys.{key, weight, low, high, keyGraph, rays, allKeys}
+use Rattle.model.specs.Set.{put}
+use Rattle.model.proofs.Set.{put-in, put-sorted}
+use Rattle.tree.specs.Keys.{weight, low, high, keyGraph}
 use Rattle.tree.proofs.Keys.{weight-le}
 use Rattle.score.specs.Gain.{code, codeLength, codePoint, far, bound, gain}
-use Rattle.score.proofs.Bounds.{keyOf, starred, Codes, key-of-weight, key-of-low, key-of-high, Table, Plain, starred-in, starred-sorted, key-walk, bound-bottleneck}
+use Rattle.score.proofs.Bounds.{keyOf, starred, Codes, key-of-weight, key-of-low, key-of-high, Table, Plain, starred-sorted, bound-bottleneck}
 
 -- A smaller key is no longer.
 pub light : (a b : ℕ) → T (ltb a b) → weight a ≤ weight b

@@ -1,5 +1,5 @@
 -- One point against the rows: row by row its codes are taken where they are less.
-use mathlib.Core.Path.{_≡_, refl, sym, ap, ap₂, _∙_}
+use mathlib.Core.Path.{_≡_, ap, ap₂, _∙_}
 use mathlib.Core.Logic.{_⊎_, inl, inr, ⊎-elim, dite}
 use mathlib.Core.Bool.{true, false}
 use mathlib.Core.List.{List}

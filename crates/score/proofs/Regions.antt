@@ -1,15 +1,14 @@
 -- The least codes of the regions with one point more: it is in exactly one of them, by its side and by the larger of its distances.
-use mathlib.Core.Path.{_≡_, refl, sym, ap, _∙_}
+use mathlib.Core.Path.{_≡_, refl, ap, _∙_}
 use mathlib.Core.Logic.{_⊎_, inl, inr, ⊎-elim, dite}
 use mathlib.Core.List.{List}
 use Prim.Native.Nat.{ℕ, _+_, _*_, _-_, _≤_, _<_, min}
 use native.Mathlib.Decide.{ℕ-discrete, decLt, decLe}
 use native.Mathlib.Omega.{arith}
-use lib.Dec.{ltb}
 use lib.ListN.{length, getD}
 use borrow.Author.Tests.{lt-ltb, le-ltb}
 use Rattle.score.specs.Gain.{farCode}
-use Rattle.score.specs.Nearest.{codeOf, steepCode, flatCode, Lapped, aheadOf, codeAt, East, West, North, South, Nearest, AtRow, AtRows, ColumnGiven, TurnGiven}
+use Rattle.score.specs.Nearest.{codeOf, steepCode, flatCode, Lapped, aheadOf, codeAt, East, West, North, South, Nearest, AtRows, ColumnGiven, TurnGiven}
 
 module _ (code : ℕ → ℕ) (Region : ℕ → Type 0) where
   pub nearest-none : (k : ℕ) → k ≡ farCode → Nearest code Region 0 k

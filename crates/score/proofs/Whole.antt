@@ -1,14 +1,13 @@
 -- The edges from the crossing to all held points, by the few of a list: of each region one that is no longer than the others there
 -- and no farther from them than they are from the crossing.
-use mathlib.Core.Path.{_≡_, refl, sym, ap, _∙_, subst, subst⁻¹}
+use mathlib.Core.Path.{_≡_, refl, ap, _∙_, subst, subst⁻¹}
 use mathlib.Core.Logic.{_⊎_, inl, inr, ⊎-elim, _↔_}
-use mathlib.Core.List.{List, [], _∷_, List·Memᴰ, List·Memᴰ·head as head, List·Memᴰ·tail as tail, List·Memᴰ·cases-cons as cases, List·Memᴰ·not-nil as not-nil}
-use Prim.Native.Nat.{ℕ, zero, suc, _+_, _*_, _-_, _/_, _%_, _≤_, _<_}
+use mathlib.Core.List.{List, [], List·Memᴰ, List·Memᴰ·not-nil as not-nil}
+use Prim.Native.Nat.{ℕ, zero, suc, _+_, _≤_, _<_}
 use native.Mathlib.Decide.{decLt}
 use native.Mathlib.Omega.{arith}
-use lib.Dec.{T, ltb, ltb→lt}
-use Rattle.spanning.specs.Graph.{Graph, Conn, stop, In, total}
-use Rattle.spanning.specs.Kruskal.{kruskal}
+use lib.Dec.{T, ltb}
+use Rattle.spanning.specs.Graph.{Conn, stop, total}
 use Rattle.spanning.specs.Order.{Sorted}
 use Rattle.spanning.specs.Bottleneck.{Within}
 use Rattle.spanning.proofs.Conn.{conn-edge, conn-sym, conn-trans, conn-mono}
@@ -20,9 +19,9 @@ use Rattle.plane.proofs.Metric.{dist-sym}
 use Rattle.model.specs.Set.{put, union}
 use Rattle.model.proofs.Set.{put-in, put-sorted, union-in, union-sorted}
 use Rattle.tree.specs.Keys.{key, weight, low, high, keyGraph, rays, allKeys, treeKeys, joinedKeys}
-use Rattle.tree.proofs.Keys.{weight-le, key-weight, key-low, key-high}
+use Rattle.tree.proofs.Keys.{key-weight, key-low, key-high}
 use Rattle.tree.proofs.AllKeys.{rays-in, KeyAt, all-keys-in, all-keys-sorted, key-ends, all-keys-join}
-use Rattle.score.specs.Gain.{code, codeLength, codePoint, far, bound, gain}
+use Rattle.score.specs.Gain.{code, codeLength, codePoint, far, gain}
 use Rattle.score.proofs.Bounds.{keyOf, starred, Codes, key-of-weight, key-of-low, key-of-high, Table, Plain, starred-in, starred-sorted, key-walk}
 use Rattle.score.proofs.Gains.{light, behind, behind-in, leastWeight, gains, start-weight}
 

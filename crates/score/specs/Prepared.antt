@@ -1,5 +1,4 @@
 -- What a round works out before it scores crossings: the table of the tree's bottlenecks, and the distances and ranks of the rows.
-use mathlib.Core.Path.{_≡_}
 use mathlib.Core.List.{List}
 use Prim.Native.Nat.{ℕ, _+_, _-_, _≤_, _<_}
 use lib.ListN.{getD}

@@ -9,7 +9,7 @@ use native.Mathlib.Omega.{arith}
 use Rattle.spanning.specs.Graph.{Graph, Conn, In, total}
 use Rattle.spanning.specs.Kruskal.{kruskal}
 use Rattle.spanning.specs.Order.{StrictTotal, Sorted}
-use Rattle.spanning.specs.Bottleneck.{Within, Bottleneck}
+use Rattle.spanning.specs.Bottleneck.{Within}
 use Rattle.spanning.proofs.Conn.{conn-edge, conn-mono, conn-bind}
 use Rattle.spanning.proofs.Component.{kruskal-cases}
 use Rattle.spanning.proofs.Sorted.{mem-shift}

@@ -1,5 +1,4 @@
 -- `score::nearest::less` meets its contract: numbers below 2^31 are the same read as signed.
-use mathlib.Core.Path.{ap₂}
 use native.Mathlib.Omega.{arith}
 use borrow.Author.Tests.{lt-ltb}
 use borrow.Author.Needs.{needs}

@@ -1,5 +1,4 @@
 -- `score::nearest::nearest` meets its contract. The invariant: the arrays hold the least codes of the points passed.
-use mathlib.Core.Path.{refl, _∙_}
 use Prim.Native.Nat.{_-_}
 use native.Mathlib.Omega.{arith}
 use Rattle.score.proofs.Regions.{Sought, sought-none, sought-given, sought-more, sought-end}

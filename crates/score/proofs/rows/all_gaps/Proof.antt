@@ -1,5 +1,5 @@
 -- `score::rows::all_gaps` meets its contract. The invariant: the distances of the points passed stand in their places.
-use mathlib.Core.Path.{_≡_, sym, _∙_}
+use mathlib.Core.Path.{_∙_}
 use Prim.Native.Nat.{_-_}
 use native.Mathlib.Omega.{arith}
 use Rattle.score.proofs.Distances.{AllDone, all-none, all-more, all-end}
