@@ -1,6 +1,6 @@
 # run: the listing of a sample deck. test: every test; the last line is the verdict of the prover. library: the planner for C.
-# programs: the programs in target/bin. bench: the time of scoring a crossing and of a run to the end, by the proved functions and by
-# others. table_1: the averages of document 004's Table 1. fuzz: files changed at random, to the planner for C.
+# programs: the programs in target/bin. bench: the time of a run to the end, by the planner and by others. table_1: the averages
+# of document 004's Table 1. fuzz: files changed at random, to the planner for C.
 .PHONY: run test reference_tests proved bench table_1 reference programs entries library fuzz libfuzzer
 
 SAMPLE = samples/example.deck
@@ -42,7 +42,6 @@ proved:
 
 bench: entries
 	cd tests/compare && cargo run --release --offline --quiet --bin bench
-	cd tests/compare && cargo run --release --offline --quiet --bin bench_runs
 
 table_1: entries
 	cd tests/compare && cargo run --release --offline --quiet --bin table_1

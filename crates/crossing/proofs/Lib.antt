@@ -1,4 +1,3 @@
-pub mod Answer
 pub mod Columns
 pub mod Coordinates
 pub mod Gather

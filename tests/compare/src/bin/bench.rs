@@ -1,139 +1,158 @@
-//! Nanoseconds per crossing of the ways to score crossings, which must agree on
-//! every length: a, the whole tree afresh from all pairs sorted (once as tuples
-//! and once packed in one number each); b, the proved functions; c, the
-//! planner's scoring written by hand.
+//! Milliseconds of a run to the end from a deck of pins, by four ways that must
+//! agree on the taps, the length and the number of rounds: 1, the published
+//! method with each tree afresh from all pairs sorted; 2, with each tree afresh
+//! by Prim's method; 3, the planner's algorithm written by hand; 4, the proved
+//! planner.
 
+use compare::by_hand_run::run_to_end;
 use compare::cpu_time::timed;
-use compare::points::{free_crossings, on_grid, Stored};
-use compare::{by_hand, proved, sorted_pairs};
+use compare::deck::Deck;
+use compare::points::on_grid;
+use compare::runs::{ended, run_afresh, run_proved, Ended};
+use compare::{prim, sorted_pairs};
 use reference::generate::Random;
 use reference::plane::Point;
+use reference::session::State;
 use std::hint::black_box;
 
-/// Point sets of one kind.
+/// Decks of one kind.
 struct Case {
     name: &'static str,
-    sets: usize,
-    count: usize,
+    decks: usize,
+    /// On how many of them the first way runs, which is slow.
+    sorted: usize,
+    pins: usize,
     columns: i64,
-    rows: i64,
     pitch: i64,
 }
 
 const CASES: [Case; 6] = [
-    uniform("16 points, uniform", 40, 16),
-    uniform("32 points, uniform", 16, 32),
-    uniform("60 points, uniform", 6, 60),
-    uniform("90 points, uniform", 3, 90),
-    deck("64 points, even pitch, 9 x 9", 60, 9, 9),
-    deck("64 points, even pitch, 17 x 17", 20, 17, 17),
+    uniform(16, "16, uniform", 40, 10),
+    uniform(32, "32, uniform", 20, 4),
+    uniform(60, "60, uniform", 10, 2),
+    uniform(64, "64, uniform", 10, 1),
+    even("64, even pitch, 9 x 9", 20, 20, 9),
+    even("64, even pitch, 17 x 17", 20, 6, 17),
 ];
 
-const fn uniform(name: &'static str, sets: usize, count: usize) -> Case {
+const fn uniform(pins: usize, name: &'static str, decks: usize, sorted: usize) -> Case {
     Case {
         name,
-        sets,
-        count,
+        decks,
+        sorted,
+        pins,
         columns: 1_000,
-        rows: 1_000,
         pitch: 1,
     }
 }
 
-const fn deck(name: &'static str, sets: usize, columns: i64, rows: i64) -> Case {
+const fn even(name: &'static str, decks: usize, sorted: usize, columns: i64) -> Case {
     Case {
         name,
-        sets,
-        count: 64,
+        decks,
+        sorted,
+        pins: 64,
         columns,
-        rows,
         pitch: 250,
     }
 }
 
-/// A point set with its crossings.
-type Job = (Stored, Stored);
+/// How many times the last two ways run each deck.
+const TURNS: usize = 10;
 
-fn job(points: &[Point]) -> Job {
-    (Stored::of(points), Stored::of(&free_crossings(points)))
+/// A deck of pins and what the ways take for it, in nanoseconds.
+struct Run {
+    pins: Vec<Point>,
+    deck: Deck,
+    rounds: usize,
+    sorted: Option<f64>,
+    prim: f64,
+    by_hand: f64,
+    proved: f64,
 }
 
-fn by_proved(points: &Stored, crossings: &Stored) -> Vec<u64> {
-    let mut out = vec![0; crossings.len()];
-    let done = proved::lengths(
-        &points.xs,
-        &points.ys,
-        &crossings.xs,
-        &crossings.ys,
-        &mut out,
-    );
-    assert_eq!(done, crossings.len());
-    out
-}
-
-/// One way to score crossings: what it found and its least time so far.
-struct Way {
-    run: fn(&Stored, &Stored) -> Vec<u64>,
-    found: Vec<u64>,
-    least: f64,
-}
-
-impl Way {
-    fn new(run: fn(&Stored, &Stored) -> Vec<u64>) -> Way {
-        Way {
-            run,
-            found: Vec::new(),
-            least: f64::INFINITY,
+impl Run {
+    fn new(pins: Vec<Point>) -> Run {
+        Run {
+            deck: Deck::of(&State::new(pins.clone(), Vec::new())),
+            pins,
+            rounds: 0,
+            sorted: None,
+            prim: 0.0,
+            by_hand: f64::INFINITY,
+            proved: f64::INFINITY,
         }
     }
 
-    /// Runs every job once, and keeps the time if it is the least, in
-    /// nanoseconds.
-    fn measure(&mut self, jobs: &[Job]) {
-        let score = |(points, crossings): &Job| (self.run)(black_box(points), black_box(crossings));
-        let (found, time) = timed(|| jobs.iter().flat_map(score).collect());
-        self.found = found;
-        self.least = self.least.min(time);
+    /// One turn of the last two ways; their least times are kept.
+    fn turn(&mut self) -> Ended {
+        let (run, proved) = timed(|| run_proved(black_box(&self.deck)));
+        let (found, by_hand) = timed(|| run_to_end(black_box(&self.pins)));
+        self.proved = self.proved.min(proved);
+        self.by_hand = self.by_hand.min(by_hand);
+        let ended = ended(&run);
+        assert_eq!(found, ended, "by hand, and the planner");
+        ended
+    }
+
+    /// All ways on one deck, in turns; the first one only if asked for.
+    fn measure(&mut self, with_sorted: bool) {
+        let expected = self.turn();
+        self.rounds = expected.rounds;
+        if with_sorted {
+            let (found, time) = timed(|| run_afresh(&self.pins, sorted_pairs::lengths));
+            assert_eq!(found, expected, "sorted pairs, and the planner");
+            self.sorted = Some(time);
+        }
+        let (found, time) = timed(|| run_afresh(&self.pins, prim::lengths));
+        assert_eq!(found, expected, "Prim's method, and the planner");
+        self.prim = time;
+        for _ in 1..TURNS {
+            assert_eq!(self.turn(), expected);
+        }
     }
 }
 
-/// Measures a case and prints its line. The ways take turns, so that a slow
-/// stretch of the machine does not meet only one of them.
+/// The mean over the runs.
+fn mean(runs: &[Run], of: impl Fn(&Run) -> f64) -> f64 {
+    runs.iter().map(of).sum::<f64>() / runs.len() as f64
+}
+
+/// The mean time over the runs, in milliseconds.
+fn milliseconds(runs: &[Run], of: impl Fn(&Run) -> f64) -> f64 {
+    mean(runs, of) / 1e6
+}
+
+/// Measures a case and prints its line. The first way's ratio is over the decks
+/// that it runs on.
 fn measure(case: &Case, random: &mut Random) {
-    let mut next = || on_grid(random, case.count, case.columns, case.rows, case.pitch);
-    let jobs: Vec<Job> = (0..case.sets).map(|_| job(&next())).collect();
-    let count: usize = jobs.iter().map(|(_, crossings)| crossings.len()).sum();
-    let [mut a, mut packed] = [sorted_pairs::lengths, sorted_pairs::lengths_packed].map(Way::new);
-    let [mut b, mut c] = [by_proved, by_hand::lengths].map(Way::new);
-    for turn in 0..20 {
-        if turn % 5 == 0 {
-            a.measure(&jobs);
-            packed.measure(&jobs);
-        }
-        b.measure(&jobs);
-        c.measure(&jobs);
+    let mut next = || on_grid(random, case.pins, case.columns, case.columns, case.pitch);
+    let mut runs: Vec<Run> = (0..case.decks).map(|_| Run::new(next())).collect();
+    for (place, run) in runs.iter_mut().enumerate() {
+        run.measure(place < case.sorted);
     }
-    for way in [&a, &packed, &c] {
-        assert_eq!(way.found, b.found, "{}", case.name);
-    }
-    let each = |way: &Way| way.least / count as f64;
+    let (with_sorted, _) = runs.split_at(case.sorted);
+    let sorted = milliseconds(with_sorted, |run| run.sorted.expect("a time"));
+    let prim = milliseconds(&runs, |run| run.prim);
+    let by_hand = milliseconds(&runs, |run| run.by_hand);
+    let proved = milliseconds(&runs, |run| run.proved);
     println!(
-        "| {} | {count} | {:.0} | {:.0} | {:.0} | {:.0} | {:.1} | {:.2} |",
+        "| {} | {} ({}) | {:.1} | {sorted:.1} | {prim:.1} | {by_hand:.3} | {proved:.3} | {:.0} | {:.1} | {:.2} |",
         case.name,
-        each(&a),
-        each(&packed),
-        each(&b),
-        each(&c),
-        a.least / b.least,
-        b.least / c.least
+        case.decks,
+        case.sorted,
+        mean(&runs, |run| run.rounds as f64),
+        sorted / milliseconds(with_sorted, |run| run.proved),
+        prim / proved,
+        proved / by_hand
     );
 }
 
 fn main() {
-    let mut random = Random::new(2_024);
-    println!("Nanoseconds per crossing.\n");
-    println!("| point sets | crossings | a: sorted pairs | a, packed | b: proved | c: by hand | a / b | b / c |");
-    println!("|---|---:|---:|---:|---:|---:|---:|---:|");
+    let mut random = Random::new(2_025);
+    println!("Milliseconds per deck. In brackets, the decks that 1 runs on.\n");
+    println!("| pins | decks | rounds | 1: sorted pairs | 2: Prim | 3: by hand | 4: proved | 1 / 4 | 2 / 4 | 4 / 3 |");
+    println!("|---|---:|---:|---:|---:|---:|---:|---:|---:|---:|");
     for case in &CASES {
         measure(case, &mut random);
     }
