@@ -1,68 +1,22 @@
--- The total of the first m keys, summed key by key; and that of a tree's keys is the length of the tree.
-use mathlib.Core.Path.{_≡_, refl, ap, _∙_}
-use mathlib.Core.List.{List, [], _∷_}
-use Prim.Native.Nat.{ℕ, _+_, _*_, _/_, _≤_, _<_}
-use native.Mathlib.Numerals.{add-one}
+-- The keys of a tree are few, and their total is its length.
+use mathlib.Core.Path.{_≡_, ap, _∙_}
+use mathlib.Core.List.{List}
+use Prim.Native.Nat.{ℕ, _≤_}
 use native.Mathlib.Omega.{arith}
-use lib.ListN.{length, take, drop, getD}
-use lib.Seq.{slice-cons, slice-empty, length-take-le}
+use lib.ListN.{length, take}
+use lib.Seq.{length-take-le}
 use Rattle.spanning.specs.Graph.{total}
 use Rattle.model.specs.Tree.{treeLength}
 use Rattle.tree.specs.Held.{held}
 use Rattle.tree.specs.Keys.{weight}
-use Rattle.tree.proofs.Join.{tab-in}
-use Rattle.tree.proofs.Sorted.{ps-sorted, one-to-one}
+use Rattle.tree.proofs.Joined.{rising-total}
 use Rattle.tree.proofs.Step.{keys-most}
-use Rattle.tree.proofs.Total.{tree-keys-total}
 use Rattle.crossing.specs.Search.{TreeGiven, pointsOf}
 
--- The sum of the keys before `next`, and with those from there on it is the total. A key is below 2^64, so a length is below 2^50.
-pub record Summed (keys : List ℕ) (m sum next : ℕ) : Type 0 where
-  pub within : next ≤ m
-  pub small : sum ≤ next * 1125899906842624
-  pub all : sum + total weight (drop next (take m keys)) ≡ total weight (take m keys)
-
-total-nil : total weight [] ≡ 0
-unfolding total
-total-nil = refl
-
-total-first : (k : ℕ) (l : List ℕ) → total weight (k ∷ l) ≡ weight k + total weight l
-unfolding total
-total-first k l = refl
-
-module _ (keys : List ℕ) (m : ℕ) (size : m ≤ length keys) where
-  pub sum-none : Summed keys m 0 0
-  sum-none = omega arith
-
-  pub sum-more :
-      (sum next : ℕ) → Summed keys m sum next → next < m → getD keys next 0 < 18446744073709551616
-      → Summed keys m (sum + getD keys next 0 / 16384) (next + 1)
-  sum-more sum next r h fits =
-      let first : drop next (take m keys) ≡ getD keys next 0 ∷ drop (next + 1) (take m keys) = slice-cons next m keys 0 h size ∙ rw add-one in
-      let split : total weight (drop next (take m keys)) ≡ getD keys next 0 / 16384 + total weight (drop (next + 1) (take m keys)) =
-      ap (total weight) first ∙ total-first (getD keys next 0) (drop (next + 1) (take m keys)) in
-      record { within = omega arith; small = omega (arith, r .small); all = omega (arith, r .all) }
-
-  pub sum-fits :
-      (sum next : ℕ) → m ≤ 1024 → Summed keys m sum next → next < m → getD keys next 0 < 18446744073709551616
-      → sum + getD keys next 0 / 16384 < 18446744073709551616
-  sum-fits sum next few r h fits = omega (arith, r .small)
-
-  pub sum-end : (sum next : ℕ) → Summed keys m sum next → m ≤ next → sum ≡ total weight (take m keys)
-  sum-end sum next r h =
-      let e : next ≡ m = omega (arith, r .within) in
-      let none : total weight (drop next (take m keys)) ≡ 0 = rw (e, slice-empty) total-nil in
-      omega (arith, r .all)
-
--- The keys of a tree are few, and their total is its length.
 module _ {xs ys : List ℕ} {n : ℕ} {keys : List ℕ} {m : ℕ} (p : TreeGiven xs ys n keys m) where
   pub keys-few : m ≤ 1024
   keys-few =
       omega (arith, length-take-le m keys (p .within), ap length (p .tree), p .few, keys-most (held xs ys) n (omega (arith, p .few)) (p .rises))
 
   pub keys-length : total weight (take m keys) ≡ treeLength (pointsOf xs ys n)
-  keys-length =
-      let small : n ≤ 128 = omega (arith, p .few) in
-      ap (total weight) (p .tree)
-      ∙ tree-keys-total (held xs ys) n small (one-to-one (held xs ys) n small (p .rises)) (pointsOf xs ys n) (ps-sorted (held xs ys) n small (p .rises))
-      (tab-in (held xs ys) n)
+  keys-length = ap (total weight) (p .tree) ∙ rising-total (held xs ys) n (omega (arith, p .few)) (p .rises)

@@ -16,11 +16,9 @@ ghost use mathlib.Core.Path.{_≡_};
 ghost use Prim.Native.Nat.{_≤_, _<_};
 ghost use lib.Dec.{ltb};
 ghost use lib.ListN.{length, take};
-ghost use Rattle.spanning.specs.Graph.{total};
 ghost use Rattle.model.specs.Set.{sort};
 ghost use Rattle.model.specs.Round as round;
 ghost use Rattle.sets.specs.Array.{Written};
-ghost use Rattle.tree.specs.Keys.{weight};
 ghost use Rattle.crossing.specs.Search.{TreeGiven, pointsOf, answerOf};
 
 // The different values among the first n, least first, at the front of `to`. Returns how many there are.
@@ -35,20 +33,6 @@ pub fn lines(values: &[u16], n: usize, to: &mut [u64]) -> usize
         count = sets::put(to, count, values[left] as u64);
     }
     count
-}
-
-// The sum of the lengths of the first m keys.
-pub fn total_of(keys: &[u64], m: usize) -> u64
-    requires { ⌜ (m ≤ length (now keys)) × (m ≤ 1024) ⌝ }
-    ensures { λ r. ⌜ r ≡ total weight (take m (now (keys .entry))) ⌝ }
-{
-    let mut sum: u64 = 0;
-    let mut next = 0;
-    while next < m {
-        sum += keys[next] / 16384;
-        next += 1;
-    }
-    sum
 }
 
 // The best crossing of a tree of at least one point, by the search over all crossings.

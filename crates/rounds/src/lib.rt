@@ -35,7 +35,7 @@ pub fn length_of(w: Plan) -> u64
     ensures { λ r. ⌜ r ≡ treeLength (points (work.stateOf w)) ⌝ }
 {
     let keys = w.keys;
-    crossing::total_of(&keys, w.nkeys)
+    tree::list::total_of(&keys, w.nkeys)
 }
 
 // The lowest crossing of greatest saving, if one saves more than 0.

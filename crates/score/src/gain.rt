@@ -9,7 +9,7 @@ ghost use Rattle.score.specs.Gain as spec;
 pub const FAR: u32 = 131072;
 
 // The smaller of two numbers.
-pub fn least(a: u32, b: u32) -> u32
+fn least(a: u32, b: u32) -> u32
     ensures { λ r. ⌜ r ≡ min a b ⌝ }
 {
     if a < b { a } else { b }

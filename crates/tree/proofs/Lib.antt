@@ -14,4 +14,5 @@ pub mod Place
 pub mod Sorted
 pub mod Star
 pub mod Step
+pub mod Sum
 pub mod Total

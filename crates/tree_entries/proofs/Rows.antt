@@ -1,11 +1,11 @@
 -- The length of a tree by its keys, and a row of lengths.
 use mathlib.Core.Path.{_≡_, refl, sym, ap, _∙_, subst}
 use mathlib.Core.List.{List, [], _∷_, _++_}
-use Prim.Native.Nat.{ℕ, suc, _+_, _*_, _≤_, _<_}
+use Prim.Native.Nat.{ℕ, suc, _+_, _≤_, _<_}
 use native.Mathlib.Numerals.{add-one}
 use native.Mathlib.Omega.{arith}
 use lib.ListN.{length, take, drop, getD, set}
-use lib.Seq.{take-suc, drop-cons, set-at, append-snoc}
+use lib.Seq.{drop-cons, set-at, append-snoc}
 use Rattle.spanning.specs.Graph.{total}
 use Rattle.spanning.specs.Kruskal.{kruskal}
 use Rattle.model.specs.Set.{put, union}
@@ -21,38 +21,6 @@ use Rattle.tree.proofs.Step.{keys-most}
 use Rattle.bottleneck.specs.Table.{Bottlenecks}
 use Rattle.score.specs.Length.{Measured}
 use Rattle.tree_entries.specs.Answers.{Points}
-
--- The sum of the lengths of the keys passed.
-pub record Summed (keys : List ℕ) (m sum i : ℕ) : Type 0 where
-  pub within : i ≤ m
-  pub fits : sum ≤ 1125899906842623 * i
-  pub is : sum ≡ total weight (take i keys)
-
-total-more : (l : List ℕ) (k : ℕ) → total weight (l ++ k ∷ []) ≡ total weight l + weight k
-unfolding total
-total-more [] k = omega arith
-total-more (x ∷ l) k = omega (arith, total-more l k)
-
-pub sum-none : (keys : List ℕ) (m : ℕ) → Summed keys m 0 0
-unfolding total
-sum-none keys m = record { within = omega arith; fits = omega arith; is = refl }
-
-pub sum-more : (keys : List ℕ) (m sum i w : ℕ) → m ≤ length keys → Summed keys m sum i → i < m → (w ≡ weight (getD keys i 0)) × (w ≤ 1125899906842623)
-    → Summed keys m (sum + w) (i + 1)
-sum-more keys m sum i w size s h e =
-    record {
-      within = omega arith;
-      fits = omega (arith, s .fits, e .1);
-      is = omega (
-        arith,
-        s .is,
-        e .0,
-        ap (λ (j : ℕ). total weight (take j keys)) (add-one i) ∙ ap (total weight) (take-suc keys i 0 (omega arith)) ∙ total-more (take i keys) (getD keys i 0),
-      );
-    }
-
-pub sum-end : (keys : List ℕ) (m sum i : ℕ) → Summed keys m sum i → m ≤ i → sum ≡ total weight (take m keys)
-sum-end keys m sum i s h = let e : i ≡ m = omega (arith, s .within) in s .is ∙ ap (λ (j : ℕ). total weight (take j keys)) e
 
 -- With no other point the tree has no edge.
 pub length-alone : (xs ys : List ℕ) (n x y : ℕ) → n ≡ 0 → 0 ≡ lengthWith xs ys n x y

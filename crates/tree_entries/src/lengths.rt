@@ -3,37 +3,15 @@
 use score::length::length_with;
 use score::rows::blank;
 use tree::build::build;
+use tree::list::total_of;
 ghost use mathlib.Core.Path.{_≡_};
 ghost use mathlib.Core.List.{_++_};
 ghost use Prim.Native.Nat.{_≤_};
-ghost use lib.ListN.{length, take, drop};
-ghost use Rattle.spanning.specs.Graph.{total};
-ghost use Rattle.tree.specs.Keys.{weight};
+ghost use lib.ListN.{length, drop};
 ghost use Rattle.tree.specs.Build.{lengthWith};
 ghost use Rattle.score.specs.Length.{Measured};
 ghost use Rattle.tree_entries.specs.Answers.{Points, lengthsWith};
 ghost use Rattle.tree_entries.specs.Given.{Tried};
-
-// The length of a key, with its bound.
-fn length_of(k: u64) -> u64
-    ensures { λ r. ⌜ (r ≡ weight k) × (r ≤ 1125899906842623) ⌝ }
-{
-    k / 16384
-}
-
-// The sum of the lengths of the first m keys.
-fn sum_of(keys: &[u64], m: usize) -> u64
-    requires { ⌜ (m ≤ length (now keys)) × (m ≤ 1024) ⌝ }
-    ensures { λ r. ⌜ r ≡ total weight (take m (now (keys .entry))) ⌝ }
-{
-    let mut sum: u64 = 0;
-    let mut i = 0;
-    while i < m {
-        sum += length_of(keys[i]);
-        i += 1;
-    }
-    sum
-}
 
 // The length of the tree of the first n points and the point at (x, y): 0 where there is no other.
 fn length_at(xs: &[u16], ys: &[u16], n: usize, table: &[u32], plain: u64, x: u16, y: u16) -> u64
@@ -79,7 +57,7 @@ pub fn lengths(xs: &[u16], ys: &[u16], cx: &[u16], cy: &[u16], out: &mut [u64])
     let n = xs.len();
     let mut keys = [0u64; 144];
     let m = build(xs, ys, n, &mut keys);
-    let plain = sum_of(&keys, m);
+    let plain = total_of(&keys, m);
     let mut table = blank();
     bottleneck::fill(&keys, m, n, &mut table);
     try_each(xs, ys, n, &table, plain, cx, cy, out);

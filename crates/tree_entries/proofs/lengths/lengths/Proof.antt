@@ -14,11 +14,11 @@ slice-aggregate-build c = search needs
 build-requires : tie.Need-build-requires
 build-requires c κs = search needs
 
-slice-aggregate-sum-of : tie.Need-slice-aggregate-sum-of
-slice-aggregate-sum-of c = search needs
+slice-aggregate-total-of : tie.Need-slice-aggregate-total-of
+slice-aggregate-total-of c = search needs
 
-sum-of-requires : tie.Need-sum-of-requires
-sum-of-requires c κs =
+total-of-requires : tie.Need-total-of-requires
+total-of-requires c κs =
     let b = c .before .before in
     let few = keys-few _ _ _ _ _ (c .before .before .before .before .before .before .before .before .before .pre .0) (b .build .ensures) in
     (omega (arith, b .build .kept .1 .1 .1 .0), omega arith)
@@ -49,7 +49,7 @@ try-each-requires c κs =
     let p = c .before .before .before .before .before .before .before .before .before .before .before .before .before .before .before .before .before .pre in
     let fill = c .before .before .before .fill in
     record {
-      given = tree-measured _ _ _ _ _ _ _ (p .0) (c .before .before .before .before .before .before .before .before .before .before .build .ensures) (c .before .before .before .before .before .before .before .sum-of .ensures) (fill .kept .1 .1 .1 .0 ∙ c .before .before .before .before .before .before .blank .ensures) (fill .ensures);
+      given = tree-measured _ _ _ _ _ _ _ (p .0) (c .before .before .before .before .before .before .before .before .before .before .build .ensures) (c .before .before .before .before .before .before .before .total-of .ensures) (fill .kept .1 .1 .1 .0 ∙ c .before .before .before .before .before .before .blank .ensures) (fill .ensures);
       both = p .1;
       fits = p .2;
     }
@@ -66,8 +66,8 @@ lengths-spec =
     (tie.spec
     slice-aggregate-build
     build-requires
-    slice-aggregate-sum-of
-    sum-of-requires
+    slice-aggregate-total-of
+    total-of-requires
     blank-requires
     slice-aggregate-fill
     slice-aggregate-fill-2
