@@ -1,7 +1,7 @@
 # run: the listing of a sample deck. test: every test; the last line is the verdict of the prover. library: the planner for C.
 # programs: the programs in target/bin. bench: the time of a run to the end, by the planner and by others. table_1: the averages
 # of document 004's Table 1. fuzz: files changed at random, to the planner for C.
-.PHONY: run test reference_tests proved bench table_1 reference programs entries library fuzz libfuzzer
+.PHONY: run test reference_tests library_tests bench table_1 reference programs entries library fuzz libfuzzer
 
 SAMPLE = samples/example.deck
 
@@ -25,20 +25,22 @@ entries:
 	rt staticlib deck_entries
 	rt staticlib planner
 
-# The tests of the independent implementation run beside the proofs that the other tests need.
+# Tests run beside the proofs that the next tests need.
 test:
 	rt fmt --check
-	$(MAKE) -s -j2 -O reference_tests proved
-	cd tests/compare && cargo test --release --offline --quiet
+	$(MAKE) -s -j2 -O reference_tests entries
+	$(MAKE) -s -j2 -O library_tests programs
+	cd tests/compare && cargo test --release --offline --quiet --test decklist --test deckplay
 	rt ci
 
 reference_tests:
 	cd tests/reference && cargo test --release --offline --quiet
 
-# What the tests link and run.
-proved:
-	rt check tree_entries deck_entries planner decklist deckplay
-	$(MAKE) -s entries
+# The tests of the libraries: every test of tests/compare but those of the programs.
+LIBRARY_TESTS = $(filter-out decklist deckplay,$(basename $(notdir $(wildcard tests/compare/tests/*.rs))))
+
+library_tests:
+	cd tests/compare && cargo test --release --offline --quiet --lib $(addprefix --test ,$(LIBRARY_TESTS))
 
 bench: entries
 	cd tests/compare && cargo run --release --offline --quiet --bin bench
