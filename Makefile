@@ -1,7 +1,7 @@
-# run: the listing of a sample deck. test: every test; the last line is the verdict of the prover. library: the planner for C.
-# programs: the programs in target/bin. bench: the time of a run to the end, by the planner and by others. table_1: the averages
-# of document 004's Table 1. fuzz: files changed at random, to the planner for C.
-.PHONY: run test reference_tests library_tests bench table_1 reference programs entries library fuzz libfuzzer
+# run: the listing of a sample deck. test: the gate; the last line is the verdict of the prover. tests: the tests alone, once the
+# prover has passed. library: the planner for C. programs: the programs in target/bin. bench: the time of a run to the end, by the
+# planner and by others. table_1: the averages of document 004's Table 1. fuzz: files changed at random, to the planner for C.
+.PHONY: run test tests reference_tests compare_tests gate_tests bench table_1 reference programs entries library fuzz libfuzzer
 
 SAMPLE = samples/example.deck
 
@@ -19,28 +19,30 @@ reference:
 library:
 	rt staticlib planner
 
-# The proved functions as a library for Rust.
+# The proved functions as libraries for Rust. One after the other, since each looks through what is proved already.
 entries:
 	rt staticlib tree_entries
 	rt staticlib deck_entries
 	rt staticlib planner
 
-# Tests run beside the proofs that the next tests need.
+# The prover over every crate, then the tests on what it proved.
 test:
-	rt fmt --check
-	$(MAKE) -s -j2 -O reference_tests entries
-	$(MAKE) -s -j2 -O library_tests programs
-	cd tests/compare && cargo test --release --offline --quiet --test decklist --test deckplay
-	rt ci
+	sh tests/gate/gate.sh $(MAKE) -s tests
+
+# The libraries are linked beside the tests that need none of them; the programs are in target/bin already.
+tests:
+	$(MAKE) -s -j2 -O entries reference_tests
+	$(MAKE) -s -j2 -O compare_tests gate_tests
 
 reference_tests:
 	cd tests/reference && cargo test --release --offline --quiet
 
-# The tests of the libraries: every test of tests/compare but those of the programs.
-LIBRARY_TESTS = $(filter-out decklist deckplay,$(basename $(notdir $(wildcard tests/compare/tests/*.rs))))
+compare_tests:
+	cd tests/compare && cargo test --release --offline --quiet
 
-library_tests:
-	cd tests/compare && cargo test --release --offline --quiet --lib $(addprefix --test ,$(LIBRARY_TESTS))
+# That the gate fails when it must.
+gate_tests:
+	sh tests/gate/failures.sh
 
 bench: entries
 	cd tests/compare && cargo run --release --offline --quiet --bin bench

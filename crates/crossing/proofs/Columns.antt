@@ -4,8 +4,8 @@ use mathlib.Core.List.{List}
 use Prim.Native.Nat.{ℕ, _≤_, _<_}
 use native.Mathlib.Omega.{arith}
 use lib.ListN.{length, getD}
-use Rattle.score.specs.Gain.{farCode}
-use Rattle.score.specs.Nearest.{AtRows}
+use Rattle.regions.specs.Codes.{farCode}
+use Rattle.regions.specs.Nearest.{AtRows}
 use Rattle.score.specs.Prepared.{Prepared}
 use Rattle.score.proofs.Geometry.{spared-is}
 use Rattle.crossing.specs.Search.{SearchGiven, Margins, Spares, pointsOf}

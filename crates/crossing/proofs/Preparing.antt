@@ -22,8 +22,8 @@ use Rattle.tree.specs.Keys.{tab}
 use Rattle.tree.proofs.Sorted.{ps-sorted}
 use Rattle.tree.proofs.Step.{Words}
 use Rattle.bottleneck.specs.Table.{Bottlenecks}
-use Rattle.score.specs.Gain.{far}
-use Rattle.score.specs.Rows.{RowsGiven, Gaps, Ranks}
+use Rattle.regions.specs.Codes.{far}
+use Rattle.regions.specs.Rows.{RowsGiven, Gaps, Ranks}
 use Rattle.score.specs.Prepared.{Prepared}
 use Rattle.score.proofs.Columns.{column-given}
 use Rattle.crossing.specs.declared.found.Greatest.{Greatest}

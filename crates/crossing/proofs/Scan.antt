@@ -23,7 +23,7 @@ use Rattle.model.specs.Tree.{treeLength}
 use Rattle.model.specs.Round.{crossings, notHeld, candidates, saving, bestAbove, best}
 use Rattle.model.proofs.Candidate.{save-less, less-save}
 use Rattle.model.proofs.Set.{has-in, put-same}
-use Rattle.score.specs.Gain.{far}
+use Rattle.regions.specs.Codes.{far}
 use Rattle.score.specs.Prepared.{sparedBy}
 use Rattle.crossing.specs.declared.found.Greatest.{Greatest}
 use Rattle.crossing.specs.Search.{xsOf, ysOf, greater, tried, tryAll, gainAt, greatestAt}

@@ -9,7 +9,7 @@ use Rattle.plane.specs.Coordinate.{coordinate}
 use Rattle.model.specs.Round.{column, crossings}
 use Rattle.sets.proofs.Part.{next, at-end}
 use Rattle.score.specs.Gain.{tableAt, gain}
-use Rattle.score.specs.Nearest.{codeOf}
+use Rattle.regions.specs.Nearest.{codeOf}
 use Rattle.score.specs.Prepared.{Prepared}
 use Rattle.crossing.specs.declared.found.Greatest.{Greatest}
 use Rattle.crossing.specs.Search.{Spares, greater, tryAll, pointsOf}

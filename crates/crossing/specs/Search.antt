@@ -15,9 +15,10 @@ use Rattle.model.specs.Set.{sort}
 use Rattle.tree.specs.Build.{Rises}
 use Rattle.tree.specs.Held.{held}
 use Rattle.tree.specs.Keys.{tab, treeKeys}
-use Rattle.score.specs.Gain.{far, farCode, tableAt, gain}
-use Rattle.score.specs.Rows.{RowsGiven}
-use Rattle.score.specs.Nearest.{codeOf, ColumnGiven}
+use Rattle.regions.specs.Codes.{far, farCode}
+use Rattle.score.specs.Gain.{tableAt, gain}
+use Rattle.regions.specs.Rows.{RowsGiven}
+use Rattle.regions.specs.Nearest.{codeOf, ColumnGiven}
 use Rattle.score.specs.Prepared.{sparedBy}
 use Rattle.crossing.specs.declared.found.Best.{Best}
 use Rattle.crossing.specs.declared.found.Best.the-variants.{Nothing, At}

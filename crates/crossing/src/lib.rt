@@ -7,10 +7,10 @@ pub mod search;
 
 use found::Best;
 use found::Greatest;
+use regions::rows::all_gaps;
+use regions::rows::all_ranks;
+use regions::rows::blank;
 use score::gain::FAR;
-use score::rows::all_gaps;
-use score::rows::all_ranks;
-use score::rows::blank;
 use search::all_columns;
 ghost use mathlib.Core.Path.{_≡_};
 ghost use Prim.Native.Nat.{_≤_, _<_};

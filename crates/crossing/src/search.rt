@@ -1,10 +1,10 @@
 // The search over the crossings, column by column.
 use super::found::Best;
 use super::found::Greatest;
+use regions::nearest::code_of;
+use regions::nearest::nearest;
+use regions::nearest::no_codes;
 use score::gain::gain;
-use score::nearest::code_of;
-use score::nearest::nearest;
-use score::nearest::no_codes;
 ghost use mathlib.Core.Path.{_≡_};
 ghost use mathlib.Core.List.{List, map};
 ghost use Prim.Native.Nat.{ℕ, _≤_};
@@ -12,7 +12,7 @@ ghost use lib.ListN.{length, take};
 ghost use Rattle.plane.specs.Point.{Point};
 ghost use Rattle.plane.specs.Coordinate.{coordinate};
 ghost use Rattle.model.specs.Round as round;
-ghost use Rattle.score.specs.Rows.{RowsGiven};
+ghost use Rattle.regions.specs.Rows.{RowsGiven};
 ghost use Rattle.score.specs.Prepared.{Prepared};
 ghost use Rattle.crossing.specs.Search.{SearchGiven, Stored, Margins, Spares, pointsOf, greater, tryAll};
 

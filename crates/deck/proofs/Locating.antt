@@ -14,29 +14,13 @@ use Rattle.plane.specs.Coordinate.{biased}
 use Rattle.plane.specs.declared.Coordinate.{Coordinate}
 use Rattle.plane.specs.declared.Coordinate.the-variants.{Stored, OutOfRange}
 use Rattle.plane.specs.Stored.{storedOf}
+use Rattle.plane.proofs.Stored.{number-out, number-in}
 use Rattle.plan.specs.Code.{code, pointOf, isCode}
 use Rattle.plan.proofs.Codes.{point-code, code-is}
 use Rattle.deck.proofs.Checking.{of-true}
 use Rattle.deck.specs.declared.place.Place.{Place}
 use Rattle.deck.specs.declared.place.Place.the-variants as place
 use Rattle.deck.specs.Calls.{placeOf}
-
--- What the check of a number says of it.
-pub number-out : (z : ℤ) → storedOf z ≡ OutOfRange → coordinateInRange z ≡ false
-unfolding storedOf
-number-out z e = go (coordinateInRange z) e
-  where
-    go : (b : Bool) → if b (λ _. Stored (biased z)) (λ _. OutOfRange) ≡ OutOfRange → b ≡ false
-    go true f = let h : _≡_ {A = ℕ} 0 1 = cc in absurd (omega arith)
-    go false f = refl
-
-pub number-in : (z : ℤ) (u : ℕ) → storedOf z ≡ Stored u → (coordinateInRange z ≡ true) × (u ≡ biased z)
-unfolding storedOf
-number-in z u e = go (coordinateInRange z) e
-  where
-    go : (b : Bool) → if b (λ _. Stored (biased z)) (λ _. OutOfRange) ≡ Stored u → (b ≡ true) × (u ≡ biased z)
-    go true f = (refl, cc)
-    go false f = let h : _≡_ {A = ℕ} 0 1 = cc in absurd (omega arith)
 
 -- A whole number handed on is read back from its bits.
 pub read-stored : (z : ℤ) (r : Coordinate) → SFits w32 z → r ≡ storedOf (toZ w32 (ofZ w32 z)) → storedOf z ≡ r

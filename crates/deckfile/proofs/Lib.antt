@@ -1,9 +1,4 @@
-pub mod Comparing
-pub mod Decoding
-pub mod Heading
 pub mod Listing
-pub mod Placing
-pub mod Putting
 pub mod Reading
 pub mod RoundTrip
 pub mod Showing

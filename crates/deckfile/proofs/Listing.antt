@@ -24,7 +24,7 @@ use Rattle.tree.specs.Keys.{endsAt}
 use Rattle.deck.specs.declared.Deck.{Deck}
 use Rattle.deck.specs.Form.{row, deckOf, stateOf, Sound}
 use Rattle.deck.proofs.Forms.{row-take}
-use Rattle.deckfile.specs.Bytes.{each, edgeBytes}
+use Rattle.sections.specs.Bytes.{each, edgeBytes}
 
 -- A tree has one edge less than points, and none where there is no point.
 tree-edges : (ps : List Point) → Sorted Lower ps → length (mst ps) ≡ length ps - 1

@@ -13,7 +13,8 @@ use Rattle.model.specs.State.{maxPins, placed}
 use Rattle.model.specs.File.{deck, refusal, readFile, offset, size, headed, laidOut, whole, shown, showsDeck}
 use Rattle.deck.specs.declared.calls.Outcome.{Outcome}
 use Rattle.deck.specs.Form.{deckOf}
-use Rattle.deckfile.specs.Reading.{Sections, refusing, accepting, outcomeOf, reading, showing}
+use Rattle.sections.specs.Layout.{Sections}
+use Rattle.deckfile.specs.Reading.{refusing, accepting, outcomeOf, reading, showing}
 use Rattle.deckfile.proofs.Showing.{pins-count}
 
 -- What a test answered, by its definition.

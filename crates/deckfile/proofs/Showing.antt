@@ -22,10 +22,12 @@ use Rattle.deck.specs.Form.{row, deckOf, stateOf, Sound}
 use Rattle.deck.specs.Check.{arranged, pointed, unjoined, built}
 use Rattle.deck.proofs.Forms.{state-deck, deck-sound}
 use Rattle.deck.proofs.Checking.{false-of, sound-arranged}
-use Rattle.deckfile.specs.Bytes.{edgeBytes}
-use Rattle.deckfile.specs.Reading.{mark, marks, Sections, FewPins, refusing, accepting, builtOf, showing}
-use Rattle.deckfile.proofs.Decoding.{marks-length}
-use Rattle.deckfile.proofs.Placing.{pins-fit, steiner-fit, pins-shown, steiner-shown, marks-codes}
+use Rattle.sections.specs.Bytes.{edgeBytes}
+use Rattle.sections.specs.Points.{mark, marks}
+use Rattle.sections.specs.Layout.{Sections, FewPins}
+use Rattle.deckfile.specs.Reading.{refusing, accepting, builtOf, showing}
+use Rattle.sections.proofs.Decoding.{marks-length}
+use Rattle.sections.proofs.Placing.{pins-fit, steiner-fit, pins-shown, steiner-shown, marks-codes}
 use Rattle.deckfile.proofs.Listing.{edges-are, edges-long}
 
 pub refusing-by : (e : Deck) (n : ℕ) → e ≡ deckOf empty → record { next = e; reply = Refused n } ≡ refusing n

@@ -1,21 +1,16 @@
 // Deck files: reading one into a deck, and writing a deck into a buffer (document 01, "Deck file").
-mod buffer;
-mod edges;
-mod header;
-mod number;
 mod reader;
-mod section;
 mod writer;
 
 use deck::Deck;
 use deck::calls::Outcome;
-use header::is_headed;
-use header::is_laid_out;
-use header::is_whole;
-use number::number4;
 use reader::deck_shown;
 use reader::refuse;
-use section::is_placed;
+use sections::header::is_headed;
+use sections::header::is_laid_out;
+use sections::header::is_whole;
+use sections::number::number4;
+use sections::points::is_placed;
 use writer::file_length;
 use writer::put_file;
 ghost use mathlib.Core.Path.{_≡_};

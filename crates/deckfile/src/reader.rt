@@ -1,21 +1,22 @@
 // The deck that a file shows: check 6.
-use super::edges::edges_of;
-use super::edges::same_edges;
-use super::header::is_plain;
-use super::number::number4;
-use super::section::decode;
 use deck::Deck;
 use deck::build::Built;
 use deck::build::build;
 use deck::calls::Outcome;
 use deck::calls::Reply;
+use sections::edges::edges_of;
+use sections::edges::same_edges;
+use sections::header::is_plain;
+use sections::number::number4;
+use sections::points::decode;
 ghost use mathlib.Core.Path.{_≡_};
 ghost use Prim.Native.Nat.{_≤_};
 ghost use lib.Dec.{T};
 ghost use Rattle.model.specs.State.{placed};
 ghost use Rattle.model.specs.File.{size, section, shown, sameBytes, runSection};
 ghost use Rattle.deck.specs.Form.{Sound, stateOf};
-ghost use Rattle.deckfile.specs.Reading.{Sections, FewPins, refusing, accepting, builtOf, showing};
+ghost use Rattle.sections.specs.Layout.{Sections, FewPins};
+ghost use Rattle.deckfile.specs.Reading.{refusing, accepting, builtOf, showing};
 
 // A refusal: reading hands back an empty deck.
 pub fn refuse(number: u8) -> Outcome

@@ -20,7 +20,8 @@ use Rattle.deck.specs.Form.{deckOf, stateOf, sound}
 use Rattle.deck.specs.Calls.{refusalNumber, called}
 use Rattle.deck.proofs.Forms.{state-deck, deck-sound, sound-is}
 use Rattle.deckfile.specs.Reading.{outcomeOf, reading}
-use Rattle.listing.specs.Whole.{fitting, deckText}
+use Rattle.ascii.specs.Text.{fitting}
+use Rattle.listing.specs.Whole.{deckText}
 use Rattle.listing.proofs.Answering.{text-sound}
 use Rattle.planner.proofs.Serving.{Good, valid, number, read-good, end-valid, end-next}
 

@@ -4,7 +4,7 @@ ghost use lib.ListN.{length};
 ghost use Rattle.io.specs.Counts.{Counts};
 ghost use Rattle.model.specs.Listing.{listingOfFile};
 ghost use Rattle.tree.specs.Front.{Front};
-ghost use Rattle.listing.specs.Whole.{fitting};
+ghost use Rattle.ascii.specs.Text.{fitting};
 
 // The text for a file at the front of `out`, which has to have room for 8192 bytes. Returns its length; 0 where there is no room.
 pub fn list_file(file: &[u8], out: &mut [u8]) -> usize

@@ -16,8 +16,8 @@ use Rattle.deckfile.specs.Reading.{reading}
 use Rattle.script.specs.declared.Command.{Command}
 use Rattle.script.specs.declared.Command.the-variants as command
 use Rattle.script.specs.Commands as script
-use Rattle.listing.specs.Encoding.{joinedLines}
-use Rattle.listing.specs.Replies.{errorWord, answerText}
+use Rattle.ascii.specs.Encoding.{joinedLines}
+use Rattle.replies.specs.Replies.{errorWord, answerText}
 use Rattle.listing.specs.Whole.{deckText}
 use Rattle.deckplay.specs.declared.answer.Played.{Played}
 use Rattle.deckplay.specs.Play.{Line, stays, changes, writeText, octantText, lineOf, played, Plays}

@@ -17,9 +17,10 @@ use Rattle.tree.specs.Front.{Front}
 use Rattle.deck.specs.declared.Deck.{Deck}
 use Rattle.script.specs.Hex.{Filled}
 use Rattle.script.proofs.Fitting.{filled-whole}
-use Rattle.listing.specs.Replies.{errorWord, octantWord, numberText}
-use Rattle.listing.specs.Whole.{fitting, deckText}
-use Rattle.listing.proofs.Answering.{front-fits, front-counted, front-taken}
+use Rattle.replies.specs.Replies.{errorWord, octantWord, numberText}
+use Rattle.ascii.specs.Text.{fitting}
+use Rattle.listing.specs.Whole.{deckText}
+use Rattle.ascii.proofs.Fitting.{front-fits, front-counted, front-taken}
 use Rattle.deckplay.specs.declared.answer.Played.{Played}
 use Rattle.deckplay.specs.Play.{Line, octantText, Plays}
 

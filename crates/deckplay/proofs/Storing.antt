@@ -17,8 +17,8 @@ use Rattle.deckfile.specs.declared.Written.{Written}
 use Rattle.deckfile.specs.declared.Written.the-variants.{Refused, Length}
 use Rattle.deckfile.specs.Writing.{written, left}
 use Rattle.deckfile.proofs.RoundTrip.{Wrote, wrote, wrote-file}
-use Rattle.listing.specs.Encoding.{fileText}
-use Rattle.listing.specs.Replies.{answerText}
+use Rattle.ascii.specs.Encoding.{fileText}
+use Rattle.replies.specs.Replies.{answerText}
 use Rattle.deckplay.specs.Play.{writeText}
 
 -- By the two tests of writing.

@@ -21,8 +21,8 @@ use Rattle.deckfile.specs.Reading.{reading}
 use Rattle.script.specs.declared.Command.{Command}
 use Rattle.script.specs.declared.Command.the-variants as command
 use Rattle.script.specs.Commands as script
-use Rattle.listing.specs.Encoding.{fileText, joinedLines}
-use Rattle.listing.specs.Replies.{errorWord, octantWord, numberText, replyText, answerText}
+use Rattle.ascii.specs.Encoding.{fileText, joinedLines}
+use Rattle.replies.specs.Replies.{errorWord, octantWord, numberText, replyText, answerText}
 use Rattle.listing.specs.Whole.{deckText}
 use Rattle.deckplay.specs.declared.answer.Played.{Played}
 

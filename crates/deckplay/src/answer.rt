@@ -1,14 +1,14 @@
 // What one line of a script does to a deck, and the text of its answer.
+use ascii::encode::file_line;
+use ascii::encode::joined;
 use deck::Deck;
 use deck::calls::Outcome;
 use deck::questions::Answer;
 use deckfile::Written;
-use listing::encode::file_line;
-use listing::encode::joined;
-use listing::lines::answer_line;
-use listing::lines::error_line;
-use listing::lines::octant_line;
-use listing::lines::reply_line;
+use replies::answer_line;
+use replies::error_line;
+use replies::octant_line;
+use replies::reply_line;
 use script::Command;
 ghost use mathlib.Core.Path.{_≡_};
 ghost use Prim.Native.Nat.{_≤_, min};
@@ -16,8 +16,8 @@ ghost use lib.ListN.{length};
 ghost use Rattle.deckfile.specs.Reading.{reading};
 ghost use Rattle.script.specs.declared.Command.the-variants as command;
 ghost use Rattle.script.specs.Commands.{commandOf, fileOf};
-ghost use Rattle.listing.specs.Encoding.{joinedLines};
-ghost use Rattle.listing.specs.Replies.{errorWord, answerText};
+ghost use Rattle.ascii.specs.Encoding.{joinedLines};
+ghost use Rattle.replies.specs.Replies.{errorWord, answerText};
 ghost use Rattle.listing.specs.Whole.{deckText};
 ghost use Rattle.deckplay.specs.Play.{stays, changes, writeText, octantText, played, Plays};
 

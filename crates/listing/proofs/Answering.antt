@@ -1,5 +1,4 @@
--- What the public functions leave: a text at the front of the slice where there is room, else nothing. With the answer that tells
--- whether a deck is sound.
+-- The text of a deck, and the answer that tells whether a deck is sound.
 use mathlib.Core.Path.{_≡_, refl, sym, ap, _∙_, subst, subst⁻¹}
 use mathlib.Core.Bool.{Bool, true, false}
 use mathlib.Core.List.{List, [], _++_}
@@ -17,37 +16,8 @@ use Rattle.deck.specs.declared.questions.Answer.{Answer}
 use Rattle.deck.specs.declared.questions.Answer.the-variants.{Refused, Length, Counts, Edge, NoEdge, Degree}
 use Rattle.deck.specs.Form.{stateOf, sound}
 use Rattle.deck.specs.Questions.{asked, lengthAnswer}
-use Rattle.listing.specs.Text.{Put}
-use Rattle.listing.specs.Whole.{fitting, deckText, Measures}
-
--- No room: nothing is written.
-pub front-none : (room : ℕ) (before text : List ℕ) → length before < room → Front (fitting room before text) before before 0
-front-none room before text h =
-    subst⁻¹ (λ (b : Bool). Front (if b (λ _. text) (λ _. [])) before before 0) (lt-leb room (length before) h) (record { count = refl; front = refl })
-
--- A text at the place 0.
-pub front-put : (room : ℕ) (before after text : List ℕ) (r : ℕ) → room ≤ length before → Put text before after 0 r
-    → Front (fitting room before text) before after r
-front-put room before after text r h p =
-    subst⁻¹ (λ (b : Bool). Front (if b (λ _. text) (λ _. [])) before after r) (le-leb room (length before) h)
-    (record { count = p .next ∙ zero-more; front = p .shows ∙ ap (λ (k : ℕ). text ++ drop k before) zero-more })
-  where
-    zero-more : 0 + length text ≡ length text
-    zero-more = omega arith
-
--- There was room: the text itself stands there, and within the slice.
-pub front-fits : (room : ℕ) (before after text : List ℕ) (r : ℕ) → room ≤ length before → Front (fitting room before text) before after r → Front text before after r
-front-fits room before after text r h f =
-    subst (λ (b : Bool). Front (if b (λ _. text) (λ _. [])) before after r) (le-leb room (length before) h) f
-
-pub front-counted : (text before after : List ℕ) (r : ℕ) → Front text before after r → (r ≤ length after) × (r ≡ length (take r after))
-front-counted text before after r f =
-    let h : length after ≡ length text + length (drop (length text) before) = ap length (f .front) ∙ length-append text (drop (length text) before) in
-    let k : r ≤ length after = omega (arith, h, f .count) in
-    (k, sym (length-take-le r after k))
-
-pub front-taken : (text before after : List ℕ) (r : ℕ) → Front text before after r → take r after ≡ text
-front-taken text before after r f = ap (take r) (f .front) ∙ take-at text (drop (length text) before) r (sym (f .count))
+use Rattle.ascii.specs.Text.{Put, fitting}
+use Rattle.listing.specs.Whole.{deckText, Measures}
 
 -- The text of a deck, by whether it is sound.
 pub text-sound : (d : Deck) → sound d ≡ true → listing (stateOf d) ≡ deckText d

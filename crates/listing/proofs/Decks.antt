@@ -37,8 +37,8 @@ use Rattle.deck.specs.Form.{row, deckOf, stateOf, Sound}
 use Rattle.deck.proofs.Forms.{row-take, row-length}
 use Rattle.deck.proofs.Checking.{sound-pins, sound-steiner}
 use Rattle.listing.specs.Line.{headText, edgeAt, Coded, Ended}
-use Rattle.listing.specs.Text.{Put}
-use Rattle.listing.proofs.Puts.{put-same}
+use Rattle.ascii.specs.Text.{Put}
+use Rattle.ascii.proofs.Puts.{put-same}
 
 -- An element of an array is a member of its first places.
 at-in : (a : List ℕ) (n i : ℕ) → n ≤ length a → i < n → List·Memᴰ (getD a i 0) (take n a)

@@ -1,4 +1,4 @@
--- Lines written one behind the other: the text of the first items, then a line more. With the tap lines and the run lines, item by item.
+-- The tap lines and the run lines of the first items, then a line more.
 use mathlib.Core.Path.{_≡_, refl, sym, ap, _∙_, subst}
 use mathlib.Core.List.{List, [], _∷_, _++_, map, append-assoc}
 use Prim.Native.Nat.{ℕ, _+_, _*_, _≤_, _<_}
@@ -12,35 +12,8 @@ use Rattle.plane.specs.Edge.{Edge, edgeLength}
 use Rattle.model.specs.Listing.{tapLines, runLines, tapWord, runWord, pointFields, field, decimal, lineFeed}
 use Rattle.plan.specs.Code.{pointOf}
 use Rattle.listing.specs.Line.{tapLine, runLine, edgeAt}
-use Rattle.listing.specs.Text.{Put}
-use Rattle.listing.proofs.Puts.{put-none, put-then, put-same}
-
--- The texts of the first i items stand from place `at` on, up to the place `next`, at most w bytes each.
-pub record Lined (text : ℕ → List ℕ) (w n : ℕ) (l m : List ℕ) (at next i : ℕ) : Type 0 where
-  pub within : i ≤ n
-  pub put : Put (text i) l m at next
-  pub same : length m ≡ length l
-  pub most : next ≤ at + w * i
-
-module _ (text : ℕ → List ℕ) (w n : ℕ) (l : List ℕ) (at : ℕ) where
-  pub lined-none : text 0 ≡ [] → Lined text w n l l at at 0
-  lined-none e = record { within = omega arith; put = first; same = refl; most = omega arith }
-    where
-      zero-more : at + 0 ≡ at
-      zero-more = omega arith
-
-      first : Put (text 0) l l at at
-      first = put-same (sym e) (subst (λ (k : ℕ). Put [] l l at k) zero-more (put-none l at))
-
-  pub lined-more : (line m m′ : List ℕ) (next next′ i : ℕ) → Lined text w n l m at next i → i < n → text (i + 1) ≡ text i ++ line → next ≤ length m
-      → Put line m m′ next next′ → next′ ≤ next + w → length m′ ≡ length m → Lined text w n l m′ at next′ (i + 1)
-  lined-more line m m′ next next′ i p h e fits q few size =
-      record {
-        within = omega arith;
-        put = put-same (sym e) (put-then (p .put) (omega (arith, p .same)) q);
-        same = size ∙ p .same;
-        most = omega (arith, p .most, mul-suc w i, ap (λ (k : ℕ). w * k) (add-one i));
-      }
+use Rattle.ascii.specs.Text.{Put}
+use Rattle.ascii.proofs.Puts.{put-none, put-then, put-same}
 
 -- The text of one item more.
 taps-more : (l : List Point) (q : Point) → tapLines (l ++ (q ∷ [])) ≡ tapLines l ++ tapLine q
@@ -93,9 +66,3 @@ pub run-more : (codes ends : List ℕ) (i : ℕ) → i < length ends → runText
 run-more codes ends i h =
     ap (λ (l : List ℕ). runLines (map (edgeAt codes) l)) (one-more ends i h) ∙ ap runLines (map-more (edgeAt codes) (take i ends) (getD ends i 0))
     ∙ runs-more (map (edgeAt codes) (take i ends)) (edgeAt codes (getD ends i 0))
-
--- The loops' ends: every item is written.
-pub lined-end : (text : ℕ → List ℕ) (w n : ℕ) (l m : List ℕ) (at next i : ℕ) → Lined text w n l m at next i → n ≤ i → Put (text n) l m at next × (next ≤ at + w * n)
-lined-end text w n l m at next i p h =
-    let e : i ≡ n = omega (arith, p .within) in
-    (put-same (ap text e) (p .put), omega (arith, p .most, ap (λ (k : ℕ). w * k) e))

@@ -1,19 +1,14 @@
 -- What the public functions leave in the slice that is lent to them.
 use mathlib.Core.Path.{_≡_}
-use mathlib.Core.List.{List, []}
+use mathlib.Core.List.{List}
 use Prim.Native.Nat.{ℕ}
-use lib.Dec.{T, leb}
-use lib.ListN.{length}
+use lib.Dec.{T}
 use Rattle.plane.specs.Test.{if}
 use Rattle.model.specs.Question.{lengthOfState}
 use Rattle.model.specs.Listing.{listing, refusedLine}
 use Rattle.deck.specs.declared.Deck.{Deck}
 use Rattle.deck.specs.Form.{stateOf, sound}
 use Rattle.listing.specs.declared.Measured.{Measured}
-
--- The text, where the slice has room for the longest of its kind; else nothing.
-abbrev pub fitting : ℕ → List ℕ → List ℕ → List ℕ
-fitting room before text = if (leb room (length before)) (λ _. text) (λ _. [])
 
 -- The listing of a deck, or refusal 11 where it is not sound.
 abbrev pub deckText : Deck → List ℕ

@@ -1,17 +1,14 @@
-// Text in ASCII, written to a lent slice: the listing of a deck, and lines for replies and answers.
-pub mod encode;
-pub mod lines;
+// The listing of a deck, in ASCII, written to a lent slice.
 mod rows;
-mod text;
 
+use ascii::byte;
+use ascii::decimal_field;
+use ascii::word;
 use deck::Deck;
 use deck::questions::Answer;
 use rows::head_line;
 use rows::run_lines;
 use rows::tap_lines;
-use text::byte;
-use text::decimal_field;
-use text::word;
 ghost use mathlib.Core.Path.{_≡_};
 ghost use Prim.Native.Nat.{_+_, _-_, _≤_};
 ghost use lib.ListN.{length};
@@ -19,8 +16,8 @@ ghost use Rattle.model.specs.Question as question;
 ghost use Rattle.model.specs.Listing as model;
 ghost use Rattle.tree.specs.Front.{Front};
 ghost use Rattle.deck.specs.Form.{Sound, stateOf};
-ghost use Rattle.listing.specs.Text.{Put};
-ghost use Rattle.listing.specs.Whole.{fitting, deckText, Measures};
+ghost use Rattle.ascii.specs.Text.{Put, fitting};
+ghost use Rattle.listing.specs.Whole.{deckText, Measures};
 
 // Whether a deck is sound, and the length of its tree.
 struct Measured {

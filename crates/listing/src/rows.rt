@@ -1,8 +1,8 @@
 // The lines of a deck's listing: the head line, a tap line for each Steiner point and a run line for each edge.
-use super::text::byte;
-use super::text::decimal_field;
-use super::text::signed_field;
-use super::text::word;
+use ascii::byte;
+use ascii::decimal_field;
+use ascii::signed_field;
+use ascii::word;
 ghost use mathlib.Core.Path.{_≡_};
 ghost use mathlib.Core.List.{map};
 ghost use Prim.Native.Nat.{_+_, _*_, _≤_, _<_};
@@ -12,7 +12,7 @@ ghost use Rattle.plane.specs.Point.{dist};
 ghost use Rattle.model.specs.Listing as model;
 ghost use Rattle.plan.specs.Code.{pointOf};
 ghost use Rattle.listing.specs.Line.{headText, tapLine, runLine, edgeAt, Coded, Ended};
-ghost use Rattle.listing.specs.Text.{Put};
+ghost use Rattle.ascii.specs.Text.{Put};
 
 // A space and a coordinate, given in its stored form.
 fn coordinate_field(out: &mut [u8], at: usize, u: u16) -> usize

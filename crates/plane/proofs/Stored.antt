@@ -13,7 +13,7 @@ use lib.Signed.{ltZ, leZ}
 use borrow.Author.Tests.{lt-ltb, le-ltb, ltb-false}
 use Rattle.plane.specs.declared.Coordinate.{Coordinate}
 use Rattle.plane.specs.declared.Coordinate.the-variants.{Stored, OutOfRange}
-use Rattle.plane.specs.Test.{thenBy}
+use Rattle.plane.specs.Test.{if, thenBy}
 use Rattle.plane.specs.Point.{limit, coordinateInRange, lower, gap}
 use Rattle.plane.specs.Coordinate.{coordinate, biased, signed16, word16}
 use Rattle.plane.specs.Stored.{pointAt, storedOf}
@@ -131,6 +131,23 @@ unfolding storedOf
 stored-beyond z n =
     by-test (λ (r : Coordinate). r ≡ OutOfRange) (coordinateInRange z) (λ _. Stored (biased z)) (λ _. OutOfRange)
     (λ t. absurd (n t)) (λ f. refl)
+
+-- What the answer of the check says of the number.
+pub number-out : (z : ℤ) → storedOf z ≡ OutOfRange → coordinateInRange z ≡ false
+unfolding storedOf
+number-out z e = go (coordinateInRange z) e
+  where
+    go : (b : Bool) → if b (λ _. Stored (biased z)) (λ _. OutOfRange) ≡ OutOfRange → b ≡ false
+    go true f = let h : _≡_ {A = ℕ} 0 1 = cc in absurd (omega arith)
+    go false f = refl
+
+pub number-in : (z : ℤ) (u : ℕ) → storedOf z ≡ Stored u → (coordinateInRange z ≡ true) × (u ≡ biased z)
+unfolding storedOf
+number-in z u e = go (coordinateInRange z) e
+  where
+    go : (b : Bool) → if b (λ _. Stored (biased z)) (λ _. OutOfRange) ≡ Stored u → (b ≡ true) × (u ≡ biased z)
+    go true f = (refl, cc)
+    go false f = let h : _≡_ {A = ℕ} 0 1 = cc in absurd (omega arith)
 
 -- What is stored is given back.
 pub stored-again : (u : ℕ) → u ≤ 60000 → storedOf (coordinate u) ≡ Stored u

@@ -15,7 +15,8 @@ use Rattle.plane.proofs.Order.{nat-order}
 use Rattle.model.specs.Set.{put}
 use Rattle.model.proofs.Set.{put-in, put-sorted}
 use Rattle.tree.specs.Keys.{weight, low, high, keyGraph}
-use Rattle.score.specs.Gain.{code, codeLength, codePoint, far, bound}
+use Rattle.regions.specs.Codes.{code, codeLength, codePoint, far}
+use Rattle.score.specs.Gain.{bound}
 
 -- The key of a code's edge to the crossing, whose number is n.
 abbrev pub keyOf : ℕ → ℕ → ℕ

@@ -5,10 +5,10 @@ use Prim.Native.Nat.{ℕ, _≤_, _<_}
 use native.Mathlib.Omega.{arith}
 use lib.ListN.{length, getD}
 use Rattle.tree.proofs.Step.{Words}
-use Rattle.score.specs.Rows.{RowsGiven, Gaps, Ranks}
-use Rattle.score.specs.Nearest.{codeOf, AtRow, AtRows, ColumnGiven}
+use Rattle.regions.specs.Rows.{RowsGiven, Gaps, Ranks}
+use Rattle.regions.specs.Nearest.{codeOf, AtRow, AtRows, ColumnGiven}
 use Rattle.score.proofs.Geometry.{gap-small}
-use Rattle.score.proofs.Regions.{nearest-none}
+use Rattle.regions.proofs.Regions.{nearest-none}
 
 pub column-given : {xs : List ℕ} (ys : List ℕ) {n : ℕ} {gaps ranks : List ℕ} (rows : List ℕ) {count : ℕ} → n ≤ length xs → n < 128 → Words ys
     → RowsGiven rows count → Gaps ys n rows count gaps → Ranks ys n rows count ranks → length gaps ≡ 16384 → length ranks ≡ 128

@@ -3,7 +3,8 @@ use mathlib.Core.Path.{_≡_, ap, _∙_}
 use mathlib.Core.List.{[], _∷_}
 use Prim.Native.Nat.{ℕ, _+_, _-_, _≤_, min, max}
 use native.Mathlib.Omega.{arith}
-use Rattle.score.specs.Gain.{codeLength, codePoint, far, bound, gain}
+use Rattle.regions.specs.Codes.{codeLength, codePoint, far}
+use Rattle.score.specs.Gain.{bound, gain}
 
 -- Each gain is at most `far`, as each bottleneck is, so that their sum fits.
 pub least-small : (v a rest : ℕ) → v ≡ min a rest → rest ≤ far → v ≤ far

@@ -17,7 +17,8 @@ use Rattle.model.specs.Set.{put}
 use Rattle.model.proofs.Set.{put-in, put-sorted}
 use Rattle.tree.specs.Keys.{weight, low, high, keyGraph}
 use Rattle.tree.proofs.Keys.{weight-le}
-use Rattle.score.specs.Gain.{code, codeLength, codePoint, far, bound, gain}
+use Rattle.regions.specs.Codes.{code, codeLength, codePoint, far}
+use Rattle.score.specs.Gain.{bound, gain}
 use Rattle.score.proofs.Bounds.{keyOf, starred, Codes, key-of-weight, key-of-low, key-of-high, Table, Plain, starred-sorted, bound-bottleneck}
 
 -- A smaller key is no longer.

@@ -20,8 +20,9 @@ use Rattle.tree.specs.Held.{held}
 use Rattle.tree.specs.Keys.{weight, keyGraph, tab, allKeys, treeKeys}
 use Rattle.tree.proofs.AllKeys.{all-keys-sorted}
 use Rattle.tree.proofs.Joined.{rising-total}
-use Rattle.score.specs.Gain.{code, codeLength, codePoint, far, farCode, tableAt, gain}
-use Rattle.score.specs.Nearest.{aheadOf, codeAt, East, West, North, South, Nearest, AtRow}
+use Rattle.regions.specs.Codes.{code, codeLength, codePoint, far, farCode}
+use Rattle.score.specs.Gain.{tableAt, gain}
+use Rattle.regions.specs.Nearest.{aheadOf, codeAt, East, West, North, South, Nearest, AtRow}
 use Rattle.score.specs.Prepared.{Prepared, sparedBy}
 use Rattle.score.proofs.Bounds.{Table}
 use Rattle.score.proofs.Gains.{light}

@@ -2,11 +2,7 @@ pub mod Bounds
 pub mod Gains
 pub mod Whole
 pub mod WithCrossing
-pub mod Filling
 pub mod Four
-pub mod Laps
-pub mod Distances
-pub mod Regions
 pub mod Geometry
 pub mod TreeKeys
 pub mod Columns

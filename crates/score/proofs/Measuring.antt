@@ -6,8 +6,9 @@ use native.Mathlib.Omega.{arith}
 use lib.ListN.{getD}
 use Rattle.tree.specs.Build.{lengthWith}
 use Rattle.tree.proofs.Step.{Words}
-use Rattle.score.specs.Gain.{far, tableAt, gain}
-use Rattle.score.specs.Rows.{RowsGiven}
+use Rattle.regions.specs.Codes.{far}
+use Rattle.score.specs.Gain.{tableAt, gain}
+use Rattle.regions.specs.Rows.{RowsGiven}
 use Rattle.score.specs.Length.{Measured, Around}
 use Rattle.score.proofs.Geometry.{gain-is}
 use Rattle.score.proofs.TreeKeys.{tree-short}

@@ -21,7 +21,8 @@ use Rattle.model.proofs.Set.{put-in, put-sorted, union-in, union-sorted}
 use Rattle.tree.specs.Keys.{key, weight, low, high, keyGraph, rays, allKeys, treeKeys, joinedKeys}
 use Rattle.tree.proofs.Keys.{key-weight, key-low, key-high}
 use Rattle.tree.proofs.AllKeys.{rays-in, KeyAt, all-keys-in, all-keys-sorted, key-ends, all-keys-join}
-use Rattle.score.specs.Gain.{code, codeLength, codePoint, far, gain}
+use Rattle.regions.specs.Codes.{code, codeLength, codePoint, far}
+use Rattle.score.specs.Gain.{gain}
 use Rattle.score.proofs.Bounds.{keyOf, starred, Codes, key-of-weight, key-of-low, key-of-high, Table, Plain, starred-in, starred-sorted, key-walk}
 use Rattle.score.proofs.Gains.{light, behind, behind-in, leastWeight, gains, start-weight}
 

@@ -19,7 +19,8 @@ use Rattle.tree.specs.Keys.{weight, tab, allKeys, treeKeys, joinedKeys}
 use Rattle.tree.proofs.Join.{tab-in}
 use Rattle.tree.proofs.Joined.{rising-total, joined-total}
 use Rattle.tree.proofs.Sorted.{ps-sorted}
-use Rattle.score.specs.Gain.{code, codePoint, far, bound, gain}
+use Rattle.regions.specs.Codes.{code, codePoint, far}
+use Rattle.score.specs.Gain.{bound, gain}
 use Rattle.score.proofs.Bounds.{Table}
 use Rattle.score.proofs.Whole.{Nearby, joined-weight}
 

@@ -1,26 +1,8 @@
--- What a crossing spares. A code is an edge from the crossing to a held point: its length times 128, and the point's number.
+-- What a crossing spares.
 use mathlib.Core.List.{List, [], _∷_}
-use Prim.Native.Nat.{ℕ, _+_, _*_, _-_, _/_, _%_, min, max}
+use Prim.Native.Nat.{ℕ, _+_, _*_, _-_, min, max}
 use lib.ListN.{getD}
-
--- An edge of length d to the point j.
-abbrev pub code : ℕ → ℕ → ℕ
-code d j = d * 128 + j
-
--- Its length and its point.
-abbrev pub codeLength : ℕ → ℕ
-codeLength k = k / 128
-
-abbrev pub codePoint : ℕ → ℕ
-codePoint k = k % 128
-
--- Longer than every edge between two places.
-abbrev pub far : ℕ
-far = 131072
-
--- The code of an edge of length `far`.
-abbrev pub farCode : ℕ
-farCode = 16777216
+use Rattle.regions.specs.Codes.{codeLength, codePoint, far}
 
 -- The entry of two numbers in a table of 128 rows of 128.
 abbrev pub tableAt : List ℕ → ℕ → ℕ → ℕ

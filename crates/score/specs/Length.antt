@@ -8,8 +8,8 @@ use Rattle.tree.specs.Build.{Rises}
 use Rattle.tree.specs.Held.{held}
 use Rattle.tree.specs.Keys.{tab, treeKeys}
 use Rattle.bottleneck.specs.Table.{Bottlenecks}
-use Rattle.score.specs.Rows.{Gaps, Ranks}
-use Rattle.score.specs.Nearest.{AtRow}
+use Rattle.regions.specs.Rows.{Gaps, Ranks}
+use Rattle.regions.specs.Nearest.{AtRow}
 
 -- The first n points rise, the table has the bottlenecks of their tree, and `whole` is its length.
 pub record Measured (xs ys : List ℕ) (n : ℕ) (table : List ℕ) (whole : ℕ) : Type 0 where

@@ -9,8 +9,8 @@ use Rattle.tree.specs.Build.{Rises}
 use Rattle.tree.specs.Held.{held}
 use Rattle.tree.specs.Keys.{treeKeys}
 use Rattle.bottleneck.specs.Table.{Bottlenecks}
-use Rattle.score.specs.Gain.{far}
-use Rattle.score.specs.Rows.{RowsGiven, Gaps, Ranks}
+use Rattle.regions.specs.Codes.{far}
+use Rattle.regions.specs.Rows.{RowsGiven, Gaps, Ranks}
 
 pub record Prepared (xs ys : List ℕ) (n : ℕ) (table gaps ranks rows : List ℕ) (count : ℕ) : Type 0 where
   pub some : 0 < n

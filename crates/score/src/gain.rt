@@ -3,6 +3,7 @@ ghost use mathlib.Core.Path.{_≡_};
 ghost use mathlib.Core.List.{_∷_, []};
 ghost use Prim.Native.Nat.{_-_, min, max};
 ghost use lib.ListN.{length};
+ghost use Rattle.regions.specs.Codes as code;
 ghost use Rattle.score.specs.Gain as spec;
 
 // Longer than every edge between two places.
@@ -25,7 +26,7 @@ fn most(a: u32, b: u32) -> u32
 // The bottleneck of the crossing and the point of the code q: over the edge of the code k, or `rest`, what it is without it.
 fn over(table: &[u32], k: u32, q: u32, rest: u32) -> u32
     requires { ⌜ length (now table) ≡ 16384 ⌝ }
-    ensures { λ r. ⌜ r ≡ min (max (spec.codeLength k) (spec.tableAt (now (table .entry)) (spec.codePoint k) (spec.codePoint q))) rest ⌝ }
+    ensures { λ r. ⌜ r ≡ min (max (code.codeLength k) (spec.tableAt (now (table .entry)) (code.codePoint k) (code.codePoint q))) rest ⌝ }
 {
     let b = table[(k % 128 * 128 + q % 128) as usize];
     least(most(k / 128, b), rest)
@@ -33,7 +34,7 @@ fn over(table: &[u32], k: u32, q: u32, rest: u32) -> u32
 
 // How much longer than the edge of the code k the bottleneck b is.
 fn spared(b: u32, k: u32) -> u32
-    ensures { λ r. ⌜ r ≡ b - spec.codeLength k ⌝ }
+    ensures { λ r. ⌜ r ≡ b - code.codeLength k ⌝ }
 {
     let d = k / 128;
     if d < b { b - d } else { 0 }

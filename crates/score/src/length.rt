@@ -1,17 +1,17 @@
 // The length of a tree with one point more, at any place, held or not.
 use super::gain::FAR;
 use super::gain::gain;
-use super::nearest::code_of;
-use super::nearest::nearest;
-use super::nearest::no_codes;
-use super::rows::all_gaps;
-use super::rows::all_ranks;
-use super::rows::blank;
+use regions::nearest::code_of;
+use regions::nearest::nearest;
+use regions::nearest::no_codes;
+use regions::rows::all_gaps;
+use regions::rows::all_ranks;
+use regions::rows::blank;
 ghost use mathlib.Core.Path.{_≡_};
 ghost use Prim.Native.Nat.{_≤_, _<_};
 ghost use lib.ListN as list;
 ghost use Rattle.tree.specs.Build.{lengthWith};
-ghost use Rattle.score.specs.Nearest.{AtRow, ColumnGiven};
+ghost use Rattle.regions.specs.Nearest.{AtRow, ColumnGiven};
 ghost use Rattle.score.specs.Length.{Measured, Around};
 
 // The codes of the nearest points of a place, by regions.

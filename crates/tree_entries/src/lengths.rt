@@ -1,7 +1,7 @@
 // The lengths of the tree with a point more, for many such points: the tree and the table of its bottlenecks are made once, and each
 // point is tried on them.
+use regions::rows::blank;
 use score::length::length_with;
-use score::rows::blank;
 use tree::build::build;
 use tree::list::total_of;
 ghost use mathlib.Core.Path.{_≡_};

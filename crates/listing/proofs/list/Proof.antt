@@ -5,8 +5,9 @@ use borrow.Author.Tests.{not-true, not-false}
 use borrow.Author.Needs.{needs}
 use Rattle.deck.proofs.Forms.{sound-is}
 use Rattle.deck.proofs.Checking.{of-true}
-use Rattle.listing.proofs.Answering.{front-none, front-put, text-sound, text-unsound}
-use Rattle.listing.proofs.Puts.{put-same}
+use Rattle.ascii.proofs.Fitting.{front-none, front-put}
+use Rattle.listing.proofs.Answering.{text-sound, text-unsound}
+use Rattle.ascii.proofs.Puts.{put-same}
 use Rattle.listing.proofs.list.Statement.{statement}
 use Rattle.listing.proofs.list.Tie as tie
 

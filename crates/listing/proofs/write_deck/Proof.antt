@@ -2,7 +2,7 @@
 use native.Mathlib.Omega.{arith}
 use borrow.Author.Needs.{needs}
 use Rattle.listing.proofs.Decks.{deck-put}
-use Rattle.listing.proofs.Puts.{put-then}
+use Rattle.ascii.proofs.Puts.{put-then}
 use Rattle.listing.proofs.write_deck.Statement.{statement}
 use Rattle.listing.proofs.write_deck.Tie as tie
 

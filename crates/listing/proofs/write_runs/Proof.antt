@@ -6,7 +6,7 @@ use borrow.Author.Needs.{needs}
 use Rattle.model.specs.Listing.{runLines}
 use Rattle.deck.proofs.Checking.{sound-few, sound-left, sound-pins, sound-steiner}
 use Rattle.listing.proofs.Decks.{held-few, held-coded, held-ended, held-edges}
-use Rattle.listing.proofs.Puts.{put-same}
+use Rattle.ascii.proofs.Puts.{put-same}
 use Rattle.listing.proofs.write_runs.Statement.{statement}
 use Rattle.listing.proofs.write_runs.Tie as tie
 

@@ -9,8 +9,8 @@ use Rattle.crossing.proofs.search.column.Tie as tie
 use Rattle.crossing.proofs.search.column.Reads as reads
 use Rattle.crossing.proofs.search.column.Lts as lts
 use Rattle.crossing.proofs.search.pick.Reads as pick-reads
-use Rattle.score.proofs.nearest.nearest.Reads as nearest-reads
-use Rattle.score.proofs.nearest.no_codes.Reads as no-codes-reads
+use Rattle.regions.proofs.nearest.nearest.Reads as nearest-reads
+use Rattle.regions.proofs.nearest.no_codes.Reads as no-codes-reads
 
 no-codes-requires : tie.Need-no-codes-requires
 no-codes-requires c κs = search needs

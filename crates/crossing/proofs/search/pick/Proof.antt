@@ -8,7 +8,7 @@ use Rattle.crossing.proofs.search.pick.Reads as reads
 use Rattle.crossing.proofs.search.pick.Lts as lts
 use Rattle.crossing.proofs.search.better.Reads as better-reads
 use Rattle.score.proofs.gain.gain.Reads as gain-reads
-use Rattle.score.proofs.nearest.code_of.Reads as code-of-reads
+use Rattle.regions.proofs.nearest.code_of.Reads as code-of-reads
 
 abbrev Inv-loop : tie.InvT-loop
 Inv-loop table x rows count east west north south best₀ row₀ best row = InColumn table x rows count east west north south best₀ best row

@@ -1,7 +1,7 @@
 -- `deckfile::writer::put_file` meets its contract: the parts of a sound deck are those of its file.
 use mathlib.Core.Path.{_≡_, ap, _∙_}
 use lib.ListN.{length}
-use Rattle.deckfile.specs.Bytes.{over}
+use Rattle.sections.specs.Bytes.{over}
 use Rattle.deckfile.proofs.Writing.{file-parts, deck-kept}
 use borrow.Author.Needs.{needs}
 use Rattle.deckfile.proofs.writer.put_file.Statement.{statement}

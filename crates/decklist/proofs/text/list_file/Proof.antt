@@ -4,7 +4,7 @@ use native.Mathlib.Omega.{arith}
 use borrow.Author.Needs.{needs}
 use Rattle.deck.specs.declared.calls.Outcome.{Outcome}
 use Rattle.deck.specs.Calls.{refusalNumber}
-use Rattle.listing.proofs.Answering.{front-none, front-counted}
+use Rattle.ascii.proofs.Fitting.{front-none, front-counted}
 use Rattle.decklist.proofs.Printing.{none-counted, roomy, printed-refusal, printed-deck}
 use Rattle.decklist.proofs.text.list_file.Statement.{statement}
 use Rattle.decklist.proofs.text.list_file.Tie as tie

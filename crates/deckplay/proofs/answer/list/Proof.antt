@@ -2,7 +2,7 @@
 use mathlib.Core.Path.{_≡_, refl, sym, ap, _∙_}
 use native.Mathlib.Omega.{arith}
 use lib.ListN.{length}
-use Rattle.listing.specs.Encoding.{joinedLines}
+use Rattle.ascii.specs.Encoding.{joinedLines}
 use Rattle.deckplay.specs.Play.{stays}
 use Rattle.deckplay.proofs.Playing.{plays, listed-within, listed-room, listed-text}
 use borrow.Author.Needs.{needs}

@@ -1,6 +1,6 @@
 -- `listing::rows::coordinate_field` meets its contract: a coordinate has at most five digits.
 use borrow.Author.Needs.{needs}
-use Rattle.listing.proofs.Signs.{coordinate-put}
+use Rattle.ascii.proofs.Signs.{coordinate-put}
 use Rattle.listing.proofs.rows.coordinate_field.Statement.{statement}
 use Rattle.listing.proofs.rows.coordinate_field.Tie as tie
 

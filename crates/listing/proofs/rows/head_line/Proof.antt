@@ -1,7 +1,7 @@
 -- `listing::rows::head_line` meets its contract.
 use native.Mathlib.Omega.{arith}
 use borrow.Author.Needs.{needs}
-use Rattle.listing.proofs.Puts.{put-then}
+use Rattle.ascii.proofs.Puts.{put-then}
 use Rattle.listing.proofs.rows.head_line.Statement.{statement}
 use Rattle.listing.proofs.rows.head_line.Tie as tie
 

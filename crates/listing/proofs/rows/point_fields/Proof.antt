@@ -1,7 +1,7 @@
 -- `listing::rows::point_fields` meets its contract.
 use native.Mathlib.Omega.{arith}
 use borrow.Author.Needs.{needs}
-use Rattle.listing.proofs.Puts.{put-then}
+use Rattle.ascii.proofs.Puts.{put-then}
 use Rattle.listing.proofs.rows.point_fields.Statement.{statement}
 use Rattle.listing.proofs.rows.point_fields.Tie as tie
 

@@ -4,7 +4,7 @@ use Prim.Native.Nat.{ℕ}
 use native.Mathlib.Omega.{arith}
 use borrow.Author.Needs.{needs}
 use Rattle.model.specs.Listing.{field, decimal}
-use Rattle.listing.proofs.Puts.{put-then, put-same}
+use Rattle.ascii.proofs.Puts.{put-then, put-same}
 use Rattle.listing.proofs.rows.run_line.Statement.{statement}
 use Rattle.listing.proofs.rows.run_line.Tie as tie
 

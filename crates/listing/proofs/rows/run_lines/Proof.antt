@@ -2,7 +2,8 @@
 use Prim.Native.Nat.{_-_}
 use native.Mathlib.Omega.{arith}
 use borrow.Author.Needs.{needs}
-use Rattle.listing.proofs.Lining.{Lined, runText, lined-none, lined-more, lined-end, run-none, run-more}
+use Rattle.ascii.proofs.Lines.{Lined, lined-none, lined-more, lined-end}
+use Rattle.listing.proofs.Lining.{runText, run-none, run-more}
 use Rattle.listing.proofs.rows.run_lines.Statement.{statement}
 use Rattle.listing.proofs.rows.run_lines.Tie as tie
 

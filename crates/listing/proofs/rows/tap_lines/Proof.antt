@@ -2,7 +2,8 @@
 use Prim.Native.Nat.{_-_}
 use native.Mathlib.Omega.{arith}
 use borrow.Author.Needs.{needs}
-use Rattle.listing.proofs.Lining.{Lined, tapText, lined-none, lined-more, lined-end, tap-none, tap-more}
+use Rattle.ascii.proofs.Lines.{Lined, lined-none, lined-more, lined-end}
+use Rattle.listing.proofs.Lining.{tapText, tap-none, tap-more}
 use Rattle.listing.proofs.rows.tap_lines.Statement.{statement}
 use Rattle.listing.proofs.rows.tap_lines.Tie as tie
 

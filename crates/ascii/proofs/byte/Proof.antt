@@ -1,0 +1,21 @@
+-- `ascii::byte` meets its contract.
+use native.Mathlib.Omega.{arith}
+use borrow.Author.Needs.{needs}
+use Rattle.ascii.proofs.Puts.{put-byte}
+use Rattle.ascii.proofs.byte.Statement.{statement}
+use Rattle.ascii.proofs.byte.Tie as tie
+
+slice-write-out : tie.Need-slice-write-out
+slice-write-out c = search needs
+
+add-result : tie.Need-add-result
+add-result c = search needs
+
+same-length : tie.Need-same-length
+same-length c = search needs
+
+returns : tie.Need-returns
+returns c = put-byte _ _ _ (omega arith)
+
+pub byte-spec : {M : Type 1} → statement M
+byte-spec = tie.close (tie.spec slice-write-out add-result same-length returns)

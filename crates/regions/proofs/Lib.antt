@@ -1,0 +1,4 @@
+pub mod Distances
+pub mod Filling
+pub mod Laps
+pub mod Regions

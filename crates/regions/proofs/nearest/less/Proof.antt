@@ -1,0 +1,20 @@
+-- `regions::nearest::less` meets its contract: numbers below 2^31 are the same read as signed.
+use native.Mathlib.Omega.{arith}
+use borrow.Author.Tests.{lt-ltb}
+use borrow.Author.Needs.{needs}
+use Rattle.regions.proofs.nearest.less.Statement.{statement}
+use Rattle.regions.proofs.nearest.less.Tie as tie
+use Rattle.regions.proofs.nearest.less.Reads as reads
+use Rattle.regions.proofs.nearest.less.Lts as lts
+
+cast-result : tie.Need-cast-result
+cast-result c = search needs
+
+cast-result-2 : tie.Need-cast-result-2
+cast-result-2 c = search needs
+
+returns : tie.Need-returns
+returns c = rw (lt-ltb (c .args .a) 2147483648 (omega (arith, c .pre .0)), lt-ltb (c .args .b) 2147483648 (omega (arith, c .pre .1)))
+
+pub less-spec : {M : Type 1} → statement M
+less-spec = tie.close (tie.spec cast-result cast-result-2 returns)

@@ -1,0 +1,46 @@
+-- `replies::counts_line` meets its contract.
+use native.Mathlib.Omega.{arith}
+use borrow.Author.Needs.{needs}
+use Rattle.ascii.proofs.Puts.{put-then}
+use Rattle.replies.proofs.counts_line.Statement.{statement}
+use Rattle.replies.proofs.counts_line.Tie as tie
+
+slice-aggregate-word : tie.Need-slice-aggregate-word
+slice-aggregate-word c = search needs
+
+word-requires : tie.Need-word-requires
+word-requires c κs = search needs
+
+decimal-field-requires : tie.Need-decimal-field-requires
+decimal-field-requires c κs = search needs
+
+decimal-field-requires-2 : tie.Need-decimal-field-requires-2
+decimal-field-requires-2 c κs = search needs
+
+decimal-field-requires-3 : tie.Need-decimal-field-requires-3
+decimal-field-requires-3 c κs = search needs
+
+same-length : tie.Need-same-length
+same-length c = search needs
+
+returns : tie.Need-returns
+returns c =
+    let at-decimal-field3 = c .before .before in
+    let at-decimal-field2 = at-decimal-field3 .before .before .before .before in
+    let at-decimal-field = at-decimal-field2 .before .before .before .before in
+    let at-word = at-decimal-field .before .before .before .before in
+    put-then (at-word .word .ensures) (omega arith)
+    (put-then (at-decimal-field .decimal-field .ensures .0) (omega arith)
+    (put-then (at-decimal-field2 .decimal-field2 .ensures .0) (omega arith) (at-decimal-field3 .decimal-field3 .ensures .0)))
+
+pub counts-line-spec : {M : Type 1} → statement M
+counts-line-spec =
+    tie.close
+    (tie.spec
+    slice-aggregate-word
+    word-requires
+    decimal-field-requires
+    decimal-field-requires-2
+    decimal-field-requires-3
+    same-length
+    returns)

@@ -1,0 +1,67 @@
+-- `sections::header::is_laid_out` meets its contract: one test after the other.
+use Rattle.sections.proofs.Heading.{layout-first, layout-second, layout-third, layout-end}
+use borrow.Author.Needs.{needs}
+use native.Mathlib.Omega.{arith}
+use Rattle.sections.proofs.header.is_laid_out.Statement.{statement}
+use Rattle.sections.proofs.header.is_laid_out.Tie as tie
+
+number4-requires : tie.Need-number4-requires
+number4-requires c κs = search needs
+
+number4-requires-2 : tie.Need-number4-requires-2
+number4-requires-2 c κs = search needs
+
+number4-requires-3 : tie.Need-number4-requires-3
+number4-requires-3 c κs = search needs
+
+returns : tie.Need-returns
+returns c =
+    layout-first (c .before .before .before .before .before .args .b .now) _ _ _ 0 (c .before .number43 .ensures .0) (c .before .before .before .number4 .ensures .0) (c .before .before .number42 .ensures .0) (c .if1 .taken)
+
+number4-requires-4 : tie.Need-number4-requires-4
+number4-requires-4 c κs = search needs
+
+add-if2 : tie.Need-add-if2
+add-if2 c = search needs
+
+returns-2 : tie.Need-returns-2
+returns-2 c =
+    layout-second (c .before .before .before .before .before .before .before .args .b .now) _ _ _ _ (c .before .before .before .number43 .ensures .0) (c .before .before .before .before .before .number4 .ensures .0) (c .before .before .before .before .number42 .ensures .0) (omega arith) (c .before .number44 .ensures .0) (c .if2 .taken)
+
+number4-requires-5 : tie.Need-number4-requires-5
+number4-requires-5 c κs = search needs
+
+add-if3 : tie.Need-add-if3
+add-if3 c = search needs
+
+returns-3 : tie.Need-returns-3
+returns-3 c =
+    layout-third (c .before .before .before .before .before .before .before .before .before .args .b .now) _ _ _ _ (c .before .before .before .before .before .number43 .ensures .0) (c .before .before .before .before .before .before .before .number4 .ensures .0) (c .before .before .before .before .before .before .number42 .ensures .0) (omega arith) (c .before .before .before .number44 .ensures .0) (omega arith) _ (c .before .number45 .ensures .0) (c .if3 .taken)
+
+number4-requires-6 : tie.Need-number4-requires-6
+number4-requires-6 c κs = search needs
+
+add-result : tie.Need-add-result
+add-result c = search needs
+
+returns-4 : tie.Need-returns-4
+returns-4 c =
+    layout-end (c .before .before .before .before .before .before .before .before .before .before .args .b .now) _ _ _ _ (c .before .before .before .before .before .before .number43 .ensures .0) (c .before .before .before .before .before .before .before .before .number4 .ensures .0) (c .before .before .before .before .before .before .before .number42 .ensures .0) (omega arith) (c .before .before .before .before .number44 .ensures .0) (omega arith) _ (c .before .before .number45 .ensures .0) (omega arith) _ (c .number46 .ensures .0)
+
+pub is-laid-out-spec : {M : Type 1} → statement M
+is-laid-out-spec =
+    tie.close
+    (tie.spec
+    number4-requires
+    number4-requires-2
+    number4-requires-3
+    returns
+    number4-requires-4
+    add-if2
+    returns-2
+    number4-requires-5
+    add-if3
+    returns-3
+    number4-requires-6
+    add-result
+    returns-4)
