@@ -1,17 +1,18 @@
 -- What each call answers, case by case: the tests of the program are those of the model.
 use mathlib.Core.Path.{_≡_, refl, sym, ap, ap₂, _∙_, subst, subst⁻¹}
-use mathlib.Core.Bool.{Bool, true, false}
-use mathlib.Core.Option.{Option, none, some}
-use mathlib.Core.List.{List, map, List·Memᴰ}
+use mathlib.Core.Bool.{Bool, true, false, not}
+use mathlib.Core.Option.{Option}
+use mathlib.Core.List.{List, [], _∷_, map, List·Memᴰ}
 use Prim.Native.Nat.{ℕ, _≤_, _<_}
 use native.Mathlib.Omega.{arith}
-use lib.Dec.{T, ltb, leb}
+use lib.Dec.{T, ltb}
 use lib.ListN.{length, take}
-use borrow.Author.Tests.{le-leb, lt-leb}
+use borrow.Author.Tests.{le-ltb, lt-ltb}
 use Rattle.plane.specs.Test.{if}
 use Rattle.plane.specs.Point.{Point, inRange, lower}
 use Rattle.plane.proofs.Order.{lower-order}
 use Rattle.model.specs.Set.{has}
+use Rattle.model.specs.Refusal.{check, firstFailed}
 use Rattle.model.specs.State.{State, Valid, maxPins, insert, remove}
 use Rattle.model.specs.Call as call
 use Rattle.model.proofs.Set.{has-in}
@@ -66,9 +67,9 @@ called-sound d c e = ap (λ (b : Bool). if b (λ _. answer (call.step (stateOf d
 -- Adding.
 module _ (p : Point) (s : State) where
   choice : Bool → Bool → Bool → Option ℕ
-  choice a b c = if a (λ _. if b (λ _. some 8) (λ _. if c (λ _. some 10) (λ _. none))) (λ _. some 7)
+  choice a b c = firstFailed (check 7 (λ _. a) ∷ check 8 (λ _. not b) ∷ check 10 (λ _. c) ∷ [])
 
-  refusal-is : {a b c : Bool} → inRange p ≡ a → call.holdsPin p s ≡ b → leb maxPins (length (s .pins)) ≡ c → call.insertRefusal p s ≡ choice a b c
+  refusal-is : {a b c : Bool} → inRange p ≡ a → call.holdsPin p s ≡ b → ltb (length (s .pins)) maxPins ≡ c → call.insertRefusal p s ≡ choice a b c
   unfolding call.insertRefusal choice
   refusal-is e f g = λ i. choice (e i) (f i) (g i)
 
@@ -76,31 +77,31 @@ module _ (p : Point) (s : State) where
   adding o = call.unless o s (λ _. insert p s)
 
   pub add-out : inRange p ≡ false → call.step s (call.add p) ≡ record { next = s; reply = call.refused 7 }
-  unfolding call.step adding choice
+  unfolding call.step adding choice firstFailed
   add-out e = ap adding (refusal-is e refl refl)
 
   pub add-there : inRange p ≡ true → call.holdsPin p s ≡ true → call.step s (call.add p) ≡ record { next = s; reply = call.refused 8 }
-  unfolding call.step adding choice
+  unfolding call.step adding choice firstFailed
   add-there e f = ap adding (refusal-is e f refl)
 
   pub add-full : inRange p ≡ true → call.holdsPin p s ≡ false → 64 ≤ length (s .pins) → call.step s (call.add p) ≡ record { next = s; reply = call.refused 10 }
-  unfolding call.step adding choice
-  add-full e f g = ap adding (refusal-is e f (le-leb 64 (length (s .pins)) g))
+  unfolding call.step adding choice firstFailed
+  add-full e f g = ap adding (refusal-is e f (le-ltb (length (s .pins)) 64 g))
 
   pub add-done : inRange p ≡ true → call.holdsPin p s ≡ false → length (s .pins) < 64 → call.step s (call.add p) ≡ record { next = insert p s; reply = call.done }
-  unfolding call.step adding choice
-  add-done e f g = ap adding (refusal-is e f (lt-leb 64 (length (s .pins)) g))
+  unfolding call.step adding choice firstFailed
+  add-done e f g = ap adding (refusal-is e f (lt-ltb (length (s .pins)) 64 g))
 
   -- Withdrawing.
   withdrawing : Bool → call.Outcome
-  withdrawing b = call.unless (if b (λ _. none) (λ _. some 9)) s (λ _. remove p s)
+  withdrawing b = call.unless (firstFailed (check 9 (λ _. b) ∷ [])) s (λ _. remove p s)
 
   pub withdraw-none : call.holdsPin p s ≡ false → call.step s (call.withdraw p) ≡ record { next = s; reply = call.refused 9 }
-  unfolding call.step call.removeRefusal withdrawing
+  unfolding call.step call.removeRefusal withdrawing firstFailed
   withdraw-none e = ap withdrawing e
 
   pub withdraw-done : call.holdsPin p s ≡ true → call.step s (call.withdraw p) ≡ record { next = remove p s; reply = call.done }
-  unfolding call.step call.removeRefusal withdrawing
+  unfolding call.step call.removeRefusal withdrawing firstFailed
   withdraw-done e = ap withdrawing e
 
   -- No pin stands out of range.

@@ -1,7 +1,7 @@
 -- Reading, one check after the other: what the checks passed say of the file, and what is answered where one fails.
 use mathlib.Core.Path.{_≡_, refl, sym, _∙_, subst⁻¹}
 use mathlib.Core.Bool.{Bool, true, false, not}
-use mathlib.Core.List.{List}
+use mathlib.Core.List.{List, [], _∷_}
 use Prim.Native.Nat.{ℕ, _+_, _/_, _%_, _≤_, _<_}
 use native.Mathlib.Omega.{arith}
 use lib.Dec.{T, leb, leb→le, eqb, eqb→eq}
@@ -9,8 +9,9 @@ use lib.ListN.{length}
 use borrow.Author.Tests.{le-leb, lt-leb, not-true, not-false}
 use Rattle.plane.specs.Test.{if}
 use Rattle.plane.proofs.Test.{and-parts}
+use Rattle.model.specs.Refusal.{check, firstFailed}
 use Rattle.model.specs.State.{maxPins, placed}
-use Rattle.model.specs.File.{deck, refusal, readFile, offset, size, headed, laidOut, whole, shown, showsDeck}
+use Rattle.model.specs.File.{readBy, readFile, offset, size, headed, laidOut, whole, shown, showsDeck}
 use Rattle.deck.specs.declared.calls.Outcome.{Outcome}
 use Rattle.deck.specs.Form.{deckOf}
 use Rattle.sections.specs.Layout.{Sections}
@@ -58,17 +59,15 @@ module _ (b : List ℕ) where
   answer : Bool → Bool → Bool → Bool → Bool → Bool → Outcome
   answer head layout wholes few points shows =
       outcomeOf
-      (if head
-      (λ _. if layout
-      (λ _. if wholes
-      (λ _. if few
-      (λ _. if points
-      (λ _. if shows (λ _. deck (shown b)) (λ _. refusal 6))
-      (λ _. refusal 5))
-      (λ _. refusal 4))
-      (λ _. refusal 3))
-      (λ _. refusal 2))
-      (λ _. refusal 1))
+      (readBy (shown b)
+      (firstFailed
+      (check 1 (λ _. head)
+      ∷ check 2 (λ _. layout)
+      ∷ check 3 (λ _. wholes)
+      ∷ check 4 (λ _. few)
+      ∷ check 5 (λ _. points)
+      ∷ check 6 (λ _. shows)
+      ∷ [])))
 
   by-checks : {x₁ x₂ x₃ x₄ x₅ : Bool} → headed b ≡ x₁ → laidOut b ≡ x₂ → whole b ≡ x₃ → leb (length (shown b .pins)) maxPins ≡ x₄ → placed (shown b) ≡ x₅
       → answer x₁ x₂ x₃ x₄ x₅ (showsDeck b (shown b)) ≡ reading b
@@ -76,15 +75,15 @@ module _ (b : List ℕ) where
   by-checks e₁ e₂ e₃ e₄ e₅ = sym (λ i. answer (e₁ i) (e₂ i) (e₃ i) (e₄ i) (e₅ i) (showsDeck b (shown b)))
 
   pub refused-1 : headed b ≡ false → refusing 1 ≡ reading b
-  unfolding answer outcomeOf
+  unfolding answer outcomeOf readBy firstFailed
   refused-1 e = by-checks e refl refl refl refl
 
   pub refused-2 : headed b ≡ true → laidOut b ≡ false → refusing 2 ≡ reading b
-  unfolding answer outcomeOf
+  unfolding answer outcomeOf readBy firstFailed
   refused-2 h e = by-checks h e refl refl refl
 
   pub refused-3 : headed b ≡ true → laidOut b ≡ true → whole b ≡ false → refusing 3 ≡ reading b
-  unfolding answer outcomeOf
+  unfolding answer outcomeOf readBy firstFailed
   refused-3 h l e = by-checks h l e refl refl
 
   module _ (h : headed b ≡ true) (l : laidOut b ≡ true) (w : whole b ≡ true) where
@@ -92,7 +91,7 @@ module _ (b : List ℕ) where
     counted = pins-count b (sections-of h l w)
 
     pub refused-4 : (u : ℕ) → u ≡ size b 0 → 64 < u / 4 → refusing 4 ≡ reading b
-    unfolding answer outcomeOf
+    unfolding answer outcomeOf readBy firstFailed
     refused-4 u e k = by-checks h l w (lt-leb (length (shown b .pins)) 64 (omega (arith, counted))) refl
 
     module _ (u : ℕ) (e : u ≡ size b 0) (k : u / 4 ≤ 64) where
@@ -103,11 +102,11 @@ module _ (b : List ℕ) where
       few-pins = omega (arith, sections-of h l w .whole₀)
 
       pub refused-5 : placed (shown b) ≡ false → refusing 5 ≡ reading b
-      unfolding answer outcomeOf
+      unfolding answer outcomeOf readBy firstFailed
       refused-5 f = by-checks h l w few f
 
       pub all-passed : placed (shown b) ≡ true → showing b ≡ reading b
-      unfolding answer outcomeOf showing
+      unfolding answer outcomeOf readBy firstFailed showing
       all-passed f = last (showsDeck b (shown b)) ∙ by-checks h l w few f
         where
           last : (t : Bool) → if t (λ _. accepting (deckOf (shown b))) (λ _. refusing 6) ≡ answer true true true true true t

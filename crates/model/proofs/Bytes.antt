@@ -9,13 +9,14 @@ use native.Mathlib.Nat.{add-zero, add-suc, add-assoc, div-div-eq-div-mul}
 use native.Mathlib.Omega.{arith}
 use lib.Dec.{T}
 use lib.IntN.{ℤ, pos, negsuc, natAbs, _+ℤ_}
-use lib.Signed.{leZ}
 use lib.ListN.{length, drop, getD}
 use lib.Seq.{getD-append-add, drop-cons}
-use Rattle.plane.specs.Point.{Point, limit, coordinateInRange, inRange}
+use Rattle.plane.specs.Point.{Point, coordinateInRange, inRange}
 use Rattle.plane.specs.Coordinate.{signed16, word16}
 use Rattle.plane.proofs.Test.{and-parts}
-use Rattle.plane.proofs.Whole.{plus, minus, one-sided, abs-value, sub-value, add-value, whole-ext, atmost-value}
+use Rattle.plane.proofs.Range.{range-values}
+use Rattle.plane.proofs.Stored.{moved, signed-value}
+use Rattle.plane.proofs.Whole.{plus, minus, one-sided, whole-ext}
 use Rattle.model.specs.File.{bytes2, bytes4, number2, number4, pointBytes, sectionOf, pointsOf}
 
 -- Every number of a list is a byte.
@@ -86,29 +87,12 @@ bytes4-of a b c d ha hb hc hd = go (omega arith) (omega arith) (omega arith) (om
     go : n % 256 ≡ a → n / 256 % 256 ≡ b → n / 65536 % 256 ≡ c → n / 16777216 % 256 ≡ d → bytes4 n ≡ a ∷ b ∷ c ∷ d ∷ []
     go p q r s = cc
 
--- The coordinate of a whole number in range.
-range-value : (z : ℤ) → T (coordinateInRange z) → (minus z ≤ 30000) × (plus z ≤ 30000)
-range-value z t =
-    let p = and-parts (leZ (negsuc 29999) z) (leZ z (pos limit)) t in
-    ⊎-elim (λ e. (omega (arith, atmost-value (negsuc 29999) z (p .0)), omega arith))
-    (λ e. (omega arith, omega (arith, atmost-value z (pos limit) (p .1)))) (one-sided z)
-
--- The word of a whole number from −65,536 on.
-word-sum : (z : ℤ) → minus z ≤ 65536 → natAbs (z +ℤ pos 65536) + minus z ≡ plus z + 65536
-word-sum z h =
-    let w = z +ℤ pos 65536 in
-    ⊎-elim (λ e. omega (arith, add-value z (pos 65536), abs-value w)) (λ e. omega (arith, add-value z (pos 65536), abs-value w)) (one-sided w)
-
 -- A word is z, or z + 65,536 for a negative z.
 word-value : (z : ℤ) → T (coordinateInRange z) → ((minus z ≡ 0) × (word16 z ≡ plus z)) ⊎ ((plus z ≡ 0) × (1 ≤ minus z) × (word16 z + minus z ≡ 65536))
 unfolding word16
-word-value (pos n) t = let r = range-value (pos n) t in inl (refl, omega (arith, word-sum (pos n) (omega arith)))
+word-value (pos n) t = let r = range-values (pos n) t in inl (refl, omega (arith, moved (pos n) 65536 (omega arith)))
 word-value (negsuc n) t =
-    let r = range-value (negsuc n) t in inr (refl, omega arith, omega (arith, word-sum (negsuc n) (omega arith)))
-
-signed-value : (a b : ℕ) → plus (signed16 a b) + 65536 * (b / 128) ≡ a + 256 * b + minus (signed16 a b)
-unfolding signed16
-signed-value a b = sub-value (a + 256 * b) (65536 * (b / 128))
+    let r = range-values (negsuc n) t in inr (refl, omega arith, omega (arith, moved (negsuc n) 65536 (omega arith)))
 
 -- The halves of a word, and its sign.
 word-parts : (w : ℕ) → w < 65536 → (w % 256 + 256 * (w / 256 % 256) ≡ w) × (w / 256 % 256 / 128 ≡ w / 32768)
@@ -116,19 +100,22 @@ word-parts w h =
     let e : w / 256 % 256 ≡ w / 256 = omega arith in (omega arith, ap (λ x. x / 128) e ∙ div-div-eq-div-mul w 256 128)
 
 pub signed-word : (z : ℤ) → T (coordinateInRange z) → signed16 (word16 z % 256) (word16 z / 256 % 256) ≡ z
-signed-word z t = whole-ext (signed16 (word16 z % 256) (word16 z / 256 % 256)) z (go (word16 z) (range-value z t) (word-value z t))
+signed-word z t = whole-ext (signed16 (word16 z % 256) (word16 z / 256 % 256)) z (go (word16 z) (range-values z t) (word-value z t))
   where
-    go : (w : ℕ) → (minus z ≤ 30000) × (plus z ≤ 30000) → ((minus z ≡ 0) × (w ≡ plus z)) ⊎ ((plus z ≡ 0) × (1 ≤ minus z) × (w + minus z ≡ 65536))
+    go : (w : ℕ) → (plus z ≤ 30000) × (minus z ≤ 30000) → ((minus z ≡ 0) × (w ≡ plus z)) ⊎ ((plus z ≡ 0) × (1 ≤ minus z) × (w + minus z ≡ 65536))
         → plus (signed16 (w % 256) (w / 256 % 256)) + minus z ≡ plus z + minus (signed16 (w % 256) (w / 256 % 256))
     go w r (inl p) = omega (arith, signed-value (w % 256) (w / 256 % 256), word-parts w (omega arith))
     go w r (inr p) = omega (arith, signed-value (w % 256) (w / 256 % 256), word-parts w (omega arith))
 
 pub word-signed : (a b : ℕ) → a < 256 → b < 256 → word16 (signed16 a b) ≡ a + 256 * b
 unfolding word16
-word-signed a b h k = ⊎-elim (λ e. omega (arith, v, word-sum (signed16 a b) (omega (arith, v)))) (λ e. omega (arith, v, word-sum (signed16 a b) (omega (arith, v)))) (one-sided (signed16 a b))
+word-signed a b h k = ⊎-elim (λ e. omega (arith, v, m)) (λ e. omega (arith, v, m)) (one-sided (signed16 a b))
   where
     v : plus (signed16 a b) + 65536 * (b / 128) ≡ a + 256 * b + minus (signed16 a b)
     v = signed-value a b
+
+    m : natAbs (signed16 a b +ℤ pos 65536) + minus (signed16 a b) ≡ plus (signed16 a b) + 65536
+    m = moved (signed16 a b) 65536 (⊎-elim (λ e. omega (arith, v)) (λ e. omega (arith, v)) (one-sided (signed16 a b)))
 
 -- Sections of points.
 pub points-section : (l : List Point) → ((p : Point) → List·Memᴰ p l → T (inRange p)) → pointsOf (sectionOf l) ≡ l

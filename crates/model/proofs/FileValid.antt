@@ -8,16 +8,12 @@ use Prim.Native.Nat.{ℕ, zero, suc, _≤_}
 use native.Mathlib.Omega.{arith}
 use lib.Dec.{T, leb, leb→le, le→leb, eqb, eqb→eq}
 use lib.ListN.{length, take, drop}
-use Rattle.plane.specs.Test.{if}
 use Rattle.plane.proofs.Test.{and-parts, and-both}
+use Rattle.model.specs.Refusal.{Pass}
 use Rattle.model.specs.State.{State, maxPins, Placed, Valid, placed, valid}
-use Rattle.model.specs.File.{Read, deck, refusal, readFile, shown, headed, laidOut, whole, plain, showsDeck, section, offset, size, pointsOf, sameBytes, runSection}
+use Rattle.model.specs.File.{deck, fileChecks, readFile, shown, headed, laidOut, whole, plain, showsDeck, section, offset, size, pointsOf, sameBytes, runSection}
+use Rattle.model.proofs.Refusal.{file-taken}
 use Rattle.model.proofs.Validity.{placed-is, valid-is}
-
--- A choice between an answer and a refusal that gives a deck passed its test.
-passed : (b : Bool) (x : Unit {0} → Read) (n : ℕ) (s : State) → if b x (λ _. refusal n) ≡ deck s → T b × (x tt ≡ deck s)
-passed true x n s e = (tt, e)
-passed false x n s e = let z : _≡_ {A = ℕ} 0 1 = cc in absurd (omega arith)
 
 either : (a b : Bool) → T (a || b) → T a ⊎ T b
 either true b t = inl tt
@@ -39,47 +35,48 @@ pub record Accepted (b : List ℕ) (s : State) : Type 0 where
   pub same : shown b ≡ s
 
 pub accepted : (b : List ℕ) (s : State) → readFile b ≡ deck s → Accepted b s
-unfolding readFile
 accepted b s e =
-    let p₁ = passed (headed b) _ 1 s e in
-    let p₂ = passed (laidOut b) _ 2 s (p₁ .1) in
-    let p₃ = passed (whole b) _ 3 s (p₂ .1) in
-    let p₄ = passed (leb (length (shown b .pins)) maxPins) _ 4 s (p₃ .1) in
-    let p₅ = passed (placed (shown b)) _ 5 s (p₄ .1) in
-    let p₆ = passed (showsDeck b (shown b)) _ 6 s (p₅ .1) in
-    subst (Accepted b) (same (shown b) (p₆ .1))
+    let t = file-taken b s .0 e in
+    let p = t .0 in
+    subst (Accepted b) (t .1)
     (record {
-      header = p₁ .0;
-      layout = p₂ .0;
-      wholes = p₃ .0;
-      few = leb→le (length (shown b .pins)) maxPins (p₄ .0);
-      points = placed-is (shown b) .0 (p₅ .0);
+      header = p .0;
+      layout = p .1 .0;
+      wholes = p .1 .1 .0;
+      few = leb→le (length (shown b .pins)) maxPins (p .1 .1 .1 .0);
+      points = placed-is (shown b) .0 (p .1 .1 .1 .1 .0);
       shows = ⊎-elim inl
           (λ t. let v = and-parts (valid (shown b)) (sameBytes (section b 2) (runSection (shown b))) t in inr (valid-is (shown b) .0 (v .0), v .1))
-          (either (plain b) (valid (shown b) && sameBytes (section b 2) (runSection (shown b))) (p₆ .0));
+          (either (plain b) (valid (shown b) && sameBytes (section b 2) (runSection (shown b))) (p .1 .1 .1 .1 .1 .0));
       same = refl;
     })
-  where
-    same : (r : State) → deck r ≡ deck s → r ≡ s
-    same r q = cc
-
--- A choice by a test that passes.
-chosen : {A : Type 0} (b : Bool) (x y : Unit {0} → A) → T b → if b x y ≡ x tt
-chosen true x y t = refl
-chosen false x y t = absurd t
 
 pub accept : (b : List ℕ) (s : State) → Accepted b s → readFile b ≡ deck s
-unfolding readFile
-accept b s a = by (subst⁻¹ (Accepted b) (a .same) a) ∙ ap deck (a .same)
+accept b s a = file-taken b s .1 (by (subst⁻¹ (Accepted b) (a .same) a), a .same)
   where
-    by : Accepted b (shown b) → readFile b ≡ deck (shown b)
-    by r =
-        chosen (headed b) _ _ (r .header) ∙ chosen (laidOut b) _ _ (r .layout) ∙ chosen (whole b) _ _ (r .wholes)
-        ∙ chosen (leb (length (shown b .pins)) maxPins) _ _ (le→leb (length (shown b .pins)) maxPins (r .few))
-        ∙ chosen (placed (shown b)) _ _ (placed-is (shown b) .1 (r .points))
-        ∙ chosen (showsDeck b (shown b)) _ _
-        (either-of (plain b) (valid (shown b) && sameBytes (section b 2) (runSection (shown b)))
-        (⊎-elim inl (λ v. inr (and-both (valid (shown b)) (sameBytes (section b 2) (runSection (shown b))) (valid-is (shown b) .1 (v .0)) (v .1))) (r .shows)))
+    by : Accepted b (shown b) → Pass (fileChecks b)
+    by r = (
+      r .header,
+      (
+        r .layout,
+        (
+          r .wholes,
+          (
+            le→leb (length (shown b .pins)) maxPins (r .few),
+            (
+              placed-is (shown b) .1 (r .points),
+              (
+                either-of (plain b) (valid (shown b) && sameBytes (section b 2) (runSection (shown b)))
+                    (⊎-elim inl
+                    (λ v. inr (and-both (valid (shown b)) (sameBytes (section b 2) (runSection (shown b))) (valid-is (shown b) .1 (v .0)) (v .1)))
+                    (r .shows)),
+                tt,
+              ),
+            ),
+          ),
+        ),
+      ),
+    )
 
 -- A section of no bytes holds no point.
 none-of : (n : ℕ) (l : List ℕ) → T (eqb n 0) → pointsOf (take n l) ≡ []

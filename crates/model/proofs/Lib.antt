@@ -11,6 +11,7 @@ pub mod FileValid
 pub mod Grid
 pub mod Joining
 pub mod Prune
+pub mod Refusal
 pub mod Removal
 pub mod Replace
 pub mod Round

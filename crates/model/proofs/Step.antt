@@ -6,40 +6,31 @@ use mathlib.Core.Option.{Option, none, some}
 use mathlib.Core.List.{List, [], _∷_, List·Memᴰ}
 use Prim.Native.Nat.{ℕ, zero, suc, _+_, _≤_, _<_}
 use native.Mathlib.Omega.{arith}
-use lib.Dec.{T, leb, nleb→lt}
+use lib.Dec.{T, ltb→lt}
 use lib.ListN.{length}
 use Rattle.spanning.specs.Order.{Sorted}
 use Rattle.plane.specs.Point.{Point, inRange, lower, Lower}
 use Rattle.plane.proofs.Order.{lower-order}
-use Rattle.plane.proofs.Test.{by-test}
 use Rattle.model.specs.Set.{put, out, has}
 use Rattle.model.specs.State.{State, empty, Placed, Valid, prune, insert, remove, maxPins}
 use Rattle.model.specs.Round.{round, finish}
-use Rattle.model.specs.Call.{holdsPin, insertRefusal, removeRefusal, Call, add, withdraw, oneRound, runToEnd, unless, step, after}
+use Rattle.model.specs.Call.{addChecks, withdrawChecks, insertRefusal, removeRefusal, Call, add, withdraw, oneRound, runToEnd, unless, step, after}
 use Rattle.model.proofs.Set.{put-in, put-sorted, put-length, out-in, out-sorted, out-length, has-in, has-not}
 use Rattle.model.proofs.Prune.{prune-valid}
+use Rattle.model.proofs.Refusal.{all-passed}
 use Rattle.model.proofs.Round.{round-valid, finish-rounds, rounds-valid}
 
 -- Adding is not refused: the point is in range, no pin stands there, and there is room.
 pub insert-allowed : (p : Point) (s : State) → insertRefusal p s ≡ none
     → T (inRange p) × (List·Memᴰ p (s .pins) → ⊥) × (length (s .pins) < maxPins)
 unfolding insertRefusal
-insert-allowed p s =
-    by-test (λ (o : Option ℕ). o ≡ none → T (inRange p) × (List·Memᴰ p (s .pins) → ⊥) × (length (s .pins) < maxPins)) (inRange p) _ _
-    (λ r. by-test (λ (o : Option ℕ). o ≡ none → T (inRange p) × (List·Memᴰ p (s .pins) → ⊥) × (length (s .pins) < maxPins)) (holdsPin p s) _ _
-    (λ h e. never e)
-    (λ n. by-test (λ (o : Option ℕ). o ≡ none → T (inRange p) × (List·Memᴰ p (s .pins) → ⊥) × (length (s .pins) < maxPins)) (leb maxPins (length (s .pins))) _ _
-    (λ h e. never e) (λ m e. (r, has-not lower lower-order p (s .pins) .0 n, nleb→lt maxPins (length (s .pins)) m))))
-    (λ r e. never e)
-  where
-    never : {A : Type 0} {n : ℕ} → _≡_ {A = Option ℕ} (some n) none → A
-    never e = absurd (let z : _≡_ {A = ℕ} 0 1 = cc in omega arith)
+insert-allowed p s e =
+    let a = all-passed (addChecks p s) .0 e in
+    (a .0, has-not lower lower-order p (s .pins) .0 (a .1 .0), ltb→lt (length (s .pins)) maxPins (a .1 .1 .0))
 
 pub remove-allowed : (p : Point) (s : State) → removeRefusal p s ≡ none → List·Memᴰ p (s .pins)
 unfolding removeRefusal
-remove-allowed p s =
-    by-test (λ (o : Option ℕ). o ≡ none → List·Memᴰ p (s .pins)) (holdsPin p s) _ _ (λ h e. has-in lower lower-order p (s .pins) .0 h)
-    (λ n e. absurd (let z : _≡_ {A = ℕ} 0 1 = cc in omega arith))
+remove-allowed p s e = has-in lower lower-order p (s .pins) .0 (all-passed (withdrawChecks p s) .0 e .0)
 
 pub insert-valid : (p : Point) (s : State) → Valid s → T (inRange p) → (List·Memᴰ p (s .pins) → ⊥) → length (s .pins) < maxPins → Valid (insert p s)
 unfolding insert

@@ -3,12 +3,12 @@ use mathlib.Core.Bool.{Bool, not, _&&_}
 use mathlib.Core.Option.{Option, none, some}
 use mathlib.Core.List.{List, [], _∷_}
 use Prim.Native.Nat.{ℕ}
-use lib.Dec.{leb}
+use lib.Dec.{ltb}
 use lib.ListN.{length}
 use lib.IntN.{ℤ}
-use Rattle.plane.specs.Test.{if}
 use Rattle.plane.specs.Point.{Point, inRange, lower}
 use Rattle.model.specs.Set.{has}
+use Rattle.model.specs.Refusal.{Check, check, firstFailed}
 use Rattle.model.specs.State.{State, insert, remove, maxPins}
 use Rattle.model.specs.Round.{RoundAnswer, finished, tap, round, finish}
 
@@ -16,16 +16,24 @@ use Rattle.model.specs.Round.{RoundAnswer, finished, tap, round, finish}
 abbrev pub holdsPin : Point → State → Bool
 holdsPin p s = has lower p (s .pins)
 
--- The refusal of adding at p, in the order 7 (out of range), 8 (a pin is there already), 10 (it would be the 65th pin, also on a tap).
-unfoldable pub insertRefusal : Point → State → Option ℕ
-insertRefusal p s =
-    if (inRange p)
-    (λ _. if (holdsPin p s) (λ _. some 8) (λ _. if (leb maxPins (length (s .pins))) (λ _. some 10) (λ _. none)))
-    (λ _. some 7)
+-- The checks of adding at p, in their order: p in range, no pin there, and room for one more, also where a tap stands.
+abbrev pub addChecks : Point → State → List Check
+addChecks p s =
+    check 7 (λ _. inRange p)
+    ∷ check 8 (λ _. not (holdsPin p s))
+    ∷ check 10 (λ _. ltb (length (s .pins)) maxPins)
+    ∷ []
 
--- The refusal of withdrawing at p: 9, "no pin there to withdraw, out of range included".
+-- The check of withdrawing at p: a pin there. No pin is out of range.
+abbrev pub withdrawChecks : Point → State → List Check
+withdrawChecks p s = check 9 (λ _. holdsPin p s) ∷ []
+
+-- The refusals of adding and withdrawing.
+unfoldable pub insertRefusal : Point → State → Option ℕ
+insertRefusal p s = firstFailed (addChecks p s)
+
 unfoldable pub removeRefusal : Point → State → Option ℕ
-removeRefusal p s = if (holdsPin p s) (λ _. none) (λ _. some 9)
+removeRefusal p s = firstFailed (withdrawChecks p s)
 
 -- The calls that change a deck.
 pub data Call : Type 0 where

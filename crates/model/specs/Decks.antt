@@ -9,12 +9,13 @@ use Rattle.plane.specs.Point.{Point, lower, gap, dist, pointDec}
 use Rattle.plane.specs.Edge.{Edge, before, listedBefore, planar}
 use Rattle.plane.specs.Coordinate.{signed16, word16}
 use Rattle.model.specs.Set.{put, out, has, union, rising, all}
+use Rattle.model.specs.Refusal.{firstFailed}
 use Rattle.model.specs.Tree.{pairs, edges, mst, treeLength}
 use Rattle.model.specs.State.{State, points, placed, valid, weakest, pruneFrom, prune, insert, remove}
 use Rattle.model.specs.Round.{finished, tap, column, crossings, notHeld, candidates, saving, bestAbove, best, round, roundsFrom, finish}
 use Rattle.model.specs.Call.{Call, add, withdraw, oneRound, runToEnd, Reply, done, refused, answered, rounds, Outcome, insertRefusal, removeRefusal, step}
 use Rattle.model.specs.Question.{lengthOfState, listed}
-use Rattle.model.specs.File.{Read, deck, sectionOf, numberOf, runBytes, fileOf, sameBytes, pointsOf, readFile}
+use Rattle.model.specs.File.{Read, deck, sectionOf, numberOf, runBytes, fileOf, sameBytes, pointsOf, readBy, readFile}
 
 -- What a list of calls shows: each reply, the tree's length at the start and after each call, and the last state with its runs in listing order.
 pub record Trace : Type 0 where
@@ -25,7 +26,7 @@ pub record Trace : Type 0 where
 
 -- The trace of calls from a state.
 unfoldable pub play : State → List Call → Trace
-unfolding total degree comp kruskal lower gap dist pointDec before listedBefore planar put out has union pairs edges mst treeLength points weakest pruneFrom prune insert remove column crossings notHeld candidates saving bestAbove best round roundsFrom finish insertRefusal removeRefusal step listed
+unfolding total degree comp kruskal lower gap dist pointDec before listedBefore planar put out has union pairs edges mst treeLength points weakest pruneFrom prune insert remove column crossings notHeld candidates saving bestAbove best round roundsFrom finish firstFailed insertRefusal removeRefusal step listed
 play s [] = record { replies = []; lengths = lengthOfState s ∷ []; last = s; runs = listed s }
 play s (c ∷ cs) =
     let o = step s c in
@@ -47,7 +48,7 @@ Holds r = play (startOf r) (r .calls) ≡ r .shows
 
 -- What reading the file of a state gives.
 unfoldable pub filed : State → Read
-unfolding play rising all placed valid signed16 word16 sectionOf numberOf runBytes fileOf sameBytes pointsOf readFile
+unfolding play rising all placed valid signed16 word16 sectionOf numberOf runBytes fileOf sameBytes pointsOf readBy readFile
 filed s = readFile (fileOf s)
 
 -- The file of the row's last state reads back to it.

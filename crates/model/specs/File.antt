@@ -1,5 +1,6 @@
 -- The deck file, byte for byte: what is written for a state, and what reading a list of bytes gives.
 use mathlib.Core.Bool.{Bool, true, false, not, _&&_, _||_}
+use mathlib.Core.Option.{Option, none, some}
 use mathlib.Core.List.{List, [], _∷_, _++_}
 use Prim.Native.Nat.{ℕ, zero, suc, _+_, _*_, _/_, _%_}
 use lib.Dec.{leb, ltb, eqb}
@@ -9,6 +10,7 @@ use Rattle.plane.specs.Point.{Point, lower}
 use Rattle.plane.specs.Edge.{Edge}
 use Rattle.plane.specs.Coordinate.{signed16, word16}
 use Rattle.model.specs.Set.{tie}
+use Rattle.model.specs.Refusal.{Check, check, firstFailed}
 use Rattle.model.specs.State.{State, points, placed, valid, maxPins}
 use Rattle.model.specs.Question.{listed}
 
@@ -136,19 +138,23 @@ plain b = eqb (size b 1) 0 && eqb (size b 2) 0
 abbrev pub showsDeck : List ℕ → State → Bool
 showsDeck b s = plain b || (valid s && sameBytes (section b 2) (runSection s))
 
--- Reading a file: the checks 1 to 6 in this order. 4: "more than 64 pins".
--- 5: "a coordinate out of range, points of a section not strictly rising, or a tap on a pin".
-unfoldable pub readFile : List ℕ → Read
-readFile b =
+-- The checks of a file, in their order; each definition above says what its check asks.
+abbrev pub fileChecks : List ℕ → List Check
+fileChecks b =
     let s = shown b in
-    if (headed b)
-    (λ _. if (laidOut b)
-    (λ _. if (whole b)
-    (λ _. if (leb (length (s .pins)) maxPins)
-    (λ _. if (placed s)
-    (λ _. if (showsDeck b s) (λ _. deck s) (λ _. refusal 6))
-    (λ _. refusal 5))
-    (λ _. refusal 4))
-    (λ _. refusal 3))
-    (λ _. refusal 2))
-    (λ _. refusal 1)
+    check 1 (λ _. headed b)
+    ∷ check 2 (λ _. laidOut b)
+    ∷ check 3 (λ _. whole b)
+    ∷ check 4 (λ _. leb (length (s .pins)) maxPins)
+    ∷ check 5 (λ _. placed s)
+    ∷ check 6 (λ _. showsDeck b s)
+    ∷ []
+
+-- The deck shown where no check failed, else the refusal.
+unfoldable pub readBy : State → Option ℕ → Read
+readBy s none = deck s
+readBy s (some n) = refusal n
+
+-- Reading a file.
+unfoldable pub readFile : List ℕ → Read
+readFile b = readBy (shown b) (firstFailed (fileChecks b))

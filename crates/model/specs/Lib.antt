@@ -6,6 +6,7 @@ pub mod File
 pub mod Joining
 pub mod Listing
 pub mod Question
+pub mod Refusal
 pub mod Round
 pub mod Set
 pub mod State

@@ -1,20 +1,18 @@
 -- Two points in range are at most 120,000 centimetres apart.
 use mathlib.Core.Path.{_≡_}
-use mathlib.Core.Logic.{⊎-elim}
 use Prim.Native.Nat.{ℕ, _+_, _≤_}
 use native.Mathlib.Omega.{arith}
-use lib.Dec.{T}
-use lib.IntN.{ℤ, pos, negsuc}
-use lib.Signed.{leZ}
+use lib.Dec.{T, leb→le}
+use lib.IntN.{ℤ, natAbs}
 use Rattle.plane.specs.Point.{Point, limit, coordinateInRange, inRange, gap, dist}
 use Rattle.plane.proofs.Test.{and-parts}
-use Rattle.plane.proofs.Whole.{plus, minus, one-sided, atmost-value, gap-le}
+use Rattle.plane.proofs.Whole.{plus, minus, abs-value, gap-le}
 
 -- A coordinate in range by natural numbers.
 pub range-values : (z : ℤ) → T (coordinateInRange z) → (plus z ≤ 30000) × (minus z ≤ 30000)
 range-values z t =
-    let h = and-parts (leZ (negsuc 29999) z) (leZ z (pos limit)) t in
-    ⊎-elim (λ e. (omega arith, omega (arith, atmost-value (negsuc 29999) z (h .0)))) (λ e. (omega (arith, atmost-value z (pos limit) (h .1)), omega arith)) (one-sided z)
+    let h : natAbs z ≤ limit = leb→le (natAbs z) limit t in
+    (omega (arith, abs-value z), omega (arith, abs-value z))
 
 gap-range : (a b : ℤ) → T (coordinateInRange a) → T (coordinateInRange b) → gap a b ≤ 60000
 gap-range a b s t =

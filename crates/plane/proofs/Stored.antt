@@ -7,9 +7,9 @@ use Prim.Native.Nat.{ℕ, _+_, _*_, _-_, _/_, _%_, _≤_, _<_}
 use native.Mathlib.Nat.{le-antisymm}
 use native.Mathlib.Omega.{arith}
 use native.Mathlib.Decide.{decLt}
-use lib.Dec.{T, T-not, ltb, ltb→lt, nltb→le, lt→ltb}
-use lib.IntN.{ℤ, pos, negsuc, natAbs, _+ℤ_}
-use lib.Signed.{ltZ, leZ}
+use lib.Dec.{T, T-not, ltb, ltb→lt, nltb→le, lt→ltb, le→leb}
+use lib.IntN.{ℤ, pos, natAbs, _+ℤ_}
+use lib.Signed.{ltZ}
 use borrow.Author.Tests.{lt-ltb, le-ltb, ltb-false}
 use Rattle.plane.specs.declared.Coordinate.{Coordinate}
 use Rattle.plane.specs.declared.Coordinate.the-variants.{Stored, OutOfRange}
@@ -17,9 +17,9 @@ use Rattle.plane.specs.Test.{if, thenBy}
 use Rattle.plane.specs.Point.{limit, coordinateInRange, lower, gap}
 use Rattle.plane.specs.Coordinate.{coordinate, biased, signed16, word16}
 use Rattle.plane.specs.Stored.{pointAt, storedOf}
-use Rattle.plane.proofs.Test.{and-both, by-test, thenBy-cases, same-test}
+use Rattle.plane.proofs.Test.{by-test, thenBy-cases, same-test}
 use Rattle.plane.proofs.Range.{range-values}
-use Rattle.plane.proofs.Whole.{plus, minus, one-sided, abs-value, sub-value, add-value, whole-ext, less-value, value-less, value-atmost, gap-ge, gap-le}
+use Rattle.plane.proofs.Whole.{plus, minus, one-sided, abs-value, sub-value, add-value, whole-ext, less-value, value-less, gap-ge, gap-le}
 
 -- The whole number of a stored coordinate.
 pub coordinate-value : (u : ℕ) → plus (coordinate u) + 30000 ≡ u + minus (coordinate u)
@@ -89,8 +89,7 @@ lower-false ax ay bx by e = go (decLt bx ax) (decLt ax bx)
 
 -- A coordinate in range, from two bounds.
 pub value-range : (z : ℤ) → minus z ≤ plus z + 30000 → plus z ≤ minus z + 30000 → T (coordinateInRange z)
-value-range z h k =
-    and-both (leZ (negsuc 29999) z) (leZ z (pos limit)) (value-atmost (negsuc 29999) z (omega arith)) (value-atmost z (pos limit) (omega arith))
+value-range z h k = le→leb (natAbs z) limit (⊎-elim (λ e. omega (arith, abs-value z)) (λ e. omega (arith, abs-value z)) (one-sided z))
 
 -- The absolute value of a whole number that is moved up far enough.
 pub moved : (z : ℤ) (n : ℕ) → minus z ≤ plus z + n → natAbs (z +ℤ pos n) + minus z ≡ plus z + n

@@ -2,9 +2,9 @@
 use mathlib.Core.Path.{_≡_, refl, ap, subst⁻¹}
 use mathlib.Core.Bool.{Bool, true, false, _&&_}
 use Prim.Native.Nat.{ℕ, _+_}
-use lib.Dec.{T, eqb, eqb→eq, eqb-refl}
+use lib.Dec.{T, leb, eqb, eqb→eq, eqb-refl}
 use lib.IntN.{ℤ, pos, negsuc, natAbs, _-ℤ_}
-use lib.Signed.{ltZ, leZ}
+use lib.Signed.{ltZ}
 use Rattle.plane.specs.Test.{thenBy}
 
 -- A point (document 01: a pair x, y of whole centimetres), here any pair of whole numbers.
@@ -12,13 +12,13 @@ pub record Point : Type 0 where
   pub x : ℤ
   pub y : ℤ
 
--- The largest coordinate: "each from −30,000 to 30,000".
+-- The largest coordinate, and without its sign the smallest.
 abbrev pub limit : ℕ
 limit = 30000
 
--- A coordinate in range.
+-- A coordinate in range: at most the limit without its sign.
 abbrev pub coordinateInRange : ℤ → Bool
-coordinateInRange z = leZ (negsuc 29999) z && leZ z (pos limit)
+coordinateInRange z = leb (natAbs z) limit
 
 -- A point in range.
 abbrev pub inRange : Point → Bool

@@ -7,12 +7,12 @@ use native.Mathlib.Omega.{arith}
 use lib.Dec.{leb}
 use lib.ListN.{length, drop}
 use Rattle.plane.specs.Test.{if}
-use Rattle.plane.proofs.Test.{by-test}
-use Rattle.model.specs.State.{State, empty, Valid, placed, maxPins}
+use Rattle.model.specs.State.{State, empty, Valid}
 use Rattle.model.specs.Round.{finish}
 use Rattle.model.specs.Call as call
-use Rattle.model.specs.File.{Read, deck, refusal, readFile, fileOf, headed, laidOut, whole, shown, showsDeck}
+use Rattle.model.specs.File.{Read, deck, refusal, fileChecks, readFile, fileOf}
 use Rattle.model.proofs.Step.{step-valid, after-valid}
+use Rattle.model.proofs.Refusal.{Numbered, failed-number, file-refused}
 use Rattle.model.proofs.FileValid.{file-valid}
 use Rattle.model.proofs.Demand3.{empty-valid}
 use Rattle.plan.proofs.Sweeping.{true-of}
@@ -36,26 +36,23 @@ pub data Good : Read → Type 0 where
   valid : {s : State} → Valid s → Good (deck s)
   number : {n : ℕ} → 1 ≤ n → n ≤ 6 → Good (refusal n)
 
-abbrev Numbered : Read → Type 0
-Numbered r = (n : ℕ) → r ≡ refusal n → (1 ≤ n) × (n ≤ 6)
+abbrev FromOneToSix : ℕ → Type 0
+FromOneToSix n = (1 ≤ n) × (n ≤ 6)
 
-from-one-to-six : (k : ℕ) → 1 ≤ k → k ≤ 6 → Numbered (refusal k)
-from-one-to-six k h j n e = let q : k ≡ n = cc in (omega arith, omega arith)
-
-numbered : (b : List ℕ) → Numbered (readFile b)
-unfolding readFile
-numbered b =
-    by-test Numbered (headed b) _ _
-    (λ _. by-test Numbered (laidOut b) _ _
-    (λ _. by-test Numbered (whole b) _ _
-    (λ _. by-test Numbered (leb (length (shown b .pins)) maxPins) _ _
-    (λ _. by-test Numbered (placed (shown b)) _ _
-    (λ _. by-test Numbered (showsDeck b (shown b)) _ _ (λ _ n e. let z : _≡_ {A = ℕ} 0 1 = cc in absurd (omega arith)) (λ _. from-one-to-six 6 (omega arith) (omega arith)))
-    (λ _. from-one-to-six 5 (omega arith) (omega arith)))
-    (λ _. from-one-to-six 4 (omega arith) (omega arith)))
-    (λ _. from-one-to-six 3 (omega arith) (omega arith)))
-    (λ _. from-one-to-six 2 (omega arith) (omega arith)))
-    (λ _. from-one-to-six 1 (omega arith) (omega arith))
+numbered : (b : List ℕ) (n : ℕ) → readFile b ≡ refusal n → FromOneToSix n
+numbered b n e = failed-number FromOneToSix n (fileChecks b) numbers (file-refused b n .0 e)
+  where
+    numbers : Numbered FromOneToSix (fileChecks b)
+    numbers = (
+      (omega arith, omega arith),
+      (
+        (omega arith, omega arith),
+        (
+          (omega arith, omega arith),
+          ((omega arith, omega arith), ((omega arith, omega arith), ((omega arith, omega arith), tt))),
+        ),
+      ),
+    )
 
 pub read-good : (b : List ℕ) → Good (readFile b)
 read-good b = go (readFile b) refl

@@ -1,0 +1,135 @@
+-- The first check that fails is the refusal, in both directions, and there is none exactly if all pass: by the tests in turn. So it
+-- is of the checks of a file, of adding and of withdrawing.
+use mathlib.Core.Path.{_≡_, refl, sym, ap, _∙_, subst}
+use mathlib.Core.Logic.{_↔_}
+use mathlib.Core.Bool.{Bool, true, false}
+use mathlib.Core.Option.{Option, none, some}
+use mathlib.Core.List.{List, [], _∷_}
+use Prim.Native.Nat.{ℕ}
+use native.Mathlib.Omega.{arith}
+use lib.Dec.{T}
+use Rattle.plane.specs.Test.{if}
+use Rattle.plane.specs.Point.{Point}
+use Rattle.model.specs.Refusal.{Check, firstFailed, Pass, FirstFailed, here, later}
+use Rattle.model.specs.State.{State, insert, remove}
+use Rattle.model.specs.Call.{add, withdraw, done, refused, addChecks, withdrawChecks, insertRefusal, removeRefusal, Outcome, unless, step}
+use Rattle.model.specs.File.{Read, deck, refusal, fileChecks, readBy, readFile, shown}
+
+-- One check by its test.
+failed-by : (n : ℕ) (c : Check) (l : List Check) (b : Bool) → c .test tt ≡ b → ((firstFailed l ≡ some n) → FirstFailed n l)
+    → if b (λ _. firstFailed l) (λ _. some (c .number)) ≡ some n → FirstFailed n (c ∷ l)
+failed-by n c l true e next f = later (subst T (sym e) tt) (next f)
+failed-by n c l false e next f = let same : c .number ≡ n = cc in here same (λ t. subst T e t)
+
+by-failed : (n : ℕ) (c : Check) (l : List Check) (b : Bool) → c .test tt ≡ b → (FirstFailed n l → firstFailed l ≡ some n)
+    → FirstFailed n (c ∷ l) → if b (λ _. firstFailed l) (λ _. some (c .number)) ≡ some n
+by-failed n c l true e next (here k f) = absurd (f (subst T (sym e) tt))
+by-failed n c l true e next (later t r) = next r
+by-failed n c l false e next (here k f) = ap some k
+by-failed n c l false e next (later t r) = absurd (subst T e t)
+
+failed-first : (n : ℕ) (l : List Check) → firstFailed l ≡ some n → FirstFailed n l
+unfolding firstFailed
+failed-first n [] e = let z : _≡_ {A = ℕ} 0 1 = cc in absurd (omega arith)
+failed-first n (c ∷ l) e = failed-by n c l (c .test tt) refl (failed-first n l) e
+
+first-fails : (n : ℕ) (l : List Check) → FirstFailed n l → firstFailed l ≡ some n
+unfolding firstFailed
+first-fails n (c ∷ l) r = by-failed n c l (c .test tt) refl (first-fails n l) r
+
+pub first-failed : (n : ℕ) (l : List Check) → (firstFailed l ≡ some n) ↔ FirstFailed n l
+first-failed n l = (failed-first n l, first-fails n l)
+
+-- None fails exactly if all pass.
+passed-by : (c : Check) (l : List Check) (b : Bool) → c .test tt ≡ b → (firstFailed l ≡ none → Pass l)
+    → if b (λ _. firstFailed l) (λ _. some (c .number)) ≡ none → T (c .test tt) × Pass l
+passed-by c l true e next f = (subst T (sym e) tt, next f)
+passed-by c l false e next f = let z : _≡_ {A = ℕ} 0 1 = cc in absurd (omega arith)
+
+by-passed : (c : Check) (l : List Check) (b : Bool) → c .test tt ≡ b → firstFailed l ≡ none → T (c .test tt)
+    → if b (λ _. firstFailed l) (λ _. some (c .number)) ≡ none
+by-passed c l true e rest t = rest
+by-passed c l false e rest t = absurd (subst T e t)
+
+none-failed : (l : List Check) → firstFailed l ≡ none → Pass l
+unfolding firstFailed
+none-failed [] e = tt
+none-failed (c ∷ l) e = passed-by c l (c .test tt) refl (none-failed l) e
+
+passes : (l : List Check) → Pass l → firstFailed l ≡ none
+unfolding firstFailed
+passes [] p = refl
+passes (c ∷ l) p = by-passed c l (c .test tt) refl (passes l (p .1)) (p .0)
+
+pub all-passed : (l : List Check) → (firstFailed l ≡ none) ↔ Pass l
+all-passed l = (none-failed l, passes l)
+
+-- What holds of the number of every check holds of the refusal.
+abbrev pub Numbered : (ℕ → Type 0) → List Check → Type 0
+Numbered P [] = Unit {0}
+Numbered P (c ∷ l) = P (c .number) × Numbered P l
+
+pub failed-number : (P : ℕ → Type 0) (n : ℕ) (l : List Check) → Numbered P l → FirstFailed n l → P n
+failed-number P n (c ∷ l) h (here e f) = subst P e (h .0)
+failed-number P n (c ∷ l) h (later t r) = failed-number P n l (h .1) r
+
+-- A file is refused by n exactly if n's check is the first that fails, and taken, as the deck that it shows, exactly if all pass.
+read-number : (s : State) (o : Option ℕ) (n : ℕ) → (readBy s o ≡ refusal n) ↔ (o ≡ some n)
+unfolding readBy
+read-number s none n = (λ e. let z : _≡_ {A = ℕ} 0 1 = cc in absurd (omega arith), λ e. let z : _≡_ {A = ℕ} 0 1 = cc in absurd (omega arith))
+read-number s (some m) n = (λ e. cc, λ e. cc)
+
+read-deck : (s r : State) (o : Option ℕ) → (readBy s o ≡ deck r) ↔ ((o ≡ none) × (s ≡ r))
+unfolding readBy
+read-deck s r none = (λ e. (refl, cc), λ p. ap deck (p .1))
+read-deck s r (some m) = (λ e. let z : _≡_ {A = ℕ} 0 1 = cc in absurd (omega arith), λ p. let e = p .0 in let z : _≡_ {A = ℕ} 0 1 = cc in absurd (omega arith))
+
+pub file-refused : (b : List ℕ) (n : ℕ) → (readFile b ≡ refusal n) ↔ FirstFailed n (fileChecks b)
+unfolding readFile
+file-refused b n = (
+  λ e. failed-first n (fileChecks b) (read-number (shown b) (firstFailed (fileChecks b)) n .0 e),
+  λ r. read-number (shown b) (firstFailed (fileChecks b)) n .1 (first-fails n (fileChecks b) r),
+)
+
+pub file-taken : (b : List ℕ) (s : State) → (readFile b ≡ deck s) ↔ (Pass (fileChecks b) × (shown b ≡ s))
+unfolding readFile
+file-taken b s = (
+  λ e. let p = read-deck (shown b) s (firstFailed (fileChecks b)) .0 e in (none-failed (fileChecks b) (p .0), p .1),
+  λ p. read-deck (shown b) s (firstFailed (fileChecks b)) .1 (passes (fileChecks b) (p .0), p .1),
+)
+
+-- A call is refused by n exactly if n's check is the first that fails, and done exactly if all pass.
+unless-number : (o : Option ℕ) (s : State) (after : Unit {0} → State) (n : ℕ) → (unless o s after .reply ≡ refused n) ↔ (o ≡ some n)
+unless-number none s after n =
+    (λ e. let z : _≡_ {A = ℕ} 0 1 = cc in absurd (omega arith), λ e. let z : _≡_ {A = ℕ} 0 1 = cc in absurd (omega arith))
+unless-number (some m) s after n = (λ e. cc, λ e. cc)
+
+unless-done : (o : Option ℕ) (s : State) (after : Unit {0} → State) → (unless o s after .reply ≡ done) ↔ (o ≡ none)
+unless-done none s after = (λ e. refl, λ e. refl)
+unless-done (some m) s after =
+    (λ e. let z : _≡_ {A = ℕ} 0 1 = cc in absurd (omega arith), λ e. let z : _≡_ {A = ℕ} 0 1 = cc in absurd (omega arith))
+
+module _ (s : State) (p : Point) where
+  pub add-refused : (n : ℕ) → (step s (add p) .reply ≡ refused n) ↔ FirstFailed n (addChecks p s)
+  unfolding step insertRefusal
+  add-refused n =
+      let u = unless-number (firstFailed (addChecks p s)) s (λ _. insert p s) n in
+      (λ e. failed-first n (addChecks p s) (u .0 e), λ r. u .1 (first-fails n (addChecks p s) r))
+
+  pub add-taken : (step s (add p) .reply ≡ done) ↔ Pass (addChecks p s)
+  unfolding step insertRefusal
+  add-taken =
+      let u = unless-done (firstFailed (addChecks p s)) s (λ _. insert p s) in
+      (λ e. none-failed (addChecks p s) (u .0 e), λ a. u .1 (passes (addChecks p s) a))
+
+  pub withdraw-refused : (n : ℕ) → (step s (withdraw p) .reply ≡ refused n) ↔ FirstFailed n (withdrawChecks p s)
+  unfolding step removeRefusal
+  withdraw-refused n =
+      let u = unless-number (firstFailed (withdrawChecks p s)) s (λ _. remove p s) n in
+      (λ e. failed-first n (withdrawChecks p s) (u .0 e), λ r. u .1 (first-fails n (withdrawChecks p s) r))
+
+  pub withdraw-taken : (step s (withdraw p) .reply ≡ done) ↔ Pass (withdrawChecks p s)
+  unfolding step removeRefusal
+  withdraw-taken =
+      let u = unless-done (firstFailed (withdrawChecks p s)) s (λ _. remove p s) in
+      (λ e. none-failed (withdrawChecks p s) (u .0 e), λ a. u .1 (passes (withdrawChecks p s) a))
