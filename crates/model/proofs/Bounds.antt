@@ -23,7 +23,7 @@ use Rattle.model.specs.Demand3.{mostPoints, longestTree}
 use Rattle.model.proofs.Set.{put-in, put-sorted, put-length, union-length}
 use Rattle.model.proofs.Tree.{mst-run-tree}
 use Rattle.model.proofs.Prune.{points-in, points-rise, few-steiner}
-use Rattle.model.proofs.Candidate.{Candidate}
+use Rattle.model.specs.Choice.{Candidate}
 use Rattle.model.proofs.Round.{candidate-range}
 
 -- The number of points held.
@@ -56,7 +56,7 @@ held-range s v p i = ⊎-elim (v .placed .pinsRange p) (v .placed .steinerRange 
 
 module _ (s : State) (v : Valid s) (c : Point) (k : Candidate (points s) c) where
   pub round-few : length (put lower c (points s)) ≤ suc mostPoints
-  round-few = omega (arith, put-length lower lower-order c (points s) (k .2), points-few s v)
+  round-few = omega (arith, put-length lower lower-order c (points s) (k .free), points-few s v)
 
   pub round-fits : treeLength (put lower c (points s)) ≤ longestTree
   round-fits =

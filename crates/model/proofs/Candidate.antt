@@ -1,26 +1,23 @@
--- The candidates of a round are the crossings of held points' lines at places not held; and the search among them finds one
--- that shortens the tree, exactly if there is one.
-use mathlib.Core.Path.{_≡_, refl, sym, ap, _∙_, subst, subst⁻¹}
-use mathlib.Core.Logic.{_⊎_, inl, inr, ⊎-elim, _↔_}
-use mathlib.Core.Bool.{Bool, true, false, not}
-use mathlib.Core.Option.{Option, none, some}
+-- The candidates of a round are the crossings of held points' lines at places not held, lower first: columns with rising x,
+-- each with rising y.
+use mathlib.Core.Path.{_≡_, refl, ap, _∙_, subst, subst⁻¹}
+use mathlib.Core.Logic.{⊎-elim, _↔_}
+use mathlib.Core.Bool.{Bool, not}
 use mathlib.Core.List.{List, [], _∷_, _++_, map, List·Memᴰ, List·Memᴰ·head as head, List·Memᴰ·tail as tail, List·Memᴰ·cases-cons as cases, List·Memᴰ·not-nil as not-nil, Memᴰ·append-left, Memᴰ·append-right, List·Memᴰ·append-cases}
-use Prim.Native.Nat.{ℕ, zero, suc, _+_, _≤_, _<_}
-use native.Mathlib.Nat.{le-trans}
+use Prim.Native.Nat.{ℕ, _<_}
 use native.Mathlib.Omega.{arith}
-use lib.Dec.{T, T-not}
-use lib.IntN.{ℤ, pos, subℕ}
+use lib.Dec.{T, not-T}
+use lib.IntN.{ℤ, subℕ}
 use lib.Signed.{ltZ}
 use Rattle.spanning.specs.Order.{Sorted}
-use Rattle.plane.specs.Test.{if}
 use Rattle.plane.specs.Point.{Point, lower, Lower}
-use Rattle.plane.proofs.Whole.{plus, minus, one-sided, whole-ext, sub-value, less-value, value-less}
+use Rattle.plane.proofs.Whole.{sub-value, less-value, value-less}
 use Rattle.plane.proofs.Order.{lower-order, whole-order}
-use Rattle.plane.proofs.Test.{by-test}
-use Rattle.model.specs.Set.{put, has, sort}
-use Rattle.model.specs.Tree.{treeLength}
-use Rattle.model.specs.Round.{column, crossings, notHeld, candidates, saving, bestAbove, best}
-use Rattle.model.proofs.Set.{has-in, has-not, sort-in}
+use Rattle.plane.proofs.Test.{by-test, thenBy-first, thenBy-next}
+use Rattle.model.specs.Set.{has, sort}
+use Rattle.model.specs.Round.{column, crossings, notHeld, candidates}
+use Rattle.model.specs.Choice.{Candidate}
+use Rattle.model.proofs.Set.{has-in, has-not, sort-in, sort-sorted, sorted-append}
 
 pub map-in : {A B : Type 0} (f : A → B) (l : List A) (b : B) → List·Memᴰ b (map f l) ↔ ((a : A) × List·Memᴰ a l × (b ≡ f a))
 map-in f [] b = (λ i. absurd (not-nil i), λ r. absurd (not-nil (r .1)))
@@ -61,28 +58,78 @@ not-held-in ps (a ∷ l) c =
       λ r. ⊎-elim (λ e. head e) (λ j. tail (not-held-in ps l c .1 (j, r .1))) (cases (r .0)),
     ))
 
--- A candidate has the x of a held point and the y of a held point, and is not held.
-abbrev pub Candidate : List Point → Point → Type 0
-Candidate ps c =
-    ((a : Point) × List·Memᴰ a ps × (c .x ≡ a .x)) × ((b : Point) × List·Memᴰ b ps × (c .y ≡ b .y)) × ¬ List·Memᴰ c ps
-
-pub candidates-in : (ps : List Point) (c : Point) → List·Memᴰ c (candidates ps) ↔ Candidate ps c
+-- The candidates are what document 01 calls so.
+pub candidates-are : (ps : List Point) (c : Point) → List·Memᴰ c (candidates ps) ↔ Candidate ps c
 unfolding candidates
-candidates-in ps c = (
+candidates-are ps c = (
   λ i. let r = not-held-in ps (crossings xs ys) c .0 i in
-      let m = crossings-in xs ys c .0 (r .0) in (
-        map-in (λ (p : Point). p .x) ps (c .x) .0 (sort-in ltZ whole-order (map (λ (p : Point). p .x) ps) (c .x) .0 (m .0)),
-        map-in (λ (p : Point). p .y) ps (c .y) .0 (sort-in ltZ whole-order (map (λ (p : Point). p .y) ps) (c .y) .0 (m .1)),
-        r .1,
-      ),
+      let m = crossings-in xs ys c .0 (r .0) in
+      record {
+        onX = map-in (λ (p : Point). p .x) ps (c .x) .0 (sort-in ltZ whole-order (map (λ (p : Point). p .x) ps) (c .x) .0 (m .0));
+        onY = map-in (λ (p : Point). p .y) ps (c .y) .0 (sort-in ltZ whole-order (map (λ (p : Point). p .y) ps) (c .y) .0 (m .1));
+        free = r .1;
+      },
   λ r. not-held-in ps (crossings xs ys) c .1 (
     crossings-in xs ys c .1 (
-      sort-in ltZ whole-order (map (λ (p : Point). p .x) ps) (c .x) .1 (map-in (λ (p : Point). p .x) ps (c .x) .1 (r .0)),
-      sort-in ltZ whole-order (map (λ (p : Point). p .y) ps) (c .y) .1 (map-in (λ (p : Point). p .y) ps (c .y) .1 (r .1)),
+      sort-in ltZ whole-order (map (λ (p : Point). p .x) ps) (c .x) .1 (map-in (λ (p : Point). p .x) ps (c .x) .1 (r .onX)),
+      sort-in ltZ whole-order (map (λ (p : Point). p .y) ps) (c .y) .1 (map-in (λ (p : Point). p .y) ps (c .y) .1 (r .onY)),
     ),
-    r .2,
+    r .free,
   ),
 )
+  where
+    xs : List ℤ
+    xs = sort ltZ (map (λ (p : Point). p .x) ps)
+
+    ys : List ℤ
+    ys = sort ltZ (map (λ (p : Point). p .y) ps)
+
+lower-by-x : (a b : Point) → T (ltZ (a .x) (b .x)) → Lower a b
+unfolding lower
+lower-by-x a b h = thenBy-first (ltZ (a .x) (b .x)) (ltZ (b .x) (a .x)) (λ _. ltZ (a .y) (b .y)) h
+
+lower-by-y : (x y z : ℤ) → T (ltZ y z) → Lower (record { x = x; y = y }) (record { x = x; y = z })
+unfolding lower
+lower-by-y x y z h = thenBy-next (ltZ x x) (ltZ x x) (λ _. ltZ y z) same same h
+  where
+    same : T (not (ltZ x x))
+    same = not-T (ltZ x x) (whole-order .irrefl x)
+
+column-x : (x : ℤ) (ys : List ℤ) (c : Point) → List·Memᴰ c (column x ys) → c .x ≡ x
+unfolding column
+column-x x ys c i = ap (λ (p : Point). p .x) (map-in (λ (y : ℤ). record { x = x; y = y }) ys c .0 i .2)
+
+-- Points of one column rise where their y rise; and every point of a column is lower than those of a column with a greater x.
+column-rises : (x : ℤ) (ys : List ℤ) → Sorted (λ (a b : ℤ). T (ltZ a b)) ys → Sorted Lower (column x ys)
+unfolding column
+column-rises x [] s = tt
+column-rises x (y ∷ ys) s = (
+  λ c i. let r = map-in (λ (z : ℤ). record { x = x; y = z }) ys c .0 i in
+      subst⁻¹ (Lower (record { x = x; y = y })) (r .2) (lower-by-y x y (r .0) (s .0 (r .0) (r .1))),
+  column-rises x ys (s .1),
+)
+
+crossings-rise : (xs ys : List ℤ) → Sorted (λ (a b : ℤ). T (ltZ a b)) xs → Sorted (λ (a b : ℤ). T (ltZ a b)) ys → Sorted Lower (crossings xs ys)
+unfolding crossings
+crossings-rise [] ys s t = tt
+crossings-rise (x ∷ xs) ys s t =
+    sorted-append (column x ys) (crossings xs ys) (column-rises x ys t) (crossings-rise xs ys (s .1) t)
+    (λ a b i j. lower-by-x a b
+    (subst⁻¹ (λ (z : ℤ). T (ltZ z (b .x))) (column-x x ys a i) (s .0 (b .x) (crossings-in xs ys b .0 j .0))))
+
+not-held-rises : (ps l : List Point) → Sorted Lower l → Sorted Lower (notHeld ps l)
+unfolding notHeld
+not-held-rises ps [] s = tt
+not-held-rises ps (a ∷ l) s =
+    by-test (Sorted Lower) (has lower a ps) (λ _. notHeld ps l) (λ _. a ∷ notHeld ps l) (λ h. not-held-rises ps l (s .1))
+    (λ n. (λ c i. s .0 c (not-held-in ps l c .0 i .0), not-held-rises ps l (s .1)))
+
+-- The candidates come lower first, without repeats.
+pub candidates-rise : (ps : List Point) → Sorted Lower (candidates ps)
+unfolding candidates
+candidates-rise ps =
+    not-held-rises ps (crossings xs ys)
+    (crossings-rise xs ys (sort-sorted ltZ whole-order (map (λ (p : Point). p .x) ps)) (sort-sorted ltZ whole-order (map (λ (p : Point). p .y) ps)))
   where
     xs : List ℤ
     xs = sort ltZ (map (λ (p : Point). p .x) ps)
@@ -96,52 +143,3 @@ save-less now m n t = omega (arith, less-value (subℕ now m) (subℕ now n) t, 
 
 pub less-save : (now m n : ℕ) → n < m → T (ltZ (subℕ now m) (subℕ now n))
 less-save now m n h = value-less (subℕ now m) (subℕ now n) (omega (arith, sub-value now m, sub-value now n))
-
-no-saving : (now : ℕ) → pos 0 ≡ subℕ now now
-no-saving now = whole-ext (pos 0) (subℕ now now) (omega (arith, sub-value now now))
-
--- What the search among candidates finds, beside what was found before with the length m: nothing shorter, or a candidate that is.
-data Search (ps cs : List Point) (m : ℕ) (found : Option Point) : Option Point → Type 0 where
-  nothing : ((c : Point) → List·Memᴰ c cs → m ≤ treeLength (put lower c ps)) → Search ps cs m found found
-  better : (c : Point) → List·Memᴰ c cs → treeLength (put lower c ps) < m → Search ps cs m found (some c)
-
-search : (now : ℕ) (ps : List Point) (m : ℕ) (found : Option Point) (cs : List Point)
-    → Search ps cs m found (bestAbove now ps (subℕ now m) found cs)
-unfolding bestAbove saving
-search now ps m found [] = nothing (λ c i. absurd (not-nil i))
-search now ps m found (a ∷ cs) =
-    by-test (Search ps (a ∷ cs) m found) (ltZ (subℕ now m) (subℕ now n)) (λ _. bestAbove now ps (subℕ now n) (some a) cs)
-    (λ _. bestAbove now ps (subℕ now m) found cs)
-    (λ t. taken (save-less now m n t) (search now ps n (some a) cs))
-    (λ t. passed (not-less t) (search now ps m found cs))
-  where
-    n : ℕ
-    n = treeLength (put lower a ps)
-
-    not-less : T (not (ltZ (subℕ now m) (subℕ now n))) → ¬ (n < m)
-    not-less t h = T-not (ltZ (subℕ now m) (subℕ now n)) t (less-save now m n h)
-
-    taken : n < m → {o : Option Point} → Search ps cs n (some a) o → Search ps (a ∷ cs) m found o
-    taken h (nothing f) = better a (head refl) h
-    taken h (better c i k) = better c (tail i) (omega arith)
-
-    passed : ¬ (n < m) → {o : Option Point} → Search ps cs m found o → Search ps (a ∷ cs) m found o
-    passed h (nothing f) =
-        nothing (λ c i. ⊎-elim (λ e. subst⁻¹ (λ (z : Point). m ≤ treeLength (put lower z ps)) e (omega arith)) (f c) (cases i))
-    passed h (better c i k) = better c (tail i) k
-
--- The best candidate: none where no candidate shortens the tree, else one that does.
-pub data Best (ps : List Point) : Option Point → Type 0 where
-  none-better : ((c : Point) → Candidate ps c → treeLength ps ≤ treeLength (put lower c ps)) → Best ps none
-  shortens : (c : Point) → Candidate ps c → treeLength (put lower c ps) < treeLength ps → Best ps (some c)
-
-pub best-view : (ps : List Point) → Best ps (best ps)
-unfolding best
-best-view ps = subst⁻¹ (λ (z : ℤ). Best ps (bestAbove now ps z none (candidates ps))) (no-saving now) (go (search now ps now none (candidates ps)))
-  where
-    now : ℕ
-    now = treeLength ps
-
-    go : {o : Option Point} → Search ps (candidates ps) (treeLength ps) none o → Best ps o
-    go (nothing f) = none-better (λ c h. f c (candidates-in ps c .1 h))
-    go (better c i k) = shortens c (candidates-in ps c .0 i) k

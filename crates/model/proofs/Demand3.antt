@@ -13,7 +13,7 @@ use Rattle.model.specs.Demand3.{Start, fresh, file, Kept, Demand3, mostP
 use Rattle.model.proofs.Tree.{mst-run-tree}
 use Rattle.model.proofs.Cover.{mst-least}
 use Rattle.model.proofs.Prune.{points-rise}
-use Rattle.model.proofs.Candidate.{candidates-in}
+use Rattle.model.proofs.Candidate.{candidates-are}
 use Rattle.model.proofs.Round.{round-finished, finish-rounds}
 use Rattle.model.proofs.Step.{after-valid}
 use Rattle.model.proofs.Bounds.{points-few, length-bound, held-range, round-few, round-fits}
@@ -49,9 +49,9 @@ valid-kept s v =
       rounds-end = finish-rounds s v .0;
       rounds-few = finish-rounds s v .1;
       points-few = few;
-      round-few = λ c i. round-few s v c (candidates-in (points s) c .0 i);
+      round-few = λ c i. round-few s v c (candidates-are (points s) c .0 i);
       length-fits = length-bound (points s) rise (omega (arith, few)) (held-range s v);
-      round-fits = λ c i. round-fits s v c (candidates-in (points s) c .0 i);
+      round-fits = λ c i. round-fits s v c (candidates-are (points s) c .0 i);
     }
   where
     rise : Sorted Lower (points s)

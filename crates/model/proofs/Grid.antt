@@ -26,7 +26,8 @@ use Rattle.model.proofs.Set.{put-in, put-sorted, put-same, has-in, has-
 use Rattle.model.proofs.Tree.{mst-run-tree}
 use Rattle.model.proofs.Cover.{Connects, mst-cover}
 use Rattle.model.proofs.Replace.{swap, swap-same, swap-other, replaced, star, sumDist, replaced-conn, replaced-ends, replaced-length, star-count, star-edge}
-use Rattle.model.proofs.Candidate.{Candidate, map-in}
+use Rattle.model.specs.Choice.{Candidate}
+use Rattle.model.proofs.Candidate.{map-in}
 
 -- The sum of distances by the two axes.
 sum-axes : (p : Point) (l : List Point)
@@ -126,7 +127,7 @@ module _ (ps : List Point) (rising : Sorted Lower ps) (q : Point) (far : ¬ List
 
       by : (b : Bool) → (T b → List·Memᴰ c ps) → (T (not b) → List·Memᴰ c ps → ⊥) → treeLength ps ≤ lengthOf t
       by true held free = subst (λ (z : List Point). treeLength z ≤ lengthOf t) (put-same lower lower-order c ps rising (held tt)) short
-      by false held free = le-trans (none c (onX, onY, free tt)) short
+      by false held free = le-trans (none c (record { onX = onX; onY = onY; free = free tt })) short
 
 -- No points, no length.
 no-length : treeLength [] ≡ 0

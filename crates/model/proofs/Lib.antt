@@ -1,6 +1,7 @@
 pub mod Bounds
 pub mod Bytes
 pub mod Candidate
+pub mod Choice
 pub mod Cover
 pub mod Decks
 pub mod Demand3

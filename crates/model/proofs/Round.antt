@@ -21,12 +21,13 @@ use Rattle.model.specs.Set.{put}
 use Rattle.model.specs.Tree.{mst, lengthOf, treeLength}
 use Rattle.model.specs.State.{State, points, Placed, Valid, prune, maxPins}
 use Rattle.model.specs.Round.{RoundAnswer, finished, tap, RoundResult, withSteiner, best, round, Ended, roundsFrom, finish}
+use Rattle.model.specs.Choice.{Candidate}
 use Rattle.model.specs.Question.{lengthOfState}
 use Rattle.model.specs.Demand3.{RoundsTo, ended, added, NoShorter}
 use Rattle.model.proofs.Set.{put-in, put-sorted}
 use Rattle.model.proofs.Tree.{mst-run-tree}
 use Rattle.model.proofs.Prune.{points-in, points-rise, Pruned, prune-leaves, prune-valid}
-use Rattle.model.proofs.Candidate.{Candidate, Best, none-better, shortens, best-view}
+use Rattle.model.proofs.Choice.{Choice, none-saves, some-chosen, best-choice, saved-shorter, unsaved-longer}
 use Rattle.model.proofs.Grid.{tree-members, grid-theorem}
 
 -- The points with one more Steiner point.
@@ -46,8 +47,8 @@ points-with s c rise =
 pub candidate-range : (s : State) → Placed s → (c : Point) → Candidate (points s) c → T (inRange c)
 candidate-range s h c k =
     and-both (coordinateInRange (c .x)) (coordinateInRange (c .y))
-    (subst⁻¹ (λ z. T (coordinateInRange z)) (k .0 .2) (and-parts (coordinateInRange (k .0 .0 .x)) (coordinateInRange (k .0 .0 .y)) (held (k .0 .0) (k .0 .1)) .0))
-    (subst⁻¹ (λ z. T (coordinateInRange z)) (k .1 .2) (and-parts (coordinateInRange (k .1 .0 .x)) (coordinateInRange (k .1 .0 .y)) (held (k .1 .0) (k .1 .1)) .1))
+    (subst⁻¹ (λ z. T (coordinateInRange z)) (k .onX .2) (and-parts (coordinateInRange (k .onX .0 .x)) (coordinateInRange (k .onX .0 .y)) (held (k .onX .0) (k .onX .1)) .0))
+    (subst⁻¹ (λ z. T (coordinateInRange z)) (k .onY .2) (and-parts (coordinateInRange (k .onY .0 .x)) (coordinateInRange (k .onY .0 .y)) (held (k .onY .0) (k .onY .1)) .1))
   where
     held : (p : Point) → List·Memᴰ p (points s) → T (inRange p)
     held p i = ⊎-elim (h .pinsRange p) (h .steinerRange p) (points-in s p .0 i)
@@ -59,7 +60,7 @@ with-placed s h c k =
       steinerRange = λ p i. ⊎-elim (λ e. subst⁻¹ (λ z. T (inRange z)) e (candidate-range s h c k)) (h .steinerRange p) (put-in lower lower-order c p (s .steiner) .0 i);
       pinsRise = h .pinsRise;
       steinerRise = put-sorted lower lower-order c (s .steiner) (h .steinerRise);
-      apart = λ p i j. ⊎-elim (λ e. k .2 (points-in s c .1 (inl (subst (λ z. List·Memᴰ z (s .pins)) e i)))) (h .apart p i) (put-in lower lower-order c p (s .steiner) .0 j);
+      apart = λ p i j. ⊎-elim (λ e. k .free (points-in s c .1 (inl (subst (λ z. List·Memᴰ z (s .pins)) e i)))) (h .apart p i) (put-in lower lower-order c p (s .steiner) .0 j);
     }
 
 -- What a round does: it is finished and no candidate shortens the tree, or it adds a candidate that does, and prunes.
@@ -71,15 +72,15 @@ pub data Rounded (s : State) : RoundResult → Type 0 where
 
 pub round-view : (s : State) → Rounded s (round s)
 unfolding round
-round-view s = go (best-view (points s))
+round-view s = go (best-choice (points s))
   where
-    go : {o : Option Point} → Best (points s) o
+    go : {o : Option Point} → Choice (points s) o
         → Rounded s (elim o as (λ _. RoundResult) [
           | none ↦ record { next = s; answer = finished }
           | some c ↦ record { next = prune (withSteiner c s); answer = tap c (treeLength (points s) - treeLength (points (prune (withSteiner c s)))) }
         ])
-    go (none-better f) = stays f
-    go (shortens c k h) = adds c k h
+    go (none-saves f) = stays (λ c k. unsaved-longer (points s) c (f c k))
+    go (some-chosen c h) = adds c (h .candidate) (saved-shorter (points s) c (h .saves))
 
 -- After a round that adds c the tree is no longer than with c alone: the fall is at least the saving.
 pub prune-shorter : (s : State) → Valid s → (c : Point) → Candidate (points s) c
@@ -132,7 +133,7 @@ round-finished s v = go (round-view s)
     go (stays f) = (λ e q far t tree. grid-theorem (points s) rise f q far t tree, λ g. refl)
     go (adds c k h) = (
       λ e. absurd (let z : _≡_ {A = ℕ} 0 1 = cc in omega arith),
-      λ g. absurd (omega (arith, g c (k .2) (mst (put lower c (points s))) (tree-with c (k .2)), with-length)),
+      λ g. absurd (omega (arith, g c (k .free) (mst (put lower c (points s))) (tree-with c (k .free)), with-length)),
     )
       where
         with-length : treeLength (put lower c (points s)) ≡ lengthOf (mst (put lower c (points s)))

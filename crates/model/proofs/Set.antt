@@ -2,7 +2,7 @@
 use mathlib.Core.Path.{_≡_, refl, sym, ap, _∙_, subst}
 use mathlib.Core.Logic.{_⊎_, inl, inr, ⊎-elim, _↔_}
 use mathlib.Core.Bool.{Bool, true, false, not, _&&_}
-use mathlib.Core.List.{List, [], _∷_, List·Memᴰ, List·Memᴰ·head as head, List·Memᴰ·tail as tail, List·Memᴰ·cases-cons as cases, List·Memᴰ·not-nil as not-nil}
+use mathlib.Core.List.{List, [], _∷_, _++_, List·Memᴰ, List·Memᴰ·head as head, List·Memᴰ·tail as tail, List·Memᴰ·cases-cons as cases, List·Memᴰ·not-nil as not-nil, List·Memᴰ·append-cases}
 use Prim.Native.Nat.{ℕ, suc, _+_}
 use native.Mathlib.Nat.{zero-add, suc-add}
 use lib.Dec.{T, T-not, not-T}
@@ -19,6 +19,15 @@ all-in f [] = (λ t a i. absurd (not-nil i), λ g. tt)
 all-in f (b ∷ l) = (
   λ t a i. ⊎-elim (λ e. subst (λ z. T (f z)) (sym e) (and-parts (f b) (all f l) t .0)) (λ j. all-in f l .0 (and-parts (f b) (all f l) t .1) a j) (cases i),
   λ g. and-both (f b) (all f l) (g b (head refl)) (all-in f l .1 (λ a i. g a (tail i))),
+)
+
+-- Two sorted lists, each member of the one before each of the other, are sorted end to end.
+pub sorted-append : {A : Type 0} {before : A → A → Type 0} (l m : List A) → Sorted before l → Sorted before m
+    → ((a b : A) → List·Memᴰ a l → List·Memᴰ b m → before a b) → Sorted before (l ++ m)
+sorted-append [] m s t h = t
+sorted-append (a ∷ l) m s t h = (
+  λ b i. ⊎-elim (s .0 b) (h a b (head refl)) (List·Memᴰ·append-cases l i),
+  sorted-append l m (s .1) t (λ b c i j. h b c (tail i) j),
 )
 
 module _ {A : Type 0} (less : A → A → Bool) (order : StrictTotal (λ (a b : A). T (less a b))) where

@@ -1,4 +1,5 @@
 pub mod Call
+pub mod Choice
 pub mod Decks
 pub mod Demand3
 pub mod Example

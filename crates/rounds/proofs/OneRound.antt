@@ -17,8 +17,9 @@ use Rattle.model.specs.Set.{put}
 use Rattle.model.specs.State.{State, Valid, points, prune}
 use Rattle.model.specs.Tree.{treeLength}
 use Rattle.model.specs.Round.{RoundResult, finished, tap, withSteiner, best, round}
+use Rattle.model.specs.Choice.{Candidate}
 use Rattle.model.proofs.Prune.{points-in, few-steiner}
-use Rattle.model.proofs.Candidate.{Candidate, Best, none-better, shortens, best-view}
+use Rattle.model.proofs.Choice.{Choice, none-saves, some-chosen, best-choice, saved-shorter}
 use Rattle.model.proofs.Round.{candidate-range, prune-shorter}
 use Rattle.plan.specs.declared.Plan.{Plan}
 use Rattle.plan.specs.Code.{code, pointOf, isCode}
@@ -75,11 +76,13 @@ unfolding code
 code-parts c u v x y = ap₂ (λ (a b : ℕ). a * 65536 + b) x y
 
 pub found-at : (s : State) → Valid s → (u v : ℕ) → answerOf (best (points s)) ≡ At u v → Joins s u v
-found-at s valid u v e = go (best-view (points s)) refl e
+found-at s valid u v e = go (best-choice (points s)) refl e
   where
-    go : {o : Option Point} → Best (points s) o → best (points s) ≡ o → answerOf o ≡ At u v → Joins s u v
-    go (none-better f) b q = let z : _≡_ {A = ℕ} 0 1 = cc in absurd (omega arith)
-    go (shortens c h less) b q =
+    go : {o : Option Point} → Choice (points s) o → best (points s) ≡ o → answerOf o ≡ At u v → Joins s u v
+    go (none-saves f) b q = let z : _≡_ {A = ℕ} 0 1 = cc in absurd (omega arith)
+    go (some-chosen c w) b q =
+        let h = w .candidate in
+        let less = saved-shorter (points s) c (w .saves) in
         let x : biased (c .x) ≡ u = cc in
         let y : biased (c .y) ≡ v = cc in
         let r = candidate-range s (valid .placed) c h in
@@ -115,7 +118,7 @@ module _ (s : State) (u v : ℕ) (j : Joins s u v) where
       ∙ sym (ap (λ (r : RoundResult). stepOf (r .answer)) joins)
 
   pub joins-free : List·Memᴰ (pointOf (u * 65536 + v)) (s .pins) → ⊥
-  joins-free i = j .candidate .2 (points-in s (pointOf (u * 65536 + v)) .1 (inl i))
+  joins-free i = j .candidate .free (points-in s (pointOf (u * 65536 + v)) .1 (inl i))
 
   pub joins-shorter : Valid s → treeLength (points (prune (withSteiner (pointOf (u * 65536 + v)) s))) ≤ treeLength (points s)
   joins-shorter w = omega (arith, j .shorter, prune-shorter s w (pointOf (u * 65536 + v)) (j .candidate))
