@@ -2,14 +2,13 @@
 -- the first candidate that saves more than all before it; as candidates come lower first, that is the lowest of those that save most.
 use mathlib.Core.Path.{_≡_, refl, sym, ap, subst, subst⁻¹}
 use mathlib.Core.Logic.{_⊎_, inl, inr, ⊎-elim, _↔_}
-use mathlib.Core.Bool.{Bool, not}
-use mathlib.Core.Option.{Option, none, some}
+use mathlib.Core.Option.{Option, none, some, Option·none-ne-some, Option·some-ne-none}
 use mathlib.Core.List.{List, [], _∷_, List·Memᴰ, List·Memᴰ·head as head, List·Memᴰ·tail as tail, List·Memᴰ·cases-cons as cases, List·Memᴰ·not-nil as not-nil}
 use Prim.Native.Nat.{ℕ, _≤_, _<_}
 use native.Mathlib.Omega.{arith}
 use native.Mathlib.Decide.{decLt}
 use lib.Dec.{T, T-not}
-use lib.IntN.{ℤ, pos, subℕ}
+use lib.IntN.{ℤ, pos}
 use lib.Signed.{ltZ}
 use Rattle.spanning.specs.Order.{Sorted}
 use Rattle.plane.specs.Point.{Point, lower, Lower}
@@ -82,12 +81,15 @@ best-choice ps = go (search (treeLength ps) ps (pos 0) none (candidates ps) (can
           lowest = λ d k. low d (candidates-are ps d .1 k);
         })
 
+-- Two points, neither lower than the other.
+pub same-lowest : (c d : Point) → (c ≡ d) ⊎ Lower d c → (d ≡ c) ⊎ Lower c d → c ≡ d
+same-lowest c d h k =
+    ⊎-elim (λ e. e) (λ l. ⊎-elim (λ e. sym e) (λ m. absurd (lower-order .irrefl c (lower-order .trans c d c m l))) k) h
+
 -- Only one candidate is chosen: of two neither saves more, and neither is lower.
 pub chosen-unique : (ps : List Point) (c d : Point) → Chosen ps c → Chosen ps d → c ≡ d
 chosen-unique ps c d h k =
-    ⊎-elim (λ e. e)
-    (λ l. ⊎-elim (λ e. sym e) (λ m. absurd (lower-order .irrefl c (lower-order .trans c d c m l))) (h .lowest d (k .candidate) (sym same)))
-    (k .lowest c (h .candidate) same)
+    same-lowest c d (k .lowest c (h .candidate) same) (h .lowest d (k .candidate) (sym same))
   where
     same : saved ps c ≡ saved ps d
     same =
@@ -100,10 +102,7 @@ pub best-chosen : (ps : List Point) (c : Point) → (best ps ≡ some c) ↔ Cho
 best-chosen ps c = go (best-choice ps)
   where
     go : {o : Option Point} → Choice ps o → (o ≡ some c) ↔ Chosen ps c
-    go (none-saves f) = (λ e. absurd (never e), λ h. absurd (f c (h .candidate) (h .saves)))
-      where
-        never : _≡_ {A = Option Point} none (some c) → ⊥
-        never e = let z : _≡_ {A = ℕ} 0 1 = cc in omega arith
+    go (none-saves f) = (λ e. absurd (Option·none-ne-some c e), λ h. absurd (f c (h .candidate) (h .saves)))
     go (some-chosen d h) = (λ e. let q : d ≡ c = cc in subst (Chosen ps) q h, λ k. ap some (chosen-unique ps d c h k))
 
 -- `best` is none where no candidate saves anything.
@@ -112,10 +111,7 @@ best-none ps = go (best-choice ps)
   where
     go : {o : Option Point} → Choice ps o → (o ≡ none) ↔ ((d : Point) → Candidate ps d → ¬ T (ltZ (pos 0) (saved ps d)))
     go (none-saves f) = (λ _. f, λ _. refl)
-    go (some-chosen c h) = (λ e. absurd (never e), λ f. absurd (f c (h .candidate) (h .saves)))
-      where
-        never : _≡_ {A = Option Point} (some c) none → ⊥
-        never e = let z : _≡_ {A = ℕ} 0 1 = cc in omega arith
+    go (some-chosen c h) = (λ e. absurd (Option·some-ne-none c e), λ f. absurd (f c (h .candidate) (h .saves)))
 
 -- A candidate that saves something makes the tree shorter, and one that does not leaves it as long at least.
 pub saved-shorter : (ps : List Point) (c : Point) → T (ltZ (pos 0) (saved ps c)) → treeLength (put lower c ps) < treeLength ps

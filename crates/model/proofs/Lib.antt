@@ -19,5 +19,6 @@ pub mod Round
 pub mod Set
 pub mod SetMap
 pub mod Step
+pub mod Sweep
 pub mod Tree
 pub mod Validity

@@ -51,6 +51,16 @@ weakest-view t (a ∷ l) =
     later h (all-strong f) = all-strong (λ q i. ⊎-elim (λ e. subst⁻¹ (λ (z : Point). 3 ≤ edgesAt z t) e h) (f q) (cases i))
     later h (weak q i k) = weak q (tail i) k
 
+-- One step of the sweep, and its end.
+pub prune-step : (k : ℕ) (s : State) (q : Point) → weakest (mst (points s)) (s .steiner) ≡ some q → pruneFrom (suc k) s ≡ pruneFrom k (without q s)
+unfolding pruneFrom
+prune-step k s q e = ap (λ (o : Option Point). elim o as (λ _. State) [ none ↦ s | some z ↦ pruneFrom k (without z s) ]) e
+
+pub prune-stop : (k : ℕ) (s : State) → weakest (mst (points s)) (s .steiner) ≡ none → pruneFrom k s ≡ s
+unfolding pruneFrom
+prune-stop zero s e = refl
+prune-stop (suc k) s e = ap (λ (o : Option Point). elim o as (λ _. State) [ none ↦ s | some z ↦ pruneFrom k (without z s) ]) e
+
 -- The points without a Steiner point.
 points-without : (s : State) (q : Point) → Sorted Lower (s .steiner) → (List·Memᴰ q (s .pins) → ⊥) → points (without q s) ≡ out lower q (points s)
 points-without s q rise far =
@@ -63,6 +73,10 @@ points-without s q rise far =
     points-in (without q s) p .1
     (⊎-elim (λ j. inl j) (λ j. inr (out-in lower lower-order q p (s .steiner) .1 (j, o .1))) (points-in s p .0 (o .0))))
 
+pub none-there : (l : List Point) → length l ≤ 0 → (q : Point) → List·Memᴰ q l → ⊥
+none-there [] h q i = not-nil i
+none-there (a ∷ l) h q i = omega arith
+
 -- What a sweep of s leaves, r.
 pub record Pruned (s r : State) : Type 0 where
   pub pins : r .pins ≡ s .pins
@@ -72,20 +86,16 @@ pub record Pruned (s r : State) : Type 0 where
   pub shorter : treeLength (points r) ≤ treeLength (points s)
 
 prune-from : (k : ℕ) (s : State) → Sorted Lower (s .steiner) → ((p : Point) → List·Memᴰ p (s .pins) → List·Memᴰ p (s .steiner) → ⊥)
-    → length (s .steiner) ≤ k → Pruned s (pruneFrom k s (mst (points s)))
+    → length (s .steiner) ≤ k → Pruned s (pruneFrom k s)
 unfolding pruneFrom
 prune-from zero s rise far h =
     record { pins = refl; part = λ q i. i; rise = rise; branching = λ q i. absurd (none-there (s .steiner) h q i); shorter = le-refl (treeLength (points s)) }
-  where
-    none-there : (l : List Point) → length l ≤ 0 → (q : Point) → List·Memᴰ q l → ⊥
-    none-there [] h q i = not-nil i
-    none-there (a ∷ l) h q i = omega arith
 prune-from (suc k) s rise far h =
     go (weakest (mst (points s)) (s .steiner)) (weakest-view (mst (points s)) (s .steiner)) (λ q i. prune-from k (without q s) (out-sorted lower lower-order q (s .steiner) rise) (λ p i j. far p i (out-in lower lower-order q p (s .steiner) .0 j .0)) (omega (arith, out-length lower lower-order q (s .steiner) rise i)))
   where
     go : (o : Option Point) → Weakest (mst (points s)) (s .steiner) o
-        → ((q : Point) → List·Memᴰ q (s .steiner) → Pruned (without q s) (pruneFrom k (without q s) (mst (points (without q s)))))
-        → Pruned s (elim o as (λ _. State) [ none ↦ s | some q ↦ pruneFrom k (without q s) (mst (points (without q s))) ])
+        → ((q : Point) → List·Memᴰ q (s .steiner) → Pruned (without q s) (pruneFrom k (without q s)))
+        → Pruned s (elim o as (λ _. State) [ none ↦ s | some q ↦ pruneFrom k (without q s) ])
     go o (all-strong f) rec = record { pins = refl; part = λ q i. i; rise = rise; branching = f; shorter = le-refl (treeLength (points s)) }
     go o (weak q i two) rec =
         record {

@@ -62,7 +62,7 @@ valid s =
     let t = mst (points s) in
     leb (length (s .pins)) maxPins && (placed s && all (strong t) (s .steiner))
 
--- The lowest of the given points that has at most two edges in the tree t.
+-- The first of a rising list of points with at most two edges in the tree t, so the lowest.
 unfoldable pub weakest : List Edge → List Point → Option Point
 weakest t [] = none
 weakest t (q ∷ l) = if (strong t q) (λ _. weakest t l) (λ _. some q)
@@ -71,19 +71,20 @@ weakest t (q ∷ l) = if (strong t q) (λ _. weakest t l) (λ _. some q)
 abbrev pub without : Point → State → State
 without q s = record { pins = s .pins; steiner = out lower q (s .steiner) }
 
--- The sweep, for at most as many removals as the first number says; t is the tree of the state's points.
+-- The sweep, for at most as many removals as the first number says, each by the tree of the points that are left then.
 -- "While some tap has at most two runs in the tree, the lowest such tap is taken out and the tree is that of the points left."
-unfoldable pub pruneFrom : ℕ → State → List Edge → State
-pruneFrom zero s t = s
-pruneFrom (suc k) s t =
+unfoldable pub pruneFrom : ℕ → State → State
+pruneFrom zero s = s
+pruneFrom (suc k) s =
+    let t = mst (points s) in
     elim (weakest t (s .steiner)) [
       | none ↦ s
-      | some q ↦ let next = without q s in pruneFrom k next (mst (points next))
+      | some q ↦ pruneFrom k (without q s)
     ]
 
 -- The sweep (document 01's word; here prune). No more can be taken out than there are Steiner points.
 unfoldable pub prune : State → State
-prune s = pruneFrom (length (s .steiner)) s (mst (points s))
+prune s = pruneFrom (length (s .steiner)) s
 
 -- "Add a pin. The point joins, then a sweep. Where a tap stands, it becomes a pin."
 unfoldable pub insert : Point → State → State

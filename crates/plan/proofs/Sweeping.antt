@@ -4,7 +4,7 @@ use mathlib.Core.Logic.{_⊎_, inl, inr, ⊎-elim, _↔_}
 use mathlib.Core.Bool.{Bool, true, false, not}
 use mathlib.Core.Option.{Option, none, some}
 use mathlib.Core.List.{List, [], _∷_, _++_, map, List·Memᴰ, List·Memᴰ·head as head, List·Memᴰ·tail as tail}
-use Prim.Native.Nat.{ℕ, zero, suc, _+_, _-_, _≤_, _<_}
+use Prim.Native.Nat.{ℕ, suc, _+_, _-_, _≤_, _<_}
 use native.Mathlib.Omega.{arith}
 use lib.Dec.{T, leb, leb→le, le→leb, nleb→lt, ltb}
 use lib.ListN.{length, take, drop, getD, replicate, length-map, List·getD-map, length-append, length-replicate, replicate-append-replicate}
@@ -18,6 +18,7 @@ use Rattle.plane.proofs.Order.{nat-order}
 use Rattle.model.specs.Set.{out, has, union, rising}
 use Rattle.model.specs.Tree.{mst, edgesAt}
 use Rattle.model.specs.State.{State, points, strong, weakest, without, pruneFrom, prune}
+use Rattle.model.proofs.Prune.{prune-step, prune-stop}
 use Rattle.model.proofs.Set.{out-in, out-sorted, out-length, has-in, union-in, rising-sorted}
 use Rattle.sets.specs.Array.{Removed, placeOf}
 use Rattle.sets.proofs.Results.{removed-part, removed-behind, out-most, place-has, place-at}
@@ -91,17 +92,6 @@ planned-degree w p q i =
     (has-in ltb nat-order q (union ltb (take (w .npins) (w .pins)) (take (w .nsteiner) (w .steiner))) .1
     (union-in ltb nat-order (take (w .npins) (w .pins)) (take (w .nsteiner) (w .steiner)) q .1 (inr i))))
 
--- The definition's next step.
-pub prune-step : (k : ℕ) (s : State) (q : Point) → weakest (mst (points s)) (s .steiner) ≡ some q
-    → pruneFrom (suc k) s (mst (points s)) ≡ pruneFrom k (without q s) (mst (points (without q s)))
-unfolding pruneFrom
-prune-step k s q e = ap (λ (o : Option Point). elim o as (λ _. State) [ none ↦ s | some z ↦ pruneFrom k (without z s) (mst (points (without z s))) ]) e
-
-pub prune-stop : (k : ℕ) (s : State) → weakest (mst (points s)) (s .steiner) ≡ none → pruneFrom k s (mst (points s)) ≡ s
-unfolding pruneFrom
-prune-stop zero s e = refl
-prune-stop (suc k) s e = ap (λ (o : Option Point). elim o as (λ _. State) [ none ↦ s | some z ↦ pruneFrom k (without z s) (mst (points (without z s))) ]) e
-
 pub true-of : (b : Bool) → T b → b ≡ true
 true-of true t = refl
 true-of false t = absurd t
@@ -136,7 +126,7 @@ pub record Sweeping (pins : List ℕ) (p : ℕ) (steiner : List ℕ) (t₀ : ℕ
   pub sameRest : w .steiner ≡ rest
   pub sameLeft : w .nsteiner ≡ t
   pub weak : j ≡ firstWeak (take (w .npoints) (w .codes)) (take (w .nkeys) (w .keys)) (take (w .nsteiner) (w .steiner))
-  pub follows : pruneFrom t (stateAt pins p rest t) (mst (points (stateAt pins p rest t))) ≡ prune (stateAt pins p steiner t₀)
+  pub follows : pruneFrom t (stateAt pins p rest t) ≡ prune (stateAt pins p steiner t₀)
 
 pub sweeping-start : (pins : List ℕ) (p : ℕ) (steiner : List ℕ) (t : ℕ) (w : Plan) (j : ℕ) → t ≤ length steiner
     → Planned w × (w .pins ≡ pins) × (w .npins ≡ p) × (w .steiner ≡ steiner) × (w .nsteiner ≡ t)
@@ -150,7 +140,7 @@ sweeping-start pins p steiner t w j h e f =
       sameRest = e .3;
       sameLeft = e .4;
       weak = f;
-      follows = ap (λ (z : ℕ). pruneFrom z (stateAt pins p steiner t) (mst (points (stateAt pins p steiner t)))) (sym (length-map (take t steiner) pointOf ∙ length-take-le t steiner h));
+      follows = ap (λ (z : ℕ). pruneFrom z (stateAt pins p steiner t)) (sym (length-map (take t steiner) pointOf ∙ length-take-le t steiner h));
     }
 
 module _ (pins : List ℕ) (p : ℕ) (steiner : List ℕ) (t₀ : ℕ) (rest : List ℕ) (t : ℕ) (w : Plan) (j : ℕ) (s : Sweeping pins p steiner t₀ rest t w j) where
@@ -207,7 +197,7 @@ module _ (pins : List ℕ) (p : ℕ) (steiner : List ℕ) (t₀ : ℕ) (rest : L
         sameRest = r .3;
         sameLeft = r .4;
         weak = f;
-        follows = ap (λ (z : State). pruneFrom t′ z (mst (points z))) left ∙ sym (prune-step t′ now (pointOf k) (chosen refl search)) ∙ ap (λ (z : ℕ). pruneFrom z now (mst (points now))) (sweeping-less rest′ t′ k h e x) ∙ s .follows;
+        follows = ap (pruneFrom t′) left ∙ sym (prune-step t′ now (pointOf k) (chosen refl search)) ∙ ap (λ (z : ℕ). pruneFrom z now) (sweeping-less rest′ t′ k h e x) ∙ s .follows;
       }
     where
       now : State
