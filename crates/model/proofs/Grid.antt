@@ -36,15 +36,6 @@ unfolding total dist sumGap
 sum-axes p [] = refl
 sum-axes p (n ∷ l) = omega (arith, sum-axes p l)
 
--- Trees over lists with the same members are the same.
-pub tree-members : (ps qs : List Point) (t : List Edge) → ((p : Point) → List·Memᴰ p ps ↔ List·Memᴰ p qs) → Tree planar ps t → Tree planar qs t
-tree-members ps qs t h r =
-    record {
-      ends = λ e i. (h (planar .lo e) .0 (r .ends e i .0), h (planar .hi e) .0 (r .ends e i .1));
-      spans = λ u v i j. r .spans u v (h u .1 i) (h v .1 j);
-      forest = r .forest;
-    }
-
 module _ (ps : List Point) (rising : Sorted Lower ps) (q : Point) (far : ¬ List·Memᴰ q ps) (t : List Edge) (tree : Tree planar (q ∷ ps) t) where
   -- A neighbour of q in the tree is held.
   neighbour-held : (n : Point) → List·Memᴰ n (star q t) → List·Memᴰ n ps

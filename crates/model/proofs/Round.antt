@@ -25,10 +25,10 @@ use Rattle.model.specs.Choice.{Candidate}
 use Rattle.model.specs.Question.{lengthOfState}
 use Rattle.model.specs.Demand3.{RoundsTo, ended, added, NoShorter}
 use Rattle.model.proofs.Set.{put-in, put-sorted}
-use Rattle.model.proofs.Tree.{mst-run-tree}
+use Rattle.model.proofs.Tree.{mst-run-tree, tree-members}
 use Rattle.model.proofs.Prune.{points-in, points-rise, Pruned, prune-leaves, prune-valid}
 use Rattle.model.proofs.Choice.{Choice, none-saves, some-chosen, best-choice, saved-shorter, unsaved-longer}
-use Rattle.model.proofs.Grid.{tree-members, grid-theorem}
+use Rattle.model.proofs.Grid.{grid-theorem}
 
 -- The points with one more Steiner point.
 pub points-with : (s : State) (c : Point) → Sorted Lower (s .steiner) → points (withSteiner c s) ≡ put lower c (points s)

@@ -1,5 +1,5 @@
 -- Kruskal's tree over all edges is THE tree of document 01: a tree, least among all trees, first among equals, and the only
--- such. And any list of edges between the points that connects them is at least as long.
+-- such. Points may come in any order, with repeats: a tree over a list is one over its members, so over the list put in order.
 use mathlib.Core.Path.{_≡_, refl, sym, ap, subst}
 use mathlib.Core.Logic.{_⊎_, inl, inr, ⊎-elim, _↔_}
 use mathlib.Core.List.{List, [], _∷_, _++_, map, List·Memᴰ, List·Memᴰ·head as head, List·Memᴰ·tail as tail, List·Memᴰ·cases-cons as cases, List·Memᴰ·not-nil as not-nil, Memᴰ·append-left, Memᴰ·append-right, List·Memᴰ·append-cases}
@@ -124,6 +124,40 @@ module _ (ps : List Point) (rising : Sorted Lower ps) where
       back : (u : List Edge) → Spanning planar Before (edges ps) u → RunTree ps u
       back u s =
           record { tree = spanning-tree edges-link s; rising = λ e i. edges-in e .0 (s .inside e i) .2; sorted = s .sorted }
+
+-- Lists with the same members have the same trees, and THE tree of the one is that of the other.
+pub tree-members : (ps qs : List Point) (t : List Edge) → ((p : Point) → List·Memᴰ p ps ↔ List·Memᴰ p qs) → Tree planar ps t → Tree planar qs t
+tree-members ps qs t h r =
+    record {
+      ends = λ e i. (h (planar .lo e) .0 (r .ends e i .0), h (planar .hi e) .0 (r .ends e i .1));
+      spans = λ u v i j. r .spans u v (h u .1 i) (h v .1 j);
+      forest = r .forest;
+    }
+
+run-tree-members : (ps qs : List Point) (t : List Edge) → ((p : Point) → List·Memᴰ p ps ↔ List·Memᴰ p qs) → RunTree ps t → RunTree qs t
+run-tree-members ps qs t h r = record { tree = tree-members ps qs t h (r .tree); rising = r .rising; sorted = r .sorted }
+
+the-tree-members : (ps qs : List Point) (t : List Edge) → ((p : Point) → List·Memᴰ p ps ↔ List·Memᴰ p qs) → TheTree ps t → TheTree qs t
+the-tree-members ps qs t h r =
+    record {
+      tree = run-tree-members ps qs t h (r .tree);
+      least = λ u k. r .least u (back u k);
+      first = λ u k. r .first u (back u k);
+    }
+  where
+    back : (u : List Edge) → RunTree qs u → RunTree ps u
+    back u = run-tree-members qs ps u (λ p. (h p .1, h p .0))
+
+-- Points that come in any order, repeats too: THE tree of the list is that of its points put in order, and no other.
+pub any-the-tree : (l : List Point) → TheTree l (mst (sort lower l))
+any-the-tree l =
+    the-tree-members (sort lower l) l (mst (sort lower l)) (sort-in lower lower-order l)
+    (mst-the-tree (sort lower l) (sort-sorted lower lower-order l))
+
+pub any-tree-unique : (l : List Point) (t : List Edge) → TheTree l t → t ≡ mst (sort lower l)
+any-tree-unique l t r =
+    the-tree-unique (sort lower l) (sort-sorted lower lower-order l) t
+    (the-tree-members l (sort lower l) t (λ p. (sort-in lower lower-order l p .1, sort-in lower lower-order l p .0)) r)
 
 -- The tree depends on the set of points and not on the order in which they came.
 pub any-order : (l m : List Point) → ((p : Point) → List·Memᴰ p l ↔ List·Memᴰ p m) → mst (sort lower l) ≡ mst (sort lower m)
