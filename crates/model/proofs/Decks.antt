@@ -2,7 +2,8 @@
 use mathlib.Core.Path.{refl}
 use Rattle.model.specs.Decks.{Holds, Filed, All, play, filed}
 use Rattle.model.specs.Example.{ExampleListing, exampleFile, exampleText, listed}
-use Rattle.model.specs.Table.{table, deck1, deck2, deck3, deck4, deck5, deck6, deck7, deck8, deck9, deck10, sweptByItsRound, sweepOrder, tapLine, secondRemoval, anotherRunJoins, orderOfEntry, equalSavings, octantBorder, refusals}
+use Rattle.model.specs.Table.{table, deck1, deck2, deck3, deck4, deck5, deck6, deck7, deck8, deck9, deck10}
+use Rattle.model.specs.TableMore.{sweptByItsRound, sweepOrder, tapLine, secondRemoval, anotherRunJoins, orderOfEntry, equalSavings, greatestSaving, lowerEndFirst, octantBorder, refusals}
 
 deck1-holds : Holds deck1
 unfolding play deck1
@@ -72,6 +73,14 @@ equalSavings-holds : Holds equalSavings
 unfolding play equalSavings
 equalSavings-holds = refl
 
+greatestSaving-holds : Holds greatestSaving
+unfolding play greatestSaving
+greatestSaving-holds = refl
+
+lowerEndFirst-holds : Holds lowerEndFirst
+unfolding play lowerEndFirst
+lowerEndFirst-holds = refl
+
 octantBorder-holds : Holds octantBorder
 unfolding play octantBorder
 octantBorder-holds = refl
@@ -82,11 +91,11 @@ refusals-holds = refl
 
 pub decks-hold : All Holds table
 unfolding table
-decks-hold = (deck1-holds, (deck2-holds, (deck3-holds, (deck4-holds, (deck5-holds, (deck6-holds, (deck7-holds, (deck8-holds, (deck9-holds, (deck10-holds, (sweptByItsRound-holds, (sweepOrder-holds, (tapLine-holds, (secondRemoval-holds, (anotherRunJoins-holds, (orderOfEntry-holds, (equalSavings-holds, (octantBorder-holds, (refusals-holds, tt)))))))))))))))))))
+decks-hold = (deck1-holds, (deck2-holds, (deck3-holds, (deck4-holds, (deck5-holds, (deck6-holds, (deck7-holds, (deck8-holds, (deck9-holds, (deck10-holds, (sweptByItsRound-holds, (sweepOrder-holds, (tapLine-holds, (secondRemoval-holds, (anotherRunJoins-holds, (orderOfEntry-holds, (equalSavings-holds, (greatestSaving-holds, (lowerEndFirst-holds, (octantBorder-holds, (refusals-holds, tt)))))))))))))))))))))
 
 pub decks-filed : All Filed table
-unfolding table filed deck1 deck2 deck3 deck4 deck5 deck6 deck7 deck8 deck9 deck10 sweptByItsRound sweepOrder tapLine secondRemoval anotherRunJoins orderOfEntry equalSavings octantBorder refusals
-decks-filed = (refl, (refl, (refl, (refl, (refl, (refl, (refl, (refl, (refl, (refl, (refl, (refl, (refl, (refl, (refl, (refl, (refl, (refl, (refl, tt)))))))))))))))))))
+unfolding table filed deck1 deck2 deck3 deck4 deck5 deck6 deck7 deck8 deck9 deck10 sweptByItsRound sweepOrder tapLine secondRemoval anotherRunJoins orderOfEntry equalSavings greatestSaving lowerEndFirst octantBorder refusals
+decks-filed = (refl, (refl, (refl, (refl, (refl, (refl, (refl, (refl, (refl, (refl, (refl, (refl, (refl, (refl, (refl, (refl, (refl, (refl, (refl, (refl, (refl, tt)))))))))))))))))))))
 
 -- Document 01's listing example, by computation.
 pub example-listing : ExampleListing

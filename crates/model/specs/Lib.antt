@@ -12,4 +12,5 @@ pub mod Round
 pub mod Set
 pub mod State
 pub mod Table
+pub mod TableMore
 pub mod Tree
