@@ -1,6 +1,7 @@
 -- Lower, the listing order and the order of runs are strict total orders. One law serves all three: an order by a key, then by another.
+-- The order of runs is what document 01 says: by length, then by the lower end, then by the higher end.
 use mathlib.Core.Path.{_≡_, refl, sym, _∙_, ap, subst, subst⁻¹}
-use mathlib.Core.Logic.{_⊎_, inl, inr, ⊎-elim}
+use mathlib.Core.Logic.{_⊎_, inl, inr, ⊎-elim, _↔_}
 use mathlib.Core.Bool.{Bool, true, false, not}
 use Prim.Native.Nat.{ℕ, _+_, _≤_, _<_}
 use native.Mathlib.Omega.{arith}
@@ -11,7 +12,7 @@ use lib.Signed.{ltZ}
 use Rattle.spanning.specs.Order.{StrictTotal}
 use Rattle.plane.specs.Test.{thenBy}
 use Rattle.plane.specs.Point.{Point, lower, Lower}
-use Rattle.plane.specs.Edge.{Edge, edgeLength, listedBefore, before, Before}
+use Rattle.plane.specs.Edge.{Edge, edgeLength, listedBefore, before, Before, ComesBefore, shorter, byLowerEnd, byHigherEnd}
 use Rattle.plane.proofs.Test.{thenBy-cases, thenBy-first, thenBy-next}
 use Rattle.plane.proofs.Whole.{plus, minus, whole-ext, less-value, value-less}
 
@@ -19,14 +20,15 @@ use Rattle.plane.proofs.Whole.{plus, minus, whole-ext, less-value, valu
 pub tied : {K : Type 0} (less : K → K → Bool) → StrictTotal (λ (a b : K). T (less a b)) → (a b : K) → T (not (less a b)) → T (not (less b a)) → a ≡ b
 tied less o a b f g = ⊎-elim (λ h. absurd (T-not (less a b) f h)) (λ h. ⊎-elim (λ e. e) (λ k. absurd (T-not (less b a) g k)) h) (o .compare a b)
 
+-- Equal, so neither is less.
+not-less : {K : Type 0} (less : K → K → Bool) → StrictTotal (λ (a b : K). T (less a b)) → (a b : K) → a ≡ b → T (not (less a b))
+not-less {K} less o a b e = not-T (less a b) (λ h. o .irrefl b (subst (λ (z : K). T (less z b)) e h))
+
 module _ {A K : Type 0} (key : A → K) (less : K → K → Bool) (o : StrictTotal (λ (a b : K). T (less a b))) (next : A → A → Bool)
     (next-irrefl : (a : A) → ¬ T (next a a)) (next-trans : (a b c : A) → T (next a b) → T (next b c) → T (next a c))
     (next-compare : (a b : A) → key a ≡ key b → T (next a b) ⊎ ((a ≡ b) ⊎ T (next b a))) where
   both : A → A → Bool
   both a b = thenBy (less (key a) (key b)) (less (key b) (key a)) (λ _. next a b)
-
-  not-self : (k : K) → T (not (less k k))
-  not-self k = not-T (less k k) (o .irrefl k)
 
   first-of : (a b : A) → T (less (key a) (key b)) → T (both a b)
   unfolding both
@@ -44,8 +46,7 @@ module _ {A K : Type 0} (key : A → K) (less : K → K → Bool) (o : StrictTot
 
   level : (a b : A) → key a ≡ key b → T (next a b) → T (both a b)
   level a b e h =
-      next-of a b (subst (λ (z : K). T (not (less (key a) z))) e (not-self (key a)))
-      (subst (λ (z : K). T (not (less z (key a)))) e (not-self (key a))) h
+      next-of a b (not-less less o (key a) (key b) e) (not-less less o (key b) (key a) (sym e)) h
 
   both-irrefl : (a : A) → ¬ T (both a a)
   both-irrefl a t = ⊎-elim (o .irrefl (key a)) (λ c. next-irrefl a (c .1)) (cases-of a a t)
@@ -120,6 +121,37 @@ listed-order =
     by-keys (λ (e : Edge). e .lo) lower lower-order (λ (e f : Edge). lower (e .hi) (f .hi))
     (λ e. lower-order .irrefl (e .hi)) (λ e f g. lower-order .trans (e .hi) (f .hi) (g .hi))
     (λ e f p. ⊎-elim (λ h. inl h) (λ r. inr (⊎-elim (λ q. inl (λ i. record { lo = p i; hi = q i })) (λ k. inr k) r)) (lower-order .compare (e .hi) (f .hi)))
+
+-- The test of the order of runs passes exactly if document 01 puts r before s.
+pub before-is : (r s : Edge) → Before r s ↔ ComesBefore r s
+unfolding before listedBefore
+before-is r s = (
+  λ t. ⊎-elim (λ h. shorter (ltb→lt m n h)) (λ c. by-ends (tied ltb nat-order m n (c .0) (c .1)) (c .2))
+      (thenBy-cases (ltb m n) (ltb n m) (λ _. listedBefore r s) t),
+  back,
+)
+  where
+    m : ℕ
+    m = edgeLength r
+
+    n : ℕ
+    n = edgeLength s
+
+    by-ends : m ≡ n → T (listedBefore r s) → ComesBefore r s
+    by-ends e t =
+        ⊎-elim (λ h. byLowerEnd e h) (λ c. byHigherEnd e (tied lower lower-order (r .lo) (s .lo) (c .0) (c .1)) (c .2))
+        (thenBy-cases (lower (r .lo) (s .lo)) (lower (s .lo) (r .lo)) (λ _. lower (r .hi) (s .hi)) t)
+
+    same-length : m ≡ n → T (listedBefore r s) → Before r s
+    same-length e t =
+        thenBy-next (ltb m n) (ltb n m) (λ _. listedBefore r s) (not-less ltb nat-order m n e) (not-less ltb nat-order n m (sym e)) t
+
+    back : ComesBefore r s → Before r s
+    back (shorter h) = thenBy-first (ltb m n) (ltb n m) (λ _. listedBefore r s) (lt→ltb m n h)
+    back (byLowerEnd e h) = same-length e (thenBy-first (lower (r .lo) (s .lo)) (lower (s .lo) (r .lo)) (λ _. lower (r .hi) (s .hi)) h)
+    back (byHigherEnd e p h) =
+        same-length e (thenBy-next (lower (r .lo) (s .lo)) (lower (s .lo) (r .lo)) (λ _. lower (r .hi) (s .hi))
+        (not-less lower lower-order (r .lo) (s .lo) p) (not-less lower lower-order (s .lo) (r .lo) (sym p)) h)
 
 -- The order of runs: by length, then by the listing order.
 pub before-order : StrictTotal Before

@@ -1,6 +1,7 @@
 -- Edges (document 01: runs) and their order.
+use mathlib.Core.Path.{_≡_}
 use mathlib.Core.Bool.{Bool}
-use Prim.Native.Nat.{ℕ}
+use Prim.Native.Nat.{ℕ, _<_}
 use lib.Dec.{T, ltb}
 use Rattle.spanning.specs.Graph.{Graph}
 use Rattle.plane.specs.Test.{if, thenBy}
@@ -36,6 +37,13 @@ before r s =
 
 abbrev pub Before : Edge → Edge → Type 0
 Before r s = T (before r s)
+
+-- The same order as a relation: r is shorter than s; or of the same length with the lower of the lower ends; or it has the same lower
+-- end too, and the lower of the higher ends.
+pub data ComesBefore (r s : Edge) : Type 0 where
+  shorter : edgeLength r < edgeLength s → ComesBefore r s
+  byLowerEnd : edgeLength r ≡ edgeLength s → Lower (r .lo) (s .lo) → ComesBefore r s
+  byHigherEnd : edgeLength r ≡ edgeLength s → r .lo ≡ s .lo → Lower (r .hi) (s .hi) → ComesBefore r s
 
 -- Points and edges as a graph.
 unfoldable pub planar : Graph Point Edge
