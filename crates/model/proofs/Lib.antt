@@ -1,5 +1,6 @@
 pub mod Bounds
 pub mod Bytes
+pub mod CallRefusal
 pub mod Candidate
 pub mod Choice
 pub mod Cover

@@ -1,4 +1,4 @@
--- Document 01's table of decks: rows of one shape, and the statement that each of them holds.
+-- Document 01's table of decks: its rows, and the one statement that each of them holds.
 use mathlib.Core.Path.{_≡_}
 use mathlib.Core.List.{List, [], _∷_}
 use Prim.Native.Nat.{ℕ}
@@ -8,6 +8,7 @@ use Rattle.spanning.specs.Kruskal.{comp, kruskal}
 use Rattle.plane.specs.Point.{Point, lower, gap, dist, pointDec}
 use Rattle.plane.specs.Edge.{Edge, before, listedBefore, planar}
 use Rattle.plane.specs.Coordinate.{signed16, word16}
+use Rattle.plane.specs.OctantTable.{octants}
 use Rattle.model.specs.Set.{put, out, has, union, rising, all}
 use Rattle.model.specs.Refusal.{firstFailed}
 use Rattle.model.specs.Tree.{pairs, edges, mst, treeLength}
@@ -33,27 +34,42 @@ play s (c ∷ cs) =
     let t = play (o .next) cs in
     record { replies = o .reply ∷ t .replies; lengths = lengthOfState s ∷ t .lengths; last = t .last; runs = t .runs }
 
--- A row: pins to begin with, calls, and what they must show.
-pub record Row : Type 0 where
+-- What reading a list of bytes gives.
+unfoldable pub reads : List ℕ → Read
+unfolding play rising all placed valid signed16 word16 sectionOf numberOf runBytes sameBytes pointsOf readBy readFile
+reads b = readFile b
+
+-- A row of calls: pins to begin with, calls, and what they must show.
+pub record DeckRow : Type 0 where
   pub start : List Point
   pub calls : List Call
   pub shows : Trace
 
-abbrev pub startOf : Row → State
+abbrev pub startOf : DeckRow → State
 startOf r = record { pins = r .start; steiner = [] }
 
--- The row's calls show what it says.
+-- A row of the table: calls and what they show; differences and their octants; a file and what reading it gives.
+pub data Row : Type 0 where
+  deckRow : DeckRow → Row
+  octantRow : List Point → List ℕ → Row
+  fileRow : List ℕ → Read → Row
+
+-- The row holds.
 abbrev pub Holds : Row → Type 0
-Holds r = play (startOf r) (r .calls) ≡ r .shows
+Holds (deckRow r) = play (startOf r) (r .calls) ≡ r .shows
+Holds (octantRow differences numbers) = octants differences ≡ numbers
+Holds (fileRow b r) = reads b ≡ r
 
 -- What reading the file of a state gives.
 unfoldable pub filed : State → Read
-unfolding play rising all placed valid signed16 word16 sectionOf numberOf runBytes fileOf sameBytes pointsOf readBy readFile
-filed s = readFile (fileOf s)
+unfolding reads fileOf
+filed s = reads (fileOf s)
 
--- The file of the row's last state reads back to it.
+-- The file of the last state of a row of calls reads back to it.
 abbrev pub Filed : Row → Type 0
-Filed r = filed (r .shows .last) ≡ deck (r .shows .last)
+Filed (deckRow r) = filed (r .shows .last) ≡ deck (r .shows .last)
+Filed (octantRow differences numbers) = Unit {0}
+Filed (fileRow b r) = Unit {0}
 
 -- Every row of a list.
 abbrev pub All : (Row → Type 0) → List Row → Type 0

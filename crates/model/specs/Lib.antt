@@ -1,4 +1,5 @@
 pub mod Call
+pub mod CallRefusal
 pub mod Choice
 pub mod Decks
 pub mod Demand3
@@ -12,5 +13,6 @@ pub mod Round
 pub mod Set
 pub mod State
 pub mod Table
+pub mod TableFiles
 pub mod TableMore
 pub mod Tree

@@ -1,13 +1,14 @@
--- Document 01's table of decks: its own rows, and those of specs/TableMore.antt. Each is proved in proofs/Decks.antt.
+-- Document 01's table of decks: its own rows, and those of specs/TableMore.antt and specs/TableFiles.antt. Each is proved in proofs/Decks.antt.
 use mathlib.Core.List.{List, [], _∷_}
 use lib.IntN.{pos, negsuc}
 use Rattle.model.specs.Round.{finished, tap}
 use Rattle.model.specs.Call.{add, withdraw, oneRound, runToEnd, done, answered, rounds}
-use Rattle.model.specs.Decks.{Row, at, from}
+use Rattle.model.specs.Decks.{DeckRow, Row, deckRow, octantRow, at, from}
+use Rattle.model.specs.TableFiles.{otherStart, sectionsApart, unevenSection, pinTooMany, pinTwice, runTurned, fullFile, plainFile}
 use Rattle.model.specs.TableMore.{sweptByItsRound, sweepOrder, tapLine, secondRemoval, anotherRunJoins, orderOfEntry, equalSavings, greatestSaving, lowerEndFirst, octantBorder, refusals}
 
 -- 1. "no pin: length 0, finished"
-unfoldable pub deck1 : Row
+unfoldable pub deck1 : DeckRow
 deck1 =
     record {
       start = [];
@@ -22,7 +23,7 @@ deck1 =
     }
 
 -- 2. "pin (7,−3): length 0, finished"
-unfoldable pub deck2 : Row
+unfoldable pub deck2 : DeckRow
 deck2 =
     record {
       start = record { x = pos 7; y = negsuc 2 } ∷ [];
@@ -37,7 +38,7 @@ deck2 =
     }
 
 -- 3. "(−5,0), (5,4): length 14, finished"
-unfoldable pub deck3 : Row
+unfoldable pub deck3 : DeckRow
 deck3 =
     record {
       start = record { x = negsuc 4; y = pos 0 } ∷ at 5 4 ∷ [];
@@ -52,7 +53,7 @@ deck3 =
     }
 
 -- 4. "the deck above: 23, then 18 after one round"
-unfoldable pub deck4 : Row
+unfoldable pub deck4 : DeckRow
 deck4 =
     record {
       start = at 0 0 ∷ at 5 8 ∷ at 10 0 ∷ [];
@@ -67,7 +68,7 @@ deck4 =
     }
 
 -- 5. "(0,5), (5,0), (5,10), (10,5): 30; tap (5,5); 20"
-unfoldable pub deck5 : Row
+unfoldable pub deck5 : DeckRow
 deck5 =
     record {
       start = at 0 5 ∷ at 5 0 ∷ at 5 10 ∷ at 10 5 ∷ [];
@@ -82,7 +83,7 @@ deck5 =
     }
 
 -- 6. "deck 5 finished, (10,5) withdrawn: 15, tap kept"
-unfoldable pub deck6 : Row
+unfoldable pub deck6 : DeckRow
 deck6 =
     record {
       start = at 0 5 ∷ at 5 0 ∷ at 5 10 ∷ at 10 5 ∷ [];
@@ -97,7 +98,7 @@ deck6 =
     }
 
 -- 7. "then (5,10) withdrawn: 10, no tap"
-unfoldable pub deck7 : Row
+unfoldable pub deck7 : DeckRow
 deck7 =
     record {
       start = at 0 5 ∷ at 5 0 ∷ at 5 10 ∷ at 10 5 ∷ [];
@@ -112,7 +113,7 @@ deck7 =
     }
 
 -- 8. "deck 5 finished, pin added at (5,5): five pins, no tap, 20"
-unfoldable pub deck8 : Row
+unfoldable pub deck8 : DeckRow
 deck8 =
     record {
       start = at 0 5 ∷ at 5 0 ∷ at 5 10 ∷ at 10 5 ∷ [];
@@ -127,7 +128,7 @@ deck8 =
     }
 
 -- 9. "(0,0), (0,10), (10,0), (10,10): 30, without the run (10,0) to (10,10), finished"
-unfoldable pub deck9 : Row
+unfoldable pub deck9 : DeckRow
 deck9 =
     record {
       start = at 0 0 ∷ at 0 10 ∷ at 10 0 ∷ at 10 10 ∷ [];
@@ -142,7 +143,7 @@ deck9 =
     }
 
 -- 10. "(0,0), (5,8), (10,0), (40,0), (45,8), (50,0): 76; taps (5,0), then (45,0); 66 after two rounds"
-unfoldable pub deck10 : Row
+unfoldable pub deck10 : DeckRow
 deck10 =
     record {
       start = at 0 0 ∷ at 5 8 ∷ at 10 0 ∷ at 40 0 ∷ at 45 8 ∷ at 50 0 ∷ [];
@@ -156,9 +157,15 @@ deck10 =
           };
     }
 
+-- 11. The octants of four differences.
+unfoldable pub deck11 : Row
+deck11 = octantRow (at 1 0 ∷ at 1 1 ∷ at 0 1 ∷ record { x = negsuc 0; y = pos 1 } ∷ []) (0 ∷ 1 ∷ 2 ∷ 3 ∷ [])
+
 -- The table.
 unfoldable pub table : List Row
 table =
-    deck1 ∷ deck2 ∷ deck3 ∷ deck4 ∷ deck5 ∷ deck6 ∷ deck7 ∷ deck8 ∷ deck9 ∷ deck10
-    ∷ sweptByItsRound ∷ sweepOrder ∷ tapLine ∷ secondRemoval ∷ anotherRunJoins ∷ orderOfEntry
-    ∷ equalSavings ∷ greatestSaving ∷ lowerEndFirst ∷ octantBorder ∷ refusals ∷ []
+    deckRow deck1 ∷ deckRow deck2 ∷ deckRow deck3 ∷ deckRow deck4 ∷ deckRow deck5 ∷ deckRow deck6 ∷ deckRow deck7 ∷ deckRow deck8
+    ∷ deckRow deck9 ∷ deckRow deck10 ∷ deck11 ∷ deckRow sweptByItsRound ∷ deckRow sweepOrder ∷ deckRow tapLine
+    ∷ deckRow secondRemoval ∷ deckRow anotherRunJoins ∷ deckRow orderOfEntry ∷ deckRow equalSavings ∷ deckRow greatestSaving
+    ∷ deckRow lowerEndFirst ∷ deckRow octantBorder ∷ deckRow refusals
+    ∷ otherStart ∷ sectionsApart ∷ unevenSection ∷ pinTooMany ∷ pinTwice ∷ runTurned ∷ fullFile ∷ plainFile ∷ []

@@ -3,10 +3,10 @@ use mathlib.Core.List.{[], _∷_}
 use lib.IntN.{pos, negsuc}
 use Rattle.model.specs.Round.{tap}
 use Rattle.model.specs.Call.{add, withdraw, oneRound, runToEnd, done, refused, answered, rounds}
-use Rattle.model.specs.Decks.{Row, at, from}
+use Rattle.model.specs.Decks.{DeckRow, at, from}
 
 -- A round that sweeps out its own tap, and whose fall, 2, is above its saving, 1.
-unfoldable pub sweptByItsRound : Row
+unfoldable pub sweptByItsRound : DeckRow
 sweptByItsRound =
     record {
       start = [];
@@ -21,7 +21,7 @@ sweptByItsRound =
     }
 
 -- A sweep whose order matters: the lowest of (1,1) and (3,1) goes, and then (3,1) stays.
-unfoldable pub sweepOrder : Row
+unfoldable pub sweepOrder : DeckRow
 sweepOrder =
     record {
       start = [];
@@ -36,7 +36,7 @@ sweepOrder =
     }
 
 -- A candidate on a line that only a tap has, after a withdrawal.
-unfoldable pub tapLine : Row
+unfoldable pub tapLine : DeckRow
 tapLine =
     record {
       start = [];
@@ -51,7 +51,7 @@ tapLine =
     }
 
 -- A removal that leaves another tap with two runs, by the tree of the points left.
-unfoldable pub secondRemoval : Row
+unfoldable pub secondRemoval : DeckRow
 secondRemoval =
     record {
       start = [];
@@ -66,7 +66,7 @@ secondRemoval =
     }
 
 -- A tap leaves, and a run shorter than that between its two neighbours joins the halves.
-unfoldable pub anotherRunJoins : Row
+unfoldable pub anotherRunJoins : DeckRow
 anotherRunJoins =
     record {
       start = [];
@@ -81,7 +81,7 @@ anotherRunJoins =
     }
 
 -- Pins added in falling order: the tree is that of the set.
-unfoldable pub orderOfEntry : Row
+unfoldable pub orderOfEntry : DeckRow
 orderOfEntry =
     record {
       start = [];
@@ -96,7 +96,7 @@ orderOfEntry =
     }
 
 -- Two candidates of equal greatest saving, (0,1) and (1,0): the lower.
-unfoldable pub equalSavings : Row
+unfoldable pub equalSavings : DeckRow
 equalSavings =
     record {
       start = [];
@@ -111,7 +111,7 @@ equalSavings =
     }
 
 -- A candidate, (0,1), that comes first and saves 1, and a higher one, (1,1), that saves 2: the greater saving.
-unfoldable pub greatestSaving : Row
+unfoldable pub greatestSaving : DeckRow
 greatestSaving =
     record {
       start = at 0 0 ∷ at 1 3 ∷ at 3 1 ∷ [];
@@ -126,7 +126,7 @@ greatestSaving =
     }
 
 -- Runs of equal length, (0,2) to (3,2) and (1,0) to (3,1): the first has the lower lower end, the second the lower higher end. The first.
-unfoldable pub lowerEndFirst : Row
+unfoldable pub lowerEndFirst : DeckRow
 lowerEndFirst =
     record {
       start = at 0 2 ∷ at 1 0 ∷ at 3 1 ∷ at 3 2 ∷ [];
@@ -141,7 +141,7 @@ lowerEndFirst =
     }
 
 -- (0,0) joins (2,−2), (2,2) and (5,0): its run to (5,0) comes first among three of length 5.
-unfoldable pub octantBorder : Row
+unfoldable pub octantBorder : DeckRow
 octantBorder =
     record {
       start = record { x = pos 2; y = negsuc 1 } ∷ at 2 2 ∷ at 5 0 ∷ [];
@@ -156,7 +156,7 @@ octantBorder =
     }
 
 -- Refused calls leave the deck: 7 out of range, 8 a pin there, 9 no pin there, a tap and out of range included.
-unfoldable pub refusals : Row
+unfoldable pub refusals : DeckRow
 refusals =
     record {
       start = at 0 0 ∷ at 5 8 ∷ at 10 0 ∷ [];

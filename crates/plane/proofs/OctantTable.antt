@@ -1,10 +1,6 @@
--- Document 01's examples of octants, by computation.
+-- The examples of octants, by computation.
 use mathlib.Core.Path.{refl}
-use Rattle.plane.specs.OctantTable.{octants, Deck11, Borders, star, Joined, LowerOfEquals}
-
-pub deck11 : Deck11
-unfolding octants
-deck11 = refl
+use Rattle.plane.specs.OctantTable.{octants, Borders, star, Joined, LowerOfEquals}
 
 pub borders : Borders
 unfolding octants

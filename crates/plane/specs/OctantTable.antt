@@ -1,4 +1,4 @@
--- Document 01's examples of octants, as two tables.
+-- Examples of octants and of nearest points.
 use mathlib.Core.Path.{_≡_}
 use mathlib.Core.Option.{Option, none, some}
 use mathlib.Core.List.{List, [], _∷_}
@@ -16,10 +16,6 @@ octants (d ∷ l) = octant (d .x) (d .y) ∷ octants l
 
 abbrev pub at : ℤ → ℤ → Point
 at x y = record { x = x; y = y }
-
--- 11. "differences (1,0), (1,1), (0,1), (−1,1): octants 0, 1, 2, 3"
-abbrev pub Deck11 : Type 0
-Deck11 = octants (at (pos 1) (pos 0) ∷ at (pos 1) (pos 1) ∷ at (pos 0) (pos 1) ∷ at (negsuc 0) (pos 1) ∷ []) ≡ 0 ∷ 1 ∷ 2 ∷ 3 ∷ []
 
 -- The borders of all eight octants in turn, and a difference inside each; 8 is the answer for no difference.
 abbrev pub Borders : Type 0
