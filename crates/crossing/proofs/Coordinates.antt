@@ -12,8 +12,8 @@ use Rattle.plane.specs.Point.{Point}
 use Rattle.plane.specs.Coordinate.{coordinate}
 use Rattle.plane.proofs.Order.{nat-order}
 use Rattle.plane.proofs.Stored.{coordinate-less}
-use Rattle.model.specs.Set.{sort}
-use Rattle.model.proofs.Set.{sort-in}
+use Rattle.model.specs.Set.{setOf}
+use Rattle.model.proofs.Set.{set-of-in}
 use Rattle.model.proofs.SetMap.{union-map}
 use Rattle.sets.proofs.Rising.{get-in}
 use Rattle.tree.specs.Held.{held}
@@ -31,19 +31,19 @@ unfolding tab
 take-tab l zero h = refl
 take-tab l (suc n) h = take-suc l n 0 h ∙ ap (λ (k : List ℕ). k ++ (getD l n 0 ∷ [])) (take-tab l n (omega arith))
 
-stored-lines : (l : List ℕ) → sort ltZ (map coordinate l) ≡ map coordinate (sort ltb l)
+stored-lines : (l : List ℕ) → setOf ltZ (map coordinate l) ≡ map coordinate (setOf ltb l)
 stored-lines l =
     sym (union-map coordinate ltb ltZ (λ _. Unit {0}) (λ a b p q. sym (coordinate-less a b)) nat-order l [] (λ a i. tt) (λ a i. tt))
 
-pub stored-xs : (xs ys : List ℕ) (n : ℕ) → n ≤ length xs → xsOf (pointsOf xs ys n) ≡ map coordinate (sort ltb (take n xs))
+pub stored-xs : (xs ys : List ℕ) (n : ℕ) → n ≤ length xs → xsOf (pointsOf xs ys n) ≡ map coordinate (setOf ltb (take n xs))
 stored-xs xs ys n h =
-    ap (sort ltZ)
+    ap (setOf ltZ)
     (map-tab (λ (p : Point). p .x) (held xs ys) n ∙ sym (map-tab coordinate (λ (i : ℕ). getD xs i 0) n) ∙ ap (map coordinate) (sym (take-tab xs n h)))
     ∙ stored-lines (take n xs)
 
-pub stored-ys : (xs ys : List ℕ) (n : ℕ) → n ≤ length ys → ysOf (pointsOf xs ys n) ≡ map coordinate (sort ltb (take n ys))
+pub stored-ys : (xs ys : List ℕ) (n : ℕ) → n ≤ length ys → ysOf (pointsOf xs ys n) ≡ map coordinate (setOf ltb (take n ys))
 stored-ys xs ys n h =
-    ap (sort ltZ)
+    ap (setOf ltZ)
     (map-tab (λ (p : Point). p .y) (held xs ys) n ∙ sym (map-tab coordinate (λ (i : ℕ). getD ys i 0) n) ∙ ap (map coordinate) (sym (take-tab ys n h)))
     ∙ stored-lines (take n ys)
 
@@ -56,6 +56,6 @@ word-in (a ∷ l) (suc n) v w i = ⊎-elim (λ e. omega (arith, e, w 0)) (λ j. 
 pub line-word : (values : List ℕ) (n : ℕ) (to : List ℕ) (count i : ℕ) → Words values → Lines values n to count → i < count → getD to i 0 < 65536
 line-word values n to count i w p h =
     word-in values n (getD to i 0) w
-    (sort-in ltb nat-order (take n values) (getD to i 0) .0
-    (subst (λ (v : ℕ). List·Memᴰ v (sort ltb (take n values))) (getD-take count to i 0 h)
+    (set-of-in ltb nat-order (take n values) (getD to i 0) .0
+    (subst (λ (v : ℕ). List·Memᴰ v (setOf ltb (take n values))) (getD-take count to i 0 h)
     (subst (λ (l : List ℕ). List·Memᴰ (getD (take count to) i 0) l) (p .same) (get-in (take count to) i (omega (arith, length-take-le count to (p .within)))))))

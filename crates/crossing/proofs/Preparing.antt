@@ -11,9 +11,9 @@ use lib.Seq.{getD-take, length-take-le}
 use Rattle.plane.specs.Point.{Point}
 use Rattle.plane.specs.Coordinate.{coordinate}
 use Rattle.plane.proofs.Order.{nat-order}
-use Rattle.model.specs.Set.{union, sort}
+use Rattle.model.specs.Set.{union, setOf}
 use Rattle.model.specs.Round.{crossings, notHeld, candidates, bestAbove, best}
-use Rattle.model.proofs.Set.{sort-sorted}
+use Rattle.model.proofs.Set.{set-of-sorted}
 use Rattle.sets.specs.Array.{Written}
 use Rattle.sets.proofs.Results.{written-part, union-most}
 use Rattle.sets.proofs.Rising.{get-rises}
@@ -33,11 +33,11 @@ use Rattle.crossing.proofs.Coordinates.{stored-xs, stored-ys, line-word
 use Rattle.crossing.proofs.Scan.{try-crossings}
 
 -- What `lines` wrote are the lines.
-pub lines-written : (values : List ℕ) (n : ℕ) {before after : List ℕ} {r : ℕ} → Written (sort ltb (take n values)) before after r → Lines values n after r
+pub lines-written : (values : List ℕ) (n : ℕ) {before after : List ℕ} {r : ℕ} → Written (setOf ltb (take n values)) before after r → Lines values n after r
 lines-written values n {before} {after} {r} w =
     record {
-      within = omega (arith, w .count, ap length (w .shows), length-append (sort ltb (take n values)) (drop (length (sort ltb (take n values))) before));
-      same = written-part (sort ltb (take n values)) before after r w;
+      within = omega (arith, w .count, ap length (w .shows), length-append (setOf ltb (take n values)) (drop (length (setOf ltb (take n values))) before));
+      same = written-part (setOf ltb (take n values)) before after r w;
     }
 
 -- The lines of a list of values are stored coordinates that rise, no more than there are values.
@@ -55,17 +55,17 @@ module _ {values : List ℕ} {n : ℕ} {to : List ℕ} {count : ℕ} (p : Lines 
         rises = λ r s l k.
             let q : getD (take count to) r 0 < getD (take count to) s 0 =
             subst⁻¹ (λ (z : List ℕ). getD z r 0 < getD z s 0) (p .same)
-            (get-rises (sort ltb (take n values)) (sort-sorted ltb nat-order (take n values)) r s l (omega (arith, k, size, ap length (p .same)))) in
+            (get-rises (setOf ltb (take n values)) (set-of-sorted ltb nat-order (take n values)) r s l (omega (arith, k, size, ap length (p .same)))) in
             omega (arith, q, getD-take count to r 0 (omega arith), getD-take count to s 0 k);
       }
 
 -- The columns are the lines of the points' x, and the rows those of their y.
 pub columns-written : {xs ys : List ℕ} {n : ℕ} {keys : List ℕ} {m : ℕ} → TreeGiven xs ys n keys m → Words xs → {before after : List ℕ} {r : ℕ}
-    → Written (sort ltb (take n xs)) before after r → Stored after r
+    → Written (setOf ltb (take n xs)) before after r → Stored after r
 columns-written {xs = xs} {n = n} p w z = lines-stored (lines-written xs n z) w
 
 pub rows-written : {xs ys : List ℕ} {n : ℕ} {keys : List ℕ} {m : ℕ} → TreeGiven xs ys n keys m → Words ys → {before after : List ℕ} {r : ℕ}
-    → Written (sort ltb (take n ys)) before after r → RowsGiven after r
+    → Written (setOf ltb (take n ys)) before after r → RowsGiven after r
 rows-written {ys = ys} {n = n} p w z = lines-rows (lines-written ys n z) w (omega (arith, p .few))
 
 -- The table, the distances and the ranks are what the search over columns asks.

@@ -11,7 +11,7 @@ use Rattle.plane.specs.Test.{if}
 use Rattle.plane.specs.Point.{Point}
 use Rattle.plane.specs.Coordinate.{biased}
 use Rattle.plane.specs.Stored.{pointAt}
-use Rattle.model.specs.Set.{sort}
+use Rattle.model.specs.Set.{setOf}
 use Rattle.tree.specs.Build.{Rises}
 use Rattle.tree.specs.Held.{held}
 use Rattle.tree.specs.Keys.{tab, treeKeys}
@@ -36,7 +36,7 @@ pub record TreeGiven (xs ys : List ℕ) (n : ℕ) (keys : List ℕ) (m : ℕ) : 
 -- The different values among the first n stand in the first `count` places, least first.
 pub record Lines (values : List ℕ) (n : ℕ) (to : List ℕ) (count : ℕ) : Type 0 where
   pub within : count ≤ length to
-  pub same : take count to ≡ sort ltb (take n values)
+  pub same : take count to ≡ setOf ltb (take n values)
 
 -- The first n points, lower first.
 abbrev pub pointsOf : List ℕ → List ℕ → ℕ → List Point
@@ -49,10 +49,10 @@ answerOf (some p) = At (biased (p .x)) (biased (p .y))
 
 -- The x of the points, least first, and the y.
 abbrev pub xsOf : List Point → List ℤ
-xsOf ps = sort ltZ (map (λ (p : Point). p .x) ps)
+xsOf ps = setOf ltZ (map (λ (p : Point). p .x) ps)
 
 abbrev pub ysOf : List Point → List ℤ
-ysOf ps = sort ltZ (map (λ (p : Point). p .y) ps)
+ysOf ps = setOf ltZ (map (λ (p : Point). p .y) ps)
 
 -- What the search over columns asks: room for the codes of a column, and the table.
 pub record SearchGiven (xs : List ℕ) (n : ℕ) (table gaps ranks rows : List ℕ) (count : ℕ) : Type 0 where

@@ -18,12 +18,12 @@ use Rattle.plane.specs.Coordinate.{coordinate}
 use Rattle.plane.specs.Stored.{pointAt}
 use Rattle.plane.specs.Edge.{Edge as PlaneEdge, planar, listedBefore}
 use Rattle.plane.proofs.Order.{lower-order, listed-order}
-use Rattle.model.specs.Set.{has, sort}
+use Rattle.model.specs.Set.{has, setOf}
 use Rattle.model.specs.Tree.{mst, edgesAt}
 use Rattle.model.specs.State.{State, points, Valid}
 use Rattle.model.specs.File.{numberOf}
 use Rattle.model.specs.Question as question
-use Rattle.model.proofs.Set.{has-in, sort-in}
+use Rattle.model.proofs.Set.{has-in, set-of-in}
 use Rattle.model.proofs.Tree.{mst-run-tree}
 use Rattle.model.proofs.Prune.{points-in, points-rise}
 use Rattle.model.proofs.FileSize.{listed-count, number-below}
@@ -155,7 +155,7 @@ module _ (d : Deck) (s : Sound d) (w : Plan) (p : work.Planned w) (same : work.s
       ends = unfold deckOf in λ i. s .same i .ends
 
       in-tree : (e : PlaneEdge) → List·Memᴰ e (question.listed (stateOf d)) → List·Memᴰ e (mst (points (stateOf d)))
-      in-tree e i = unfold question.listed in sort-in listedBefore listed-order (mst (points (stateOf d))) e .0 i
+      in-tree e i = unfold question.listed in set-of-in listedBefore listed-order (mst (points (stateOf d))) e .0 i
 
 -- The answers from those of a working form.
 pub length-answer : (n : ℕ) (s s′ : State) → n ≡ question.lengthOfState s → s ≡ s′ → Length n ≡ lengthAnswer s′

@@ -15,10 +15,10 @@ use Rattle.plane.proofs.Test.{and-parts, and-both}
 use Rattle.plane.proofs.Order.{nat-order, lower-order}
 use Rattle.model.specs.Set.{rising, all, has}
 use Rattle.model.specs.Tree.{mst, edgesAt}
-use Rattle.model.specs.State.{State, points, Placed, Valid, weakest}
+use Rattle.model.specs.State.{State, points, Placed, Valid, lowestWeak}
 use Rattle.model.specs.File.{sameBytes}
 use Rattle.model.proofs.Set.{all-in, has-not, rising-sorted}
-use Rattle.model.proofs.Prune.{Weakest, all-strong, weak, weakest-view, few-steiner}
+use Rattle.model.proofs.Prune.{LowestWeakView, all-strong, weak, lowest-weak-view, few-steiner}
 use Rattle.model.proofs.Candidate.{map-in}
 use Rattle.model.proofs.FileParts.{same-eq, same-refl}
 use Rattle.sets.specs.Array.{noneIn, allZero}

@@ -7,7 +7,7 @@ use lib.Dec.{ltb}
 use lib.ListN.{length, take, drop, replicate, take-append-drop}
 use lib.Seq.{length-take-le}
 use Rattle.plane.specs.Edge.{listedBefore}
-use Rattle.model.specs.Set.{sort}
+use Rattle.model.specs.Set.{setOf}
 use Rattle.model.specs.Tree.{mst}
 use Rattle.model.specs.State.{State, points}
 use Rattle.model.specs.Question.{listed}
@@ -42,14 +42,14 @@ codes-row a n c =
     full = length-take-le n a (omega (arith, c .few, c .size))
 
 -- The ends of the keys are those of the state's runs in the listing order.
-pub plan-ends : (w : Plan) → work.Planned w → sort ltb (map endsOf (take (w .nkeys) (w .keys))) ≡ map (endsAt (points (work.stateOf w))) (listed (work.stateOf w))
+pub plan-ends : (w : Plan) → work.Planned w → setOf ltb (map endsOf (take (w .nkeys) (w .keys))) ≡ map (endsAt (points (work.stateOf w))) (listed (work.stateOf w))
 unfolding listed
 plan-ends w p =
-    ap (λ (l : List ℕ). sort ltb (map endsOf l)) (p .tree)
+    ap (λ (l : List ℕ). setOf ltb (map endsOf l)) (p .tree)
     ∙ sym (ends-listed (held (w .xs) (w .ys)) (w .npoints) (omega (arith, p .few)) (p .rises))
-    ∙ ap (λ l. map (endsAt l) (sort listedBefore (mst l))) (p .points)
+    ∙ ap (λ l. map (endsAt l) (setOf listedBefore (mst l))) (p .points)
 
-pub plan-deck : (w : Plan) → work.Planned w → (ends : List ℕ) (r : ℕ) → Front (sort ltb (map endsOf (take (w .nkeys) (w .keys)))) (replicate 128 0) ends r
+pub plan-deck : (w : Plan) → work.Planned w → (ends : List ℕ) (r : ℕ) → Front (setOf ltb (map endsOf (take (w .nkeys) (w .keys)))) (replicate 128 0) ends r
     → record { pins = w .pins; npins = w .npins; steiner = w .steiner; nsteiner = w .nsteiner; ends = ends } ≡ deckOf (work.stateOf w)
 unfolding deckOf zeros
 plan-deck w p ends r f =
@@ -62,7 +62,7 @@ plan-deck w p ends r f =
     }
   where
     L : List ℕ
-    L = sort ltb (map endsOf (take (w .nkeys) (w .keys)))
+    L = setOf ltb (map endsOf (take (w .nkeys) (w .keys)))
 
     listing : ends ≡ row 128 (map (endsAt (points (work.stateOf w))) (listed (work.stateOf w)))
     listing = f .front ∙ ap (λ (l : List ℕ). L ++ l) (drop-zeros 128 (length L)) ∙ ap (row 128) (plan-ends w p)

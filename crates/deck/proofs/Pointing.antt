@@ -13,9 +13,9 @@ use Rattle.plane.specs.Test.{if}
 use Rattle.plane.specs.Point.{Point}
 use Rattle.plane.proofs.Test.{and-parts, and-both}
 use Rattle.model.specs.Tree.{mst, edgesAt}
-use Rattle.model.specs.State.{State, empty, points, Placed, Valid, valid, weakest}
+use Rattle.model.specs.State.{State, empty, points, Placed, Valid, valid, lowestWeak}
 use Rattle.model.specs.File.{sameBytes}
-use Rattle.model.proofs.Prune.{Weakest, all-strong, weak, weakest-view}
+use Rattle.model.proofs.Prune.{LowestWeakView, all-strong, weak, lowest-weak-view}
 use Rattle.model.proofs.Validity.{valid-is}
 use Rattle.model.proofs.FileParts.{same-eq}
 use Rattle.plan.specs.Weak.{firstWeak}
@@ -40,38 +40,38 @@ module _ (d : Deck) (w : Plan) (p : work.Planned w) (e₁ : w .pins ≡ d .pins)
   full : length (take (w .nsteiner) (w .steiner)) ≡ d .nsteiner
   full = length-take-le (w .nsteiner) (w .steiner) (omega (arith, p .arranged .steinerCodes .few, p .arranged .steinerCodes .size)) ∙ e₄
 
-  search : Found (take (w .nsteiner) (w .steiner)) (weakest (mst (points (work.stateOf w))) (work.stateOf w .steiner)) j
+  search : Found (take (w .nsteiner) (w .steiner)) (lowestWeak (mst (points (work.stateOf w))) (work.stateOf w .steiner)) j
   search =
-      subst⁻¹ (Found (take (w .nsteiner) (w .steiner)) (weakest (mst (points (work.stateOf w))) (work.stateOf w .steiner))) is
+      subst⁻¹ (Found (take (w .nsteiner) (w .steiner)) (lowestWeak (mst (points (work.stateOf w))) (work.stateOf w .steiner))) is
       (found (take (w .npoints) (w .codes)) (take (w .nkeys) (w .keys)) (mst (points (work.stateOf w))) (take (w .nsteiner) (w .steiner)) (planned-degree w p))
 
   -- None was found: every Steiner point has three edges or more.
   pub none-found : d .nsteiner ≤ j → (q : Point) → List·Memᴰ q (stateOf d .steiner) → 3 ≤ edgesAt q (mst (points (stateOf d)))
-  none-found h = subst (λ (z : State). (q : Point) → List·Memᴰ q (z .steiner) → 3 ≤ edgesAt q (mst (points z))) same-state (go refl search (weakest-view (mst (points (work.stateOf w))) (work.stateOf w .steiner)))
+  none-found h = subst (λ (z : State). (q : Point) → List·Memᴰ q (z .steiner) → 3 ≤ edgesAt q (mst (points z))) same-state (go refl search (lowest-weak-view (mst (points (work.stateOf w))) (work.stateOf w .steiner)))
     where
       Strong : Type 0
       Strong = (q : Point) → List·Memᴰ q (work.stateOf w .steiner) → 3 ≤ edgesAt q (mst (points (work.stateOf w)))
 
-      all : {o : Option Point} → o ≡ none → Weakest (mst (points (work.stateOf w))) (work.stateOf w .steiner) o → Strong
+      all : {o : Option Point} → o ≡ none → LowestWeakView (mst (points (work.stateOf w))) (work.stateOf w .steiner) o → Strong
       all e (all-strong f) = f
       all e (weak q i k) = absurd (let z : _≡_ {A = ℕ} 0 1 = cc in omega arith)
 
-      go : {o : Option Point} {i : ℕ} → i ≡ j → Found (take (w .nsteiner) (w .steiner)) o i → Weakest (mst (points (work.stateOf w))) (work.stateOf w .steiner) o → Strong
+      go : {o : Option Point} {i : ℕ} → i ≡ j → Found (take (w .nsteiner) (w .steiner)) o i → LowestWeakView (mst (points (work.stateOf w))) (work.stateOf w .steiner) o → Strong
       go q none-weak v = all refl v
       go q (at r l) v = absurd (omega (arith, full))
 
   -- One was found: the points are not those of a valid state.
   pub one-found : j < d .nsteiner → ¬ T (pointed d)
-  one-found h t = go refl search (weakest-view (mst (points (work.stateOf w))) (work.stateOf w .steiner))
+  one-found h t = go refl search (lowest-weak-view (mst (points (work.stateOf w))) (work.stateOf w .steiner))
     where
       branching : (q : Point) → List·Memᴰ q (work.stateOf w .steiner) → 3 ≤ edgesAt q (mst (points (work.stateOf w)))
       branching = subst⁻¹ (λ (z : State). (q : Point) → List·Memᴰ q (z .steiner) → 3 ≤ edgesAt q (mst (points z))) same-state (valid-is (stateOf d) .0 (and-parts (arranged d) (valid (stateOf d)) t .1) .branching)
 
-      few : {o : Option Point} → ¬ (o ≡ none) → Weakest (mst (points (work.stateOf w))) (work.stateOf w .steiner) o → ⊥
+      few : {o : Option Point} → ¬ (o ≡ none) → LowestWeakView (mst (points (work.stateOf w))) (work.stateOf w .steiner) o → ⊥
       few n (all-strong f) = n refl
       few n (weak q i k) = omega (arith, branching q i, k)
 
-      go : {o : Option Point} {i : ℕ} → i ≡ j → Found (take (w .nsteiner) (w .steiner)) o i → Weakest (mst (points (work.stateOf w))) (work.stateOf w .steiner) o → ⊥
+      go : {o : Option Point} {i : ℕ} → i ≡ j → Found (take (w .nsteiner) (w .steiner)) o i → LowestWeakView (mst (points (work.stateOf w))) (work.stateOf w .steiner) o → ⊥
       go q none-weak v = omega (arith, full)
       go q (at r l) v = few (λ e. let z : _≡_ {A = ℕ} 0 1 = cc in omega arith) v
 

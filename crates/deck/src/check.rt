@@ -145,7 +145,7 @@ pub fn plan_of(d: Deck) -> Checked
     let pins = d.pins;
     let steiner = d.steiner;
     let w = plan::arrange(pins, d.npins, steiner, d.nsteiner);
-    if plan::prune::weakest(w) < d.nsteiner {
+    if plan::prune::lowest_weak(w) < d.nsteiner {
         return unsound();
     }
     Checked { ok: true, plan: w }

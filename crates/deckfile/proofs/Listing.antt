@@ -15,7 +15,7 @@ use Rattle.model.specs.Tree.{mst}
 use Rattle.model.specs.State.{State, points, Valid}
 use Rattle.model.specs.Question.{listed, treeOf}
 use Rattle.model.specs.File.{numberOf, runBytes, runSection}
-use Rattle.model.proofs.Set.{sort-in}
+use Rattle.model.proofs.Set.{set-of-in}
 use Rattle.model.proofs.Tree.{mst-run-tree}
 use Rattle.model.proofs.Prune.{points-rise}
 use Rattle.model.proofs.Bounds.{points-count, points-few}
@@ -58,7 +58,7 @@ pub section-edges : (s : State) → Valid s → edgeBytes (map (endsAt (points s
 unfolding listed planar
 section-edges s v =
     edge-bytes (points s) (listed s) (omega (arith, points-few s v))
-    (λ e i. mst-run-tree (points s) (points-rise s (v .placed .steinerRise)) .tree .ends e (sort-in listedBefore listed-order (treeOf s) e .0 i))
+    (λ e i. mst-run-tree (points s) (points-rise s (v .placed .steinerRise)) .tree .ends e (set-of-in listedBefore listed-order (treeOf s) e .0 i))
 
 -- The edges of a sound deck.
 module _ (d : Deck) (s : Sound d) where

@@ -21,7 +21,7 @@ use Rattle.model.specs.State.{points}
 use Rattle.model.specs.Question as question
 use Rattle.model.specs.File.{numberOf}
 use Rattle.model.specs.Listing.{listing, tapLines, runLines}
-use Rattle.model.proofs.Set.{tie-eq, no-tie, union-in, sort-in}
+use Rattle.model.proofs.Set.{tie-eq, no-tie, union-in, set-of-in}
 use Rattle.model.proofs.Tree.{mst-run-tree}
 use Rattle.model.proofs.Prune.{points-rise}
 use Rattle.model.proofs.Bounds.{points-few}
@@ -148,7 +148,7 @@ module _ (d : Deck) (s : Sound d) (from codes : List ℕ) (n : ℕ)
       (mst-run-tree (points (stateOf d)) (points-rise (stateOf d) (s .valid .placed .steinerRise)) .tree .ends e (in-tree i))
     where
       in-tree : List·Memᴰ e (question.listed (stateOf d)) → List·Memᴰ e (mst (points (stateOf d)))
-      in-tree j = unfold question.listed in sort-in listedBefore listed-order (mst (points (stateOf d))) e .0 j
+      in-tree j = unfold question.listed in set-of-in listedBefore listed-order (mst (points (stateOf d))) e .0 j
 
   module _ (m : ℕ) (is : m ≡ n - 1) (fits : n ≤ length codes) where
     size : length (map (endsAt (map pointOf (take n codes))) (question.listed (stateOf d))) ≡ m

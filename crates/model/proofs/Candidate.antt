@@ -14,10 +14,10 @@ use Rattle.plane.specs.Point.{Point, lower, Lower}
 use Rattle.plane.proofs.Whole.{sub-value, less-value, value-less}
 use Rattle.plane.proofs.Order.{lower-order, whole-order}
 use Rattle.plane.proofs.Test.{by-test, thenBy-first, thenBy-next}
-use Rattle.model.specs.Set.{has, sort}
+use Rattle.model.specs.Set.{has, setOf}
 use Rattle.model.specs.Round.{column, crossings, notHeld, candidates}
 use Rattle.model.specs.Choice.{Candidate}
-use Rattle.model.proofs.Set.{has-in, has-not, sort-in, sort-sorted, sorted-append}
+use Rattle.model.proofs.Set.{has-in, has-not, set-of-in, set-of-sorted, sorted-append}
 
 pub map-in : {A B : Type 0} (f : A → B) (l : List A) (b : B) → List·Memᴰ b (map f l) ↔ ((a : A) × List·Memᴰ a l × (b ≡ f a))
 map-in f [] b = (λ i. absurd (not-nil i), λ r. absurd (not-nil (r .1)))
@@ -65,24 +65,24 @@ candidates-are ps c = (
   λ i. let r = not-held-in ps (crossings xs ys) c .0 i in
       let m = crossings-in xs ys c .0 (r .0) in
       record {
-        onX = map-in (λ (p : Point). p .x) ps (c .x) .0 (sort-in ltZ whole-order (map (λ (p : Point). p .x) ps) (c .x) .0 (m .0));
-        onY = map-in (λ (p : Point). p .y) ps (c .y) .0 (sort-in ltZ whole-order (map (λ (p : Point). p .y) ps) (c .y) .0 (m .1));
+        onX = map-in (λ (p : Point). p .x) ps (c .x) .0 (set-of-in ltZ whole-order (map (λ (p : Point). p .x) ps) (c .x) .0 (m .0));
+        onY = map-in (λ (p : Point). p .y) ps (c .y) .0 (set-of-in ltZ whole-order (map (λ (p : Point). p .y) ps) (c .y) .0 (m .1));
         free = r .1;
       },
   λ r. not-held-in ps (crossings xs ys) c .1 (
     crossings-in xs ys c .1 (
-      sort-in ltZ whole-order (map (λ (p : Point). p .x) ps) (c .x) .1 (map-in (λ (p : Point). p .x) ps (c .x) .1 (r .onX)),
-      sort-in ltZ whole-order (map (λ (p : Point). p .y) ps) (c .y) .1 (map-in (λ (p : Point). p .y) ps (c .y) .1 (r .onY)),
+      set-of-in ltZ whole-order (map (λ (p : Point). p .x) ps) (c .x) .1 (map-in (λ (p : Point). p .x) ps (c .x) .1 (r .onX)),
+      set-of-in ltZ whole-order (map (λ (p : Point). p .y) ps) (c .y) .1 (map-in (λ (p : Point). p .y) ps (c .y) .1 (r .onY)),
     ),
     r .free,
   ),
 )
   where
     xs : List ℤ
-    xs = sort ltZ (map (λ (p : Point). p .x) ps)
+    xs = setOf ltZ (map (λ (p : Point). p .x) ps)
 
     ys : List ℤ
-    ys = sort ltZ (map (λ (p : Point). p .y) ps)
+    ys = setOf ltZ (map (λ (p : Point). p .y) ps)
 
 lower-by-x : (a b : Point) → T (ltZ (a .x) (b .x)) → Lower a b
 unfolding lower
@@ -129,13 +129,13 @@ pub candidates-rise : (ps : List Point) → Sorted Lower (candidates ps)
 unfolding candidates
 candidates-rise ps =
     not-held-rises ps (crossings xs ys)
-    (crossings-rise xs ys (sort-sorted ltZ whole-order (map (λ (p : Point). p .x) ps)) (sort-sorted ltZ whole-order (map (λ (p : Point). p .y) ps)))
+    (crossings-rise xs ys (set-of-sorted ltZ whole-order (map (λ (p : Point). p .x) ps)) (set-of-sorted ltZ whole-order (map (λ (p : Point). p .y) ps)))
   where
     xs : List ℤ
-    xs = sort ltZ (map (λ (p : Point). p .x) ps)
+    xs = setOf ltZ (map (λ (p : Point). p .x) ps)
 
     ys : List ℤ
-    ys = sort ltZ (map (λ (p : Point). p .y) ps)
+    ys = setOf ltZ (map (λ (p : Point). p .y) ps)
 
 -- A greater saving is a shorter tree.
 pub save-less : (now m n : ℕ) → T (ltZ (subℕ now m) (subℕ now n)) → n < m

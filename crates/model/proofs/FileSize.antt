@@ -15,30 +15,30 @@ use Rattle.plane.specs.Point.{Point, lower, Lower}
 use Rattle.plane.specs.Edge.{Edge, listedBefore, planar}
 use Rattle.plane.proofs.Order.{lower-order, listed-order, before-order}
 use Rattle.plane.proofs.Test.{by-test}
-use Rattle.model.specs.Set.{tie, union, sort}
+use Rattle.model.specs.Set.{tie, union, setOf}
 use Rattle.model.specs.Tree.{RunTree}
 use Rattle.model.specs.State.{State, points, Placed, Valid}
 use Rattle.model.specs.Question.{listed, treeOf, pinCount, steinerCount, edgeCount}
 use Rattle.model.specs.File.{bytes2, bytes4, magic, headerSize, header, sectionOf, numberOf, runBytes, runSection, fileOf}
-use Rattle.model.proofs.Set.{put-length, sort-in, tie-eq, no-tie}
+use Rattle.model.proofs.Set.{put-length, set-of-in, tie-eq, no-tie}
 use Rattle.model.proofs.Tree.{mst-run-tree}
 use Rattle.model.proofs.Prune.{points-rise, few-steiner}
 use Rattle.model.proofs.Bounds.{points-few, edges-fewer}
 use Rattle.model.proofs.Bytes.{Bytes, bytes-none, bytes-cons, bytes-append, bytes2-bytes, bytes4-bytes, section-length, section-bytes}
 
 -- A set is as long as its list, where that has no repeats.
-sort-length : {A : Type 0} (less : A → A → Bool) → StrictTotal (λ (a b : A). T (less a b)) → (l : List A) → Distinct l → length (sort less l) ≡ length l
+set-of-length : {A : Type 0} (less : A → A → Bool) → StrictTotal (λ (a b : A). T (less a b)) → (l : List A) → Distinct l → length (setOf less l) ≡ length l
 unfolding union
-sort-length less order [] d = refl
-sort-length less order (a ∷ l) d =
-    put-length less order a (sort less l) (λ i. d .0 a (sort-in less order l a .0 i) refl) ∙ ap suc (sort-length less order l (d .1))
+set-of-length less order [] d = refl
+set-of-length less order (a ∷ l) d =
+    put-length less order a (setOf less l) (λ i. d .0 a (set-of-in less order l a .0 i) refl) ∙ ap suc (set-of-length less order l (d .1))
 
 tree-of : (s : State) → Placed s → RunTree (points s) (treeOf s)
 tree-of s h = mst-run-tree (points s) (points-rise s (h .steinerRise))
 
 pub listed-count : (s : State) → Placed s → length (listed s) ≡ edgeCount s
 unfolding listed
-listed-count s h = sort-length listedBefore listed-order (treeOf s) (sorted-distinct before-order (treeOf s) (tree-of s h .sorted))
+listed-count s h = set-of-length listedBefore listed-order (treeOf s) (sorted-distinct before-order (treeOf s) (tree-of s h .sorted))
 
 -- The most taps and runs.
 pub steiner-few : (s : State) → Valid s → steinerCount s ≤ 62
@@ -94,7 +94,7 @@ pub run-numbers : (s : State) → Valid s → (x : ℕ) → List·Memᴰ x (runS
 unfolding listed planar
 run-numbers s v =
     runs-below (points s) (listed s) 126 (points-few s v)
-    (λ e i. tree-of s (v .placed) .tree .ends e (sort-in listedBefore listed-order (treeOf s) e .0 i))
+    (λ e i. tree-of s (v .placed) .tree .ends e (set-of-in listedBefore listed-order (treeOf s) e .0 i))
 
 -- The length of the file, by the counts of pins, taps and runs.
 pub file-length : (s : State) → Placed s → length (fileOf s) ≡ 30 + 4 * pinCount s + 4 * steinerCount s + 2 * edgeCount s

@@ -21,7 +21,7 @@ use Rattle.plane.proofs.Order.{lower-order}
 use Rattle.plane.proofs.Test.{by-test}
 use Rattle.model.specs.Set.{out, union}
 use Rattle.model.specs.Tree.{mst, treeLength, edgesAt, RunTree}
-use Rattle.model.specs.State.{State, points, strong, Placed, Valid, weakest, without, pruneFrom, prune, maxPins}
+use Rattle.model.specs.State.{State, points, strong, Placed, Valid, lowestWeak, without, pruneFrom, prune, maxPins}
 use Rattle.model.proofs.Set.{out-in, out-sorted, out-length, union-in, union-sorted}
 use Rattle.model.proofs.Tree.{mst-run-tree}
 use Rattle.model.proofs.Removal.{removal}
@@ -36,27 +36,27 @@ unfolding points
 points-rise s h = union-sorted lower lower-order (s .pins) (s .steiner) h
 
 -- What the search for a Steiner point of at most two edges finds: none, or the lowest.
-pub data Weakest (t : List Edge) (l : List Point) : Option Point → Type 0 where
-  all-strong : ((q : Point) → List·Memᴰ q l → 3 ≤ edgesAt q t) → Weakest t l none
-  weak : (q : Point) → List·Memᴰ q l → edgesAt q t ≤ 2 → Weakest t l (some q)
+pub data LowestWeakView (t : List Edge) (l : List Point) : Option Point → Type 0 where
+  all-strong : ((q : Point) → List·Memᴰ q l → 3 ≤ edgesAt q t) → LowestWeakView t l none
+  weak : (q : Point) → List·Memᴰ q l → edgesAt q t ≤ 2 → LowestWeakView t l (some q)
 
-pub weakest-view : (t : List Edge) (l : List Point) → Weakest t l (weakest t l)
-unfolding weakest
-weakest-view t [] = all-strong (λ q i. absurd (not-nil i))
-weakest-view t (a ∷ l) =
-    by-test (Weakest t (a ∷ l)) (strong t a) (λ _. weakest t l) (λ _. some a) (λ h. later (leb→le 3 (edgesAt a t) h) (weakest-view t l))
+pub lowest-weak-view : (t : List Edge) (l : List Point) → LowestWeakView t l (lowestWeak t l)
+unfolding lowestWeak
+lowest-weak-view t [] = all-strong (λ q i. absurd (not-nil i))
+lowest-weak-view t (a ∷ l) =
+    by-test (LowestWeakView t (a ∷ l)) (strong t a) (λ _. lowestWeak t l) (λ _. some a) (λ h. later (leb→le 3 (edgesAt a t) h) (lowest-weak-view t l))
     (λ n. weak a (head refl) (omega (arith, nleb→lt 3 (edgesAt a t) n)))
   where
-    later : 3 ≤ edgesAt a t → {o : Option Point} → Weakest t l o → Weakest t (a ∷ l) o
+    later : 3 ≤ edgesAt a t → {o : Option Point} → LowestWeakView t l o → LowestWeakView t (a ∷ l) o
     later h (all-strong f) = all-strong (λ q i. ⊎-elim (λ e. subst⁻¹ (λ (z : Point). 3 ≤ edgesAt z t) e h) (f q) (cases i))
     later h (weak q i k) = weak q (tail i) k
 
 -- One step of the sweep, and its end.
-pub prune-step : (k : ℕ) (s : State) (q : Point) → weakest (mst (points s)) (s .steiner) ≡ some q → pruneFrom (suc k) s ≡ pruneFrom k (without q s)
+pub prune-step : (k : ℕ) (s : State) (q : Point) → lowestWeak (mst (points s)) (s .steiner) ≡ some q → pruneFrom (suc k) s ≡ pruneFrom k (without q s)
 unfolding pruneFrom
 prune-step k s q e = ap (λ (o : Option Point). elim o as (λ _. State) [ none ↦ s | some z ↦ pruneFrom k (without z s) ]) e
 
-pub prune-stop : (k : ℕ) (s : State) → weakest (mst (points s)) (s .steiner) ≡ none → pruneFrom k s ≡ s
+pub prune-stop : (k : ℕ) (s : State) → lowestWeak (mst (points s)) (s .steiner) ≡ none → pruneFrom k s ≡ s
 unfolding pruneFrom
 prune-stop zero s e = refl
 prune-stop (suc k) s e = ap (λ (o : Option Point). elim o as (λ _. State) [ none ↦ s | some z ↦ pruneFrom k (without z s) ]) e
@@ -91,9 +91,9 @@ unfolding pruneFrom
 prune-from zero s rise far h =
     record { pins = refl; part = λ q i. i; rise = rise; branching = λ q i. absurd (none-there (s .steiner) h q i); shorter = le-refl (treeLength (points s)) }
 prune-from (suc k) s rise far h =
-    go (weakest (mst (points s)) (s .steiner)) (weakest-view (mst (points s)) (s .steiner)) (λ q i. prune-from k (without q s) (out-sorted lower lower-order q (s .steiner) rise) (λ p i j. far p i (out-in lower lower-order q p (s .steiner) .0 j .0)) (omega (arith, out-length lower lower-order q (s .steiner) rise i)))
+    go (lowestWeak (mst (points s)) (s .steiner)) (lowest-weak-view (mst (points s)) (s .steiner)) (λ q i. prune-from k (without q s) (out-sorted lower lower-order q (s .steiner) rise) (λ p i j. far p i (out-in lower lower-order q p (s .steiner) .0 j .0)) (omega (arith, out-length lower lower-order q (s .steiner) rise i)))
   where
-    go : (o : Option Point) → Weakest (mst (points s)) (s .steiner) o
+    go : (o : Option Point) → LowestWeakView (mst (points s)) (s .steiner) o
         → ((q : Point) → List·Memᴰ q (s .steiner) → Pruned (without q s) (pruneFrom k (without q s)))
         → Pruned s (elim o as (λ _. State) [ none ↦ s | some q ↦ pruneFrom k (without q s) ])
     go o (all-strong f) rec = record { pins = refl; part = λ q i. i; rise = rise; branching = f; shorter = le-refl (treeLength (points s)) }

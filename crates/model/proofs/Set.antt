@@ -1,4 +1,4 @@
--- Sets as rising lists: what is in them after put, out, union and sort, and that they stay rising. Over any strict total order.
+-- Sets as rising lists: what is in them after put, out, union and `setOf`, and that they stay rising. Over any strict total order.
 use mathlib.Core.Path.{_≡_, refl, sym, ap, _∙_, subst}
 use mathlib.Core.Logic.{_⊎_, inl, inr, ⊎-elim, _↔_}
 use mathlib.Core.Bool.{Bool, true, false, not, _&&_}
@@ -11,7 +11,7 @@ use Rattle.spanning.specs.Order.{StrictTotal, Sorted}
 use Rattle.spanning.proofs.Sorted.{sorted-ext}
 use Rattle.plane.proofs.Order.{tied}
 use Rattle.plane.proofs.Test.{by-test, and-parts, and-both}
-use Rattle.model.specs.Set.{tie, put, out, has, union, sort, rising, all}
+use Rattle.model.specs.Set.{tie, put, out, has, union, setOf, rising, all}
 
 pub all-in : {A : Type 0} (f : A → Bool) (l : List A) → T (all f l) ↔ ((a : A) → List·Memᴰ a l → T (f a))
 unfolding all
@@ -112,15 +112,15 @@ module _ {A : Type 0} (less : A → A → Bool) (order : StrictTotal (λ (a b : 
   union-sorted [] m s = s
   union-sorted (a ∷ l) m s = put-sorted a (union less l m) (union-sorted l m s)
 
-  pub sort-in : (l : List A) (c : A) → List·Memᴰ c (sort less l) ↔ List·Memᴰ c l
-  sort-in l c = (λ i. ⊎-elim (λ j. j) (λ j. absurd (not-nil j)) (union-in l [] c .0 i), λ i. union-in l [] c .1 (inl i))
+  pub set-of-in : (l : List A) (c : A) → List·Memᴰ c (setOf less l) ↔ List·Memᴰ c l
+  set-of-in l c = (λ i. ⊎-elim (λ j. j) (λ j. absurd (not-nil j)) (union-in l [] c .0 i), λ i. union-in l [] c .1 (inl i))
 
-  pub sort-sorted : (l : List A) → Sorted Less (sort less l)
-  sort-sorted l = union-sorted l [] tt
+  pub set-of-sorted : (l : List A) → Sorted Less (setOf less l)
+  set-of-sorted l = union-sorted l [] tt
 
   -- A list that is rising already is its own set.
-  pub sort-same : (l : List A) → Sorted Less l → sort less l ≡ l
-  sort-same l s = sorted-ext order (sort less l) l (sort-sorted l) s (λ a i. sort-in l a .0 i) (λ a i. sort-in l a .1 i)
+  pub set-of-same : (l : List A) → Sorted Less l → setOf less l ≡ l
+  set-of-same l s = sorted-ext order (setOf less l) l (set-of-sorted l) s (λ a i. set-of-in l a .0 i) (λ a i. set-of-in l a .1 i)
 
   pub put-same : (a : A) (l : List A) → Sorted Less l → List·Memᴰ a l → put less a l ≡ l
   put-same a l s i =

@@ -17,9 +17,9 @@ use Rattle.plane.specs.Point.{Point, lower, Lower}
 use Rattle.plane.specs.Edge.{Edge, Rising, edgeLength, before, Before, planar}
 use Rattle.plane.proofs.Order.{lower-order, before-order, before-length}
 use Rattle.plane.proofs.Metric.{dist-sym}
-use Rattle.model.specs.Set.{sort}
+use Rattle.model.specs.Set.{setOf}
 use Rattle.model.specs.Tree.{pairs, edges, mst, lengthOf, treeLength, RunTree, TheTree}
-use Rattle.model.proofs.Set.{sort-in, sort-sorted}
+use Rattle.model.proofs.Set.{set-of-in, set-of-sorted}
 
 abbrev edge : Point → Point → Edge
 edge p q = record { lo = p; hi = q }
@@ -69,13 +69,13 @@ module _ (ps : List Point) (rising : Sorted Lower ps) where
   pub edges-in : (e : Edge) → List·Memᴰ e (edges ps) ↔ (List·Memᴰ (e .lo) ps × List·Memᴰ (e .hi) ps × Rising e)
   unfolding edges Between
   edges-in e = (
-    λ i. pairs-in ps rising e (sort-in before before-order (pairs ps) e .0 i),
-    λ b. sort-in before before-order (pairs ps) e .1 (in-pairs ps rising e b),
+    λ i. pairs-in ps rising e (set-of-in before before-order (pairs ps) e .0 i),
+    λ b. set-of-in before before-order (pairs ps) e .1 (in-pairs ps rising e b),
   )
 
   pub edges-sorted : Sorted Before (edges ps)
   unfolding edges
-  edges-sorted = sort-sorted before before-order (pairs ps)
+  edges-sorted = set-of-sorted before before-order (pairs ps)
 
   -- All edges connect all points.
   pub edges-link : Links planar ps (edges ps)
@@ -149,20 +149,20 @@ the-tree-members ps qs t h r =
     back u = run-tree-members qs ps u (λ p. (h p .1, h p .0))
 
 -- Points that come in any order, repeats too: THE tree of the list is that of its points put in order, and no other.
-pub any-the-tree : (l : List Point) → TheTree l (mst (sort lower l))
+pub any-the-tree : (l : List Point) → TheTree l (mst (setOf lower l))
 any-the-tree l =
-    the-tree-members (sort lower l) l (mst (sort lower l)) (sort-in lower lower-order l)
-    (mst-the-tree (sort lower l) (sort-sorted lower lower-order l))
+    the-tree-members (setOf lower l) l (mst (setOf lower l)) (set-of-in lower lower-order l)
+    (mst-the-tree (setOf lower l) (set-of-sorted lower lower-order l))
 
-pub any-tree-unique : (l : List Point) (t : List Edge) → TheTree l t → t ≡ mst (sort lower l)
+pub any-tree-unique : (l : List Point) (t : List Edge) → TheTree l t → t ≡ mst (setOf lower l)
 any-tree-unique l t r =
-    the-tree-unique (sort lower l) (sort-sorted lower lower-order l) t
-    (the-tree-members l (sort lower l) t (λ p. (sort-in lower lower-order l p .1, sort-in lower lower-order l p .0)) r)
+    the-tree-unique (setOf lower l) (set-of-sorted lower lower-order l) t
+    (the-tree-members l (setOf lower l) t (λ p. (set-of-in lower lower-order l p .1, set-of-in lower lower-order l p .0)) r)
 
 -- The tree depends on the set of points and not on the order in which they came.
-pub any-order : (l m : List Point) → ((p : Point) → List·Memᴰ p l ↔ List·Memᴰ p m) → mst (sort lower l) ≡ mst (sort lower m)
+pub any-order : (l m : List Point) → ((p : Point) → List·Memᴰ p l ↔ List·Memᴰ p m) → mst (setOf lower l) ≡ mst (setOf lower m)
 any-order l m h =
     ap mst
-    (sorted-ext lower-order (sort lower l) (sort lower m) (sort-sorted lower lower-order l) (sort-sorted lower lower-order m)
-    (λ p i. sort-in lower lower-order m p .1 (h p .0 (sort-in lower lower-order l p .0 i)))
-    (λ p i. sort-in lower lower-order l p .1 (h p .1 (sort-in lower lower-order m p .0 i))))
+    (sorted-ext lower-order (setOf lower l) (setOf lower m) (set-of-sorted lower lower-order l) (set-of-sorted lower lower-order m)
+    (λ p i. set-of-in lower lower-order m p .1 (h p .0 (set-of-in lower lower-order l p .0 i)))
+    (λ p i. set-of-in lower lower-order l p .1 (h p .1 (set-of-in lower lower-order m p .0 i))))

@@ -12,7 +12,7 @@ use Rattle.plane.specs.OctantTable.{octants}
 use Rattle.model.specs.Set.{put, out, has, union, rising, all}
 use Rattle.model.specs.Refusal.{firstFailed}
 use Rattle.model.specs.Tree.{pairs, edges, mst, treeLength}
-use Rattle.model.specs.State.{State, points, placed, valid, weakest, pruneFrom, prune, insert, remove}
+use Rattle.model.specs.State.{State, points, placed, valid, lowestWeak, pruneFrom, prune, insert, remove}
 use Rattle.model.specs.Round.{finished, tap, column, crossings, notHeld, candidates, saving, bestAbove, best, round, roundsFrom, finish}
 use Rattle.model.specs.Call.{Call, add, withdraw, oneRound, runToEnd, Reply, done, refused, answered, rounds, Outcome, insertRefusal, removeRefusal, step}
 use Rattle.model.specs.Question.{lengthOfState, listed}
@@ -27,7 +27,7 @@ pub record Trace : Type 0 where
 
 -- The trace of calls from a state.
 unfoldable pub play : State → List Call → Trace
-unfolding total degree comp kruskal lower gap dist pointDec before listedBefore planar put out has union pairs edges mst treeLength points weakest pruneFrom prune insert remove column crossings notHeld candidates saving bestAbove best round roundsFrom finish firstFailed insertRefusal removeRefusal step listed
+unfolding total degree comp kruskal lower gap dist pointDec before listedBefore planar put out has union pairs edges mst treeLength points lowestWeak pruneFrom prune insert remove column crossings notHeld candidates saving bestAbove best round roundsFrom finish firstFailed insertRefusal removeRefusal step listed
 play s [] = record { replies = []; lengths = lengthOfState s ∷ []; last = s; runs = listed s }
 play s (c ∷ cs) =
     let o = step s c in

@@ -5,7 +5,7 @@ use Prim.Native.Nat.{ℕ, zero, suc}
 use lib.ListN.{length, getElem?}
 use Rattle.plane.specs.Point.{Point}
 use Rattle.plane.specs.Edge.{Edge, listedBefore}
-use Rattle.model.specs.Set.{sort}
+use Rattle.model.specs.Set.{setOf}
 use Rattle.model.specs.Tree.{mst, treeLength, edgesAt}
 use Rattle.model.specs.State.{State, points}
 
@@ -19,7 +19,7 @@ lengthOfState s = treeLength (points s)
 
 -- The runs in the listing order.
 unfoldable pub listed : State → List Edge
-listed s = sort listedBefore (treeOf s)
+listed s = setOf listedBefore (treeOf s)
 
 -- The counts of pins, taps and runs.
 abbrev pub pinCount : State → ℕ

@@ -7,7 +7,7 @@ use lib.IntN.{ℤ, pos, subℕ}
 use lib.Signed.{ltZ}
 use Rattle.plane.specs.Test.{if}
 use Rattle.plane.specs.Point.{Point, lower}
-use Rattle.model.specs.Set.{put, has, sort}
+use Rattle.model.specs.Set.{put, has, setOf}
 use Rattle.model.specs.Tree.{treeLength}
 use Rattle.model.specs.State.{State, points, prune}
 
@@ -29,7 +29,7 @@ notHeld ps (c ∷ l) = if (has lower c ps) (λ _. notHeld ps l) (λ _. c ∷ not
 unfoldable pub candidates : List Point → List Point
 candidates ps =
     notHeld ps
-    (crossings (sort ltZ (map (λ (p : Point). p .x) ps)) (sort ltZ (map (λ (p : Point). p .y) ps)))
+    (crossings (setOf ltZ (map (λ (p : Point). p .x) ps)) (setOf ltZ (map (λ (p : Point). p .y) ps)))
 
 -- "A candidate's saving is the tree's length now less that of the tree with it. A saving may be negative."
 unfoldable pub saving : ℕ → List Point → Point → ℤ

@@ -63,9 +63,9 @@ valid s =
     leb (length (s .pins)) maxPins && (placed s && all (strong t) (s .steiner))
 
 -- The first of a rising list of points with at most two edges in the tree t, so the lowest.
-unfoldable pub weakest : List Edge → List Point → Option Point
-weakest t [] = none
-weakest t (q ∷ l) = if (strong t q) (λ _. weakest t l) (λ _. some q)
+unfoldable pub lowestWeak : List Edge → List Point → Option Point
+lowestWeak t [] = none
+lowestWeak t (q ∷ l) = if (strong t q) (λ _. lowestWeak t l) (λ _. some q)
 
 -- The state without the Steiner point q.
 abbrev pub without : Point → State → State
@@ -77,7 +77,7 @@ unfoldable pub pruneFrom : ℕ → State → State
 pruneFrom zero s = s
 pruneFrom (suc k) s =
     let t = mst (points s) in
-    elim (weakest t (s .steiner)) [
+    elim (lowestWeak t (s .steiner)) [
       | none ↦ s
       | some q ↦ pruneFrom k (without q s)
     ]

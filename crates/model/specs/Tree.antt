@@ -8,7 +8,7 @@ use Rattle.spanning.specs.Order.{Sorted, First}
 use Rattle.spanning.specs.Kruskal.{kruskal}
 use Rattle.plane.specs.Point.{Point}
 use Rattle.plane.specs.Edge.{Edge, Rising, edgeLength, before, Before, planar}
-use Rattle.model.specs.Set.{sort}
+use Rattle.model.specs.Set.{setOf}
 
 -- Each point with every later one.
 unfoldable pub pairs : List Point → List Edge
@@ -17,7 +17,7 @@ pairs (p ∷ l) = map (λ (q : Point). record { lo = p; hi = q }) l ++ pairs l
 
 -- All edges over a set of points, in the order of runs.
 unfoldable pub edges : List Point → List Edge
-edges ps = sort before (pairs ps)
+edges ps = setOf before (pairs ps)
 
 -- The tree of a set of points, by Kruskal's method.
 unfoldable pub mst : List Point → List Edge

@@ -17,7 +17,7 @@ use Rattle.plane.proofs.Test.{by-test}
 use Rattle.plane.proofs.Order.{nat-order}
 use Rattle.model.specs.Set.{out, has, union, rising}
 use Rattle.model.specs.Tree.{mst, edgesAt}
-use Rattle.model.specs.State.{State, points, strong, weakest, without, pruneFrom, prune}
+use Rattle.model.specs.State.{State, points, strong, lowestWeak, without, pruneFrom, prune}
 use Rattle.model.proofs.Prune.{prune-step, prune-stop}
 use Rattle.model.proofs.Set.{out-in, out-sorted, out-length, has-in, union-in, rising-sorted}
 use Rattle.sets.specs.Array.{Removed, placeOf}
@@ -39,8 +39,8 @@ pub data Found (l : List ℕ) : Option Point → ℕ → Type 0 where
   at : (r : ℕ) → r < length l → Found l (some (pointOf (getD l r 0))) r
 
 pub found : (all keys : List ℕ) (t : List Edge) (l : List ℕ) → ((q : ℕ) → List·Memᴰ q l → degree keyGraph (placeOf q all) keys ≡ edgesAt (pointOf q) t)
-    → Found l (weakest t (map pointOf l)) (firstWeak all keys l)
-unfolding weakest firstWeak
+    → Found l (lowestWeak t (map pointOf l)) (firstWeak all keys l)
+unfolding lowestWeak firstWeak
 found all keys t [] h = none-weak
 found all keys t (q ∷ l) h = go (leb 3 (edgesAt (pointOf q) t)) (leb 3 (degree keyGraph (placeOf q all) keys)) (ap (leb 3) (h q (head refl))) (found all keys t l (λ z i. h z (tail i)))
   where
@@ -48,8 +48,8 @@ found all keys t (q ∷ l) h = go (leb 3 (edgesAt (pointOf q) t)) (leb 3 (degree
     up none-weak = none-weak
     up (at r k) = at (suc r) (omega arith)
 
-    go : (a b : Bool) → b ≡ a → Found l (weakest t (map pointOf l)) (firstWeak all keys l)
-        → Found (q ∷ l) (if a (λ _. weakest t (map pointOf l)) (λ _. some (pointOf q))) (if b (λ _. suc (firstWeak all keys l)) (λ _. 0))
+    go : (a b : Bool) → b ≡ a → Found l (lowestWeak t (map pointOf l)) (firstWeak all keys l)
+        → Found (q ∷ l) (if a (λ _. lowestWeak t (map pointOf l)) (λ _. some (pointOf q))) (if b (λ _. suc (firstWeak all keys l)) (λ _. 0))
     go true true e f = up f
     go true false e f = absurd (let z : _≡_ {A = ℕ} 0 1 = cc in omega arith)
     go false true e f = absurd (let z : _≡_ {A = ℕ} 0 1 = cc in omega arith)
@@ -151,11 +151,11 @@ module _ (pins : List ℕ) (p : ℕ) (steiner : List ℕ) (t₀ : ℕ) (rest : L
   arranged : Arranged pins p rest t
   arranged = subst (λ (z : List ℕ). Arranged z p rest t) (s .samePins) (subst (λ (z : ℕ). Arranged (w .pins) z rest t) (s .sameCount) (subst (λ (z : List ℕ). Arranged (w .pins) (w .npins) z t) (s .sameRest) (subst (λ (z : ℕ). Arranged (w .pins) (w .npins) (w .steiner) z) (s .sameLeft) (s .planned .arranged))))
 
-  search : Found (take t rest) (weakest (mst (points (stateAt pins p rest t))) (map pointOf (take t rest))) j
+  search : Found (take t rest) (lowestWeak (mst (points (stateAt pins p rest t))) (map pointOf (take t rest))) j
   search =
-      subst⁻¹ (Found (take t rest) (weakest (mst (points (stateAt pins p rest t))) (map pointOf (take t rest)))) (s .weak)
-      (subst (λ (z : State). Found (take t rest) (weakest (mst (points z)) (map pointOf (take t rest))) (firstWeak all keys (take (w .nsteiner) (w .steiner)))) state-is
-      (subst (λ (l : List ℕ). Found l (weakest (mst (points (stateOf w))) (map pointOf l)) (firstWeak all keys (take (w .nsteiner) (w .steiner)))) same
+      subst⁻¹ (Found (take t rest) (lowestWeak (mst (points (stateAt pins p rest t))) (map pointOf (take t rest)))) (s .weak)
+      (subst (λ (z : State). Found (take t rest) (lowestWeak (mst (points z)) (map pointOf (take t rest))) (firstWeak all keys (take (w .nsteiner) (w .steiner)))) state-is
+      (subst (λ (l : List ℕ). Found l (lowestWeak (mst (points (stateOf w))) (map pointOf l)) (firstWeak all keys (take (w .nsteiner) (w .steiner)))) same
       (found all keys (mst (points (stateOf w))) (take (w .nsteiner) (w .steiner)) (planned-degree w (s .planned)))))
     where
       all : List ℕ

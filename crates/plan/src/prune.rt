@@ -25,7 +25,7 @@ fn first_weak(codes: &[u64], n: usize, keys: &[u64], m: usize, steiner: &[u64], 
 }
 
 // The same of a working form.
-pub fn weakest(w: Plan) -> usize
+pub fn lowest_weak(w: Plan) -> usize
     requires { ⌜ Planned w ⌝ }
     ensures { λ r. ⌜ r ≡ firstWeak (take (w .npoints) (w .codes)) (take (w .nkeys) (w .keys)) (take (w .nsteiner) (w .steiner)) ⌝ }
 {
@@ -44,12 +44,12 @@ pub fn prune(pins: [u64; 64], npins: usize, steiner: [u64; 64], nsteiner: usize)
     let mut rest = steiner;
     let mut t = nsteiner;
     let mut w = arrange(pins, npins, rest, t);
-    let mut j = weakest(w);
+    let mut j = lowest_weak(w);
     while j < t {
         let k = rest[j];
         t = sets::out(&mut rest, t, k);
         w = arrange(pins, npins, rest, t);
-        j = weakest(w);
+        j = lowest_weak(w);
     }
     w
 }

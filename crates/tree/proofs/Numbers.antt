@@ -15,7 +15,7 @@ use Rattle.plane.specs.Point.{Point, lower, Lower, dist}
 use Rattle.plane.specs.Edge.{Edge, listedBefore, planar}
 use Rattle.plane.proofs.Test.{by-test, thenBy-cases, same-test}
 use Rattle.plane.proofs.Order.{lower-order, listed-order, tied}
-use Rattle.model.specs.Set.{tie, union, sort}
+use Rattle.model.specs.Set.{tie, union, setOf}
 use Rattle.model.specs.Tree.{edges, mst}
 use Rattle.model.specs.File.{numberOf}
 use Rattle.model.proofs.Set.{tie-eq, no-tie}
@@ -100,11 +100,11 @@ map-map f g h (a ∷ l) e = ap₂ _∷_ (e a (head refl)) (map-map f g h l (λ b
 
 module _ (at : ℕ → Point) (n : ℕ) (small : n ≤ 128) (rises : Rises at n) where
   -- The keys' ends in rising order are the runs in the listing order.
-  pub ends-listed : map (endsAt (tab at n)) (sort listedBefore (mst (tab at n))) ≡ sort ltb (map endsOf (treeKeys at n))
+  pub ends-listed : map (endsAt (tab at n)) (setOf listedBefore (mst (tab at n))) ≡ setOf ltb (map endsOf (treeKeys at n))
   ends-listed =
       union-map (endsAt (tab at n)) listedBefore ltb (Held (tab at n)) (ends-order (tab at n) sorted (omega (arith, tab-length at n))) listed-order
       (mst (tab at n)) [] held (λ e i. absurd (not-nil i))
-      ∙ ap (sort ltb) (ap (map (endsAt (tab at n))) (sym (tree-keys-mst at n small rises)) ∙ map-map (edgeOf at) (endsAt (tab at n)) endsOf (treeKeys at n) ends)
+      ∙ ap (setOf ltb) (ap (map (endsAt (tab at n))) (sym (tree-keys-mst at n small rises)) ∙ map-map (edgeOf at) (endsAt (tab at n)) endsOf (treeKeys at n) ends)
     where
       sorted : Sorted Lower (tab at n)
       sorted = ps-sorted at n small rises

@@ -6,7 +6,7 @@ use Prim.Native.Nat.{ℕ, _≤_}
 use lib.Dec.{ltb}
 use lib.ListN.{length, take, drop}
 use lib.Seq.{take-length}
-use Rattle.model.specs.Set.{sort}
+use Rattle.model.specs.Set.{setOf}
 use Rattle.tree.specs.Held.{held}
 use Rattle.tree.specs.Keys.{tab, endsOf}
 use Rattle.tree.specs.Build.{Rises}
@@ -31,6 +31,6 @@ row-front f c before after e =
     record { count = sym (tab-length f c); front = e ∙ ap (λ (k : ℕ). tab f c ++ drop k before) (sym (tab-length f c)) }
 
 -- The listing of as many keys as there are is that of them all.
-pub list-all : (keys before after : List ℕ) (r : ℕ) → Front (sort ltb (map endsOf (take (length keys) keys))) before after r
-    → Front (sort ltb (map endsOf keys)) before after r
-list-all keys before after r f = subst (λ (l : List ℕ). Front (sort ltb (map endsOf l)) before after r) (take-length keys) f
+pub list-all : (keys before after : List ℕ) (r : ℕ) → Front (setOf ltb (map endsOf (take (length keys) keys))) before after r
+    → Front (setOf ltb (map endsOf keys)) before after r
+list-all keys before after r f = subst (λ (l : List ℕ). Front (setOf ltb (map endsOf l)) before after r) (take-length keys) f

@@ -6,7 +6,7 @@ use mathlib.Core.List.{List, map}
 use Prim.Native.Nat.{ℕ, _+_, _≤_}
 use lib.Dec.{ltb}
 use lib.ListN.{length, getD}
-use Rattle.model.specs.Set.{sort}
+use Rattle.model.specs.Set.{setOf}
 use Rattle.tree.specs.Held.{held}
 use Rattle.tree.specs.Keys.{tab, treeKeys, endsOf}
 use Rattle.tree.specs.Build.{Rises, lengthWith}
@@ -49,4 +49,4 @@ Measures xs ys cx cy before after r =
 
 -- The ends of the keys in the listing order, where there is room for them.
 abbrev pub Lists : List ℕ → List ℕ → List ℕ → ℕ → Type 0
-Lists keys before after r = Answer (length keys ≤ length before) (sort ltb (map endsOf keys)) before after r
+Lists keys before after r = Answer (length keys ≤ length before) (setOf ltb (map endsOf keys)) before after r

@@ -18,7 +18,7 @@ use Rattle.deck.proofs.check.plan_of.Lts as lts
 use Rattle.deck.proofs.check.is_arranged.Reads as is-arranged-reads
 use Rattle.deck.proofs.check.unsound.Reads as unsound-reads
 use Rattle.plan.proofs.arrange.Reads as arrange-reads
-use Rattle.plan.proofs.prune.weakest.Reads as weakest-reads
+use Rattle.plan.proofs.prune.lowest_weak.Reads as lowest-weak-reads
 
 -- src/check.rt:157:9
 is-arranged-requires : tie.Need-is-arranged-requires
@@ -43,8 +43,8 @@ arrange-requires c κs =
     arranged-codes d h k (of-true (sym (c .before .before .before .is-arranged .ensures) ∙ not-false _ (c .before .before .if1 .left)))
 
 -- src/check.rt:163:8
-weakest-requires : tie.Need-weakest-requires
-weakest-requires c κs = search needs
+lowest-weak-requires : tie.Need-lowest-weak-requires
+lowest-weak-requires c κs = search needs
 
 -- src/check.rt:164:9
 unsound-requires-2 : tie.Need-unsound-requires-2
@@ -53,14 +53,14 @@ unsound-requires-2 c κs = search needs
 -- src/check.rt:164:9
 returns-2 : tie.Need-returns-2
 returns-2 c =
-    refused _ _ _ (c .unsound2 .ensures) (one-found (c .before .before .before .before .before .before .before .before .before .args .d) _ (c .before .before .before .before .arrange .ensures .0) (c .before .before .before .before .arrange .ensures .1) (c .before .before .before .before .arrange .ensures .2) (c .before .before .before .before .arrange .ensures .3) (c .before .before .before .before .arrange .ensures .4) _ (c .before .before .before .weakest .ensures) (c .before .if2 .taken))
+    refused _ _ _ (c .unsound2 .ensures) (one-found (c .before .before .before .before .before .before .before .before .before .args .d) _ (c .before .before .before .before .arrange .ensures .0) (c .before .before .before .before .arrange .ensures .1) (c .before .before .before .before .arrange .ensures .2) (c .before .before .before .before .arrange .ensures .3) (c .before .before .before .before .arrange .ensures .4) _ (c .before .before .before .lowest-weak .ensures) (c .before .if2 .taken))
 
 -- src/check.rt:154:1
 returns-3 : tie.Need-returns-3
 returns-3 c =
     let d = c .before .before .before .before .before .before .before .before .args .d in
     let t : T (arranged d) = of-true (sym (c .before .before .before .before .before .before .before .is-arranged .ensures) ∙ not-false _ (c .before .before .before .before .before .before .if1 .left)) in
-    accepted _ _ _ refl (points-pass d _ (c .before .before .before .arrange .ensures .0) (c .before .before .before .arrange .ensures .1) (c .before .before .before .arrange .ensures .2) (c .before .before .before .arrange .ensures .3) (c .before .before .before .arrange .ensures .4) _ (c .before .before .weakest .ensures) (c .if2 .left) t) (c .before .before .before .arrange .ensures .0) (c .before .before .before .arrange .ensures .1) (c .before .before .before .arrange .ensures .2) (c .before .before .before .arrange .ensures .3) (c .before .before .before .arrange .ensures .4)
+    accepted _ _ _ refl (points-pass d _ (c .before .before .before .arrange .ensures .0) (c .before .before .before .arrange .ensures .1) (c .before .before .before .arrange .ensures .2) (c .before .before .before .arrange .ensures .3) (c .before .before .before .arrange .ensures .4) _ (c .before .before .lowest-weak .ensures) (c .if2 .left) t) (c .before .before .before .arrange .ensures .0) (c .before .before .before .arrange .ensures .1) (c .before .before .before .arrange .ensures .2) (c .before .before .before .arrange .ensures .3) (c .before .before .before .arrange .ensures .4)
 
 pub plan-of-spec : {M : Type 1} → statement M
 plan-of-spec =
@@ -70,7 +70,7 @@ plan-of-spec =
     unsound-requires
     returns
     arrange-requires
-    weakest-requires
+    lowest-weak-requires
     unsound-requires-2
     returns-2
     returns-3)

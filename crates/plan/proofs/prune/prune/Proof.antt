@@ -10,7 +10,7 @@ use Rattle.plan.proofs.prune.prune.Tie as tie
 use Rattle.plan.proofs.prune.prune.Reads as reads
 use Rattle.plan.proofs.prune.prune.Lts as lts
 use Rattle.plan.proofs.arrange.Reads as arrange-reads
-use Rattle.plan.proofs.prune.weakest.Reads as weakest-reads
+use Rattle.plan.proofs.prune.lowest_weak.Reads as lowest-weak-reads
 use Rattle.sets.proofs.out.Reads as out-reads
 
 abbrev Inv-loop : tie.InvT-loop
@@ -24,8 +24,8 @@ arrange-requires : tie.Need-arrange-requires Inv-loop μ-loop
 arrange-requires c κs = c .pre
 
 -- src/prune.rt:47:9
-weakest-requires : tie.Need-weakest-requires Inv-loop μ-loop
-weakest-requires c κs = c .arrange .ensures .0
+lowest-weak-requires : tie.Need-lowest-weak-requires Inv-loop μ-loop
+lowest-weak-requires c κs = c .arrange .ensures .0
 
 -- src/prune.rt:48:5
 loop-holds : tie.Need-loop-holds Inv-loop μ-loop
@@ -33,7 +33,7 @@ loop-holds c =
     let p = c .before .before .pre in
     let a = c .before .before .args in
     let h : a .nsteiner ≤ length (a .steiner) = omega (arith, p .steinerCodes .few, p .steinerCodes .size) in
-    (sweeping-start _ _ _ _ _ _ h (c .before .arrange .ensures) (c .weakest .ensures), p .steinerCodes .size, p .steinerCodes .few)
+    (sweeping-start _ _ _ _ _ _ h (c .before .arrange .ensures) (c .lowest-weak .ensures), p .steinerCodes .size, p .steinerCodes .few)
 
 -- src/prune.rt:49:17
 mul-k : tie.Need-mul-k Inv-loop μ-loop
@@ -58,8 +58,8 @@ arrange-requires-2 c κs =
     sweeping-arranged _ _ _ _ _ _ _ _ (l .inv .0) _ _ _ (c .before .out .ensures) (c .before .out .kept .0)
 
 -- src/prune.rt:52:9
-weakest-requires-2 : tie.Need-weakest-requires-2 Inv-loop μ-loop
-weakest-requires-2 c κs = c .arrange2 .ensures .0
+lowest-weak-requires-2 : tie.Need-lowest-weak-requires-2 Inv-loop μ-loop
+lowest-weak-requires-2 c κs = c .arrange2 .ensures .0
 
 -- src/prune.rt:48:5
 loop-less : tie.Need-loop-less Inv-loop μ-loop
@@ -72,7 +72,7 @@ loop-again : tie.Need-loop-again Inv-loop μ-loop
 loop-again c =
     let l = c .before .before .before .before .before .before .loop in
     let less = sweeping-less _ _ _ _ _ _ _ _ (l .inv .0) _ _ _ (omega arith) refl (c .before .before .before .out .ensures) in
-    (sweeping-more _ _ _ _ _ _ _ _ (l .inv .0) _ _ _ _ _ (omega arith) refl (c .before .before .before .out .ensures) (c .before .arrange2 .ensures) (c .weakest2 .ensures), c .before .before .before .out .kept .0 ∙ l .inv .1, omega (arith, less, l .inv .2))
+    (sweeping-more _ _ _ _ _ _ _ _ (l .inv .0) _ _ _ _ _ (omega arith) refl (c .before .before .before .out .ensures) (c .before .arrange2 .ensures) (c .lowest-weak2 .ensures), c .before .before .before .out .kept .0 ∙ l .inv .1, omega (arith, less, l .inv .2))
 
 -- src/prune.rt:40:1
 returns : tie.Need-returns Inv-loop μ-loop
@@ -85,14 +85,14 @@ prune-spec =
     Inv-loop
     μ-loop
     arrange-requires
-    weakest-requires
+    lowest-weak-requires
     loop-holds
     mul-k
     array-read-k
     slice-aggregate-out
     out-requires
     arrange-requires-2
-    weakest-requires-2
+    lowest-weak-requires-2
     loop-less
     loop-again
     returns)

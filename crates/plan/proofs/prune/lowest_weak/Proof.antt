@@ -1,12 +1,12 @@
--- `plan::prune::weakest` meets its contract, by that of `first_weak`.
+-- `plan::prune::lowest_weak` meets its contract, by that of `first_weak`.
 use mathlib.Core.Path.{_≡_}
 use native.Mathlib.Omega.{arith}
 use lib.ListN.{length}
 use borrow.Author.Needs.{needs}
-use Rattle.plan.proofs.prune.weakest.Statement.{statement}
-use Rattle.plan.proofs.prune.weakest.Tie as tie
-use Rattle.plan.proofs.prune.weakest.Reads as reads
-use Rattle.plan.proofs.prune.weakest.Lts as lts
+use Rattle.plan.proofs.prune.lowest_weak.Statement.{statement}
+use Rattle.plan.proofs.prune.lowest_weak.Tie as tie
+use Rattle.plan.proofs.prune.lowest_weak.Reads as reads
+use Rattle.plan.proofs.prune.lowest_weak.Lts as lts
 use Rattle.plan.proofs.prune.first_weak.Reads as first-weak-reads
 
 -- src/prune.rt:35:16
@@ -34,8 +34,8 @@ first-weak-requires c κs =
 returns : tie.Need-returns
 returns c = search needs
 
-pub weakest-spec : {M : Type 1} → statement M
-weakest-spec =
+pub lowest-weak-spec : {M : Type 1} → statement M
+lowest-weak-spec =
     tie.close
     (tie.spec
     slice-aggregate-first-weak
