@@ -4,7 +4,7 @@ use Rattle.plane.specs.OctantTable.{octants}
 use Rattle.model.specs.Decks.{deckRow, Holds, Filed, All, play, reads, filed}
 use Rattle.model.specs.Example.{ExampleListing, exampleFile, exampleText, listed}
 use Rattle.model.specs.Table.{table, deck1, deck2, deck3, deck4, deck5, deck6, deck7, deck8, deck9, deck10, deck11}
-use Rattle.model.specs.TableFiles.{otherStart, sectionsApart, unevenSection, pinTooMany, pinTwice, runTurned, fullFile, plainFile}
+use Rattle.model.specs.TableFiles.{otherStart, otherCount, tooLong, sectionsApart, byteBehind, unevenSection, unevenRuns, pinTooMany, pinTwice, beyondRange, tapOnPin, runTurned, tapOfTwoRuns, otherTree, fullFile, plainFile}
 use Rattle.model.specs.TableMore.{sweptByItsRound, sweepOrder, tapLine, secondRemoval, anotherRunJoins, orderOfEntry, equalSavings, greatestSaving, lowerEndFirst, octantBorder, refusals}
 
 deck1-holds : Holds (deckRow deck1)
@@ -127,8 +127,40 @@ plainFile-holds : Holds plainFile
 unfolding reads plainFile
 plainFile-holds = refl
 
+otherCount-holds : Holds otherCount
+unfolding reads otherCount
+otherCount-holds = refl
+
+tooLong-holds : Holds tooLong
+unfolding reads tooLong
+tooLong-holds = refl
+
+byteBehind-holds : Holds byteBehind
+unfolding reads byteBehind
+byteBehind-holds = refl
+
+unevenRuns-holds : Holds unevenRuns
+unfolding reads unevenRuns
+unevenRuns-holds = refl
+
+beyondRange-holds : Holds beyondRange
+unfolding reads beyondRange
+beyondRange-holds = refl
+
+tapOnPin-holds : Holds tapOnPin
+unfolding reads tapOnPin
+tapOnPin-holds = refl
+
+tapOfTwoRuns-holds : Holds tapOfTwoRuns
+unfolding reads tapOfTwoRuns
+tapOfTwoRuns-holds = refl
+
+otherTree-holds : Holds otherTree
+unfolding reads otherTree
+otherTree-holds = refl
+
 pub decks-hold : All Holds table
-unfolding table deck11 otherStart sectionsApart unevenSection pinTooMany pinTwice runTurned fullFile plainFile
+unfolding table deck11 otherStart otherCount tooLong sectionsApart byteBehind unevenSection unevenRuns pinTooMany pinTwice beyondRange tapOnPin runTurned tapOfTwoRuns otherTree fullFile plainFile
 decks-hold = (
   deck1-holds,
   (
@@ -176,20 +208,38 @@ decks-hold = (
                                             (
                                               otherStart-holds,
                                               (
-                                                sectionsApart-holds,
+                                                otherCount-holds,
                                                 (
-                                                  unevenSection-holds,
+                                                  tooLong-holds,
                                                   (
-                                                    pinTooMany-holds,
+                                                    sectionsApart-holds,
                                                     (
-                                                      pinTwice-holds,
+                                                      byteBehind-holds,
                                                       (
-                                                        runTurned-holds,
+                                                        unevenSection-holds,
                                                         (
-                                                          fullFile-holds,
+                                                          unevenRuns-holds,
                                                           (
-                                                            plainFile-holds,
-                                                            tt,
+                                                            pinTooMany-holds,
+                                                            (
+                                                              pinTwice-holds,
+                                                              (
+                                                                beyondRange-holds,
+                                                                (
+                                                                  tapOnPin-holds,
+                                                                  (
+                                                                    runTurned-holds,
+                                                                    (
+                                                                      tapOfTwoRuns-holds,
+                                                                      (
+                                                                        otherTree-holds,
+                                                                        (fullFile-holds, (plainFile-holds, tt)),
+                                                                      ),
+                                                                    ),
+                                                                  ),
+                                                                ),
+                                                              ),
+                                                            ),
                                                           ),
                                                         ),
                                                       ),
@@ -222,7 +272,7 @@ decks-hold = (
 )
 
 pub decks-filed : All Filed table
-unfolding table filed deck1 deck2 deck3 deck4 deck5 deck6 deck7 deck8 deck9 deck10 deck11 sweptByItsRound sweepOrder tapLine secondRemoval anotherRunJoins orderOfEntry equalSavings greatestSaving lowerEndFirst octantBorder refusals otherStart sectionsApart unevenSection pinTooMany pinTwice runTurned fullFile plainFile
+unfolding table filed deck1 deck2 deck3 deck4 deck5 deck6 deck7 deck8 deck9 deck10 deck11 sweptByItsRound sweepOrder tapLine secondRemoval anotherRunJoins orderOfEntry equalSavings greatestSaving lowerEndFirst octantBorder refusals otherStart otherCount tooLong sectionsApart byteBehind unevenSection unevenRuns pinTooMany pinTwice beyondRange tapOnPin runTurned tapOfTwoRuns otherTree fullFile plainFile
 decks-filed = (
   refl,
   (
@@ -283,7 +333,7 @@ decks-filed = (
                                                           tt,
                                                           (
                                                             tt,
-                                                            tt,
+                                                            (tt, (tt, (tt, (tt, (tt, (tt, (tt, (tt, tt)))))))),
                                                           ),
                                                         ),
                                                       ),

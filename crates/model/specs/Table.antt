@@ -4,7 +4,7 @@ use lib.IntN.{pos, negsuc}
 use Rattle.model.specs.Round.{finished, tap}
 use Rattle.model.specs.Call.{add, withdraw, oneRound, runToEnd, done, answered, rounds}
 use Rattle.model.specs.Decks.{DeckRow, Row, deckRow, octantRow, at, from}
-use Rattle.model.specs.TableFiles.{otherStart, sectionsApart, unevenSection, pinTooMany, pinTwice, runTurned, fullFile, plainFile}
+use Rattle.model.specs.TableFiles.{otherStart, otherCount, tooLong, sectionsApart, byteBehind, unevenSection, unevenRuns, pinTooMany, pinTwice, beyondRange, tapOnPin, runTurned, tapOfTwoRuns, otherTree, fullFile, plainFile}
 use Rattle.model.specs.TableMore.{sweptByItsRound, sweepOrder, tapLine, secondRemoval, anotherRunJoins, orderOfEntry, equalSavings, greatestSaving, lowerEndFirst, octantBorder, refusals}
 
 -- 1. "no pin: length 0, finished"
@@ -168,4 +168,5 @@ table =
     ∷ deckRow deck9 ∷ deckRow deck10 ∷ deck11 ∷ deckRow sweptByItsRound ∷ deckRow sweepOrder ∷ deckRow tapLine
     ∷ deckRow secondRemoval ∷ deckRow anotherRunJoins ∷ deckRow orderOfEntry ∷ deckRow equalSavings ∷ deckRow greatestSaving
     ∷ deckRow lowerEndFirst ∷ deckRow octantBorder ∷ deckRow refusals
-    ∷ otherStart ∷ sectionsApart ∷ unevenSection ∷ pinTooMany ∷ pinTwice ∷ runTurned ∷ fullFile ∷ plainFile ∷ []
+    ∷ otherStart ∷ otherCount ∷ tooLong ∷ sectionsApart ∷ byteBehind ∷ unevenSection ∷ unevenRuns ∷ pinTooMany
+    ∷ pinTwice ∷ beyondRange ∷ tapOnPin ∷ runTurned ∷ tapOfTwoRuns ∷ otherTree ∷ fullFile ∷ plainFile ∷ []

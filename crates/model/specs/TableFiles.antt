@@ -1,5 +1,5 @@
--- Rows of the table on files: each refusal, of a file that fails the next check too, and a file taken in both forms. Two pins are
--- (0,0) and (0,1). A line of twenty numbers is the header up to the second length, and the next its rest.
+-- Rows of the table on files: a file for each refusal that fails the next check too, files that just miss each check, and a file taken
+-- in both forms. The first line of a list is the header up to the second length, the next its rest and the sections.
 use mathlib.Core.List.{List, [], _∷_, _++_}
 use Prim.Native.Nat.{ℕ}
 use lib.ListN.{replicate}
@@ -14,6 +14,22 @@ otherStart =
     ∷ 0 ∷ 0 ∷ 31 ∷ 0 ∷ 0 ∷ 0 ∷ 0 ∷ 0 ∷ 0 ∷ 0 ∷ 0 ∷ [])
     (refusal 1)
 
+-- 1: a section count of 4.
+unfoldable pub otherCount : Row
+otherCount =
+    fileRow
+    (68 ∷ 69 ∷ 67 ∷ 75 ∷ 4 ∷ 0 ∷ 30 ∷ 0 ∷ 0 ∷ 0 ∷ 8 ∷ 0 ∷ 0 ∷ 0 ∷ 38 ∷ 0 ∷ 0 ∷ 0 ∷ 0 ∷ 0
+    ∷ 0 ∷ 0 ∷ 38 ∷ 0 ∷ 0 ∷ 0 ∷ 0 ∷ 0 ∷ 0 ∷ 0 ∷ 0 ∷ 0 ∷ 0 ∷ 0 ∷ 0 ∷ 0 ∷ 1 ∷ 0 ∷ [])
+    (refusal 1)
+
+-- 1: 785 bytes, of which 755 are pins.
+unfoldable pub tooLong : Row
+tooLong =
+    fileRow
+    ((68 ∷ 69 ∷ 67 ∷ 75 ∷ 3 ∷ 0 ∷ 30 ∷ 0 ∷ 0 ∷ 0 ∷ 243 ∷ 2 ∷ 0 ∷ 0 ∷ 17 ∷ 3 ∷ 0 ∷ 0 ∷ 0 ∷ 0
+    ∷ 0 ∷ 0 ∷ 17 ∷ 3 ∷ 0 ∷ 0 ∷ 0 ∷ 0 ∷ 0 ∷ 0 ∷ []) ++ replicate 755 0)
+    (refusal 1)
+
 -- 2: the second section does not start where the first ends; the first has three bytes.
 unfoldable pub sectionsApart : Row
 sectionsApart =
@@ -22,12 +38,28 @@ sectionsApart =
     ∷ 0 ∷ 0 ∷ 33 ∷ 0 ∷ 0 ∷ 0 ∷ 0 ∷ 0 ∷ 0 ∷ 0 ∷ 0 ∷ 0 ∷ 0 ∷ [])
     (refusal 2)
 
+-- 2: a byte behind the last section.
+unfoldable pub byteBehind : Row
+byteBehind =
+    fileRow
+    (68 ∷ 69 ∷ 67 ∷ 75 ∷ 3 ∷ 0 ∷ 30 ∷ 0 ∷ 0 ∷ 0 ∷ 8 ∷ 0 ∷ 0 ∷ 0 ∷ 38 ∷ 0 ∷ 0 ∷ 0 ∷ 0 ∷ 0
+    ∷ 0 ∷ 0 ∷ 38 ∷ 0 ∷ 0 ∷ 0 ∷ 0 ∷ 0 ∷ 0 ∷ 0 ∷ 0 ∷ 0 ∷ 0 ∷ 0 ∷ 0 ∷ 0 ∷ 1 ∷ 0 ∷ 0 ∷ [])
+    (refusal 2)
+
 -- 3: 65 pins and a byte more.
 unfoldable pub unevenSection : Row
 unevenSection =
     fileRow
     ((68 ∷ 69 ∷ 67 ∷ 75 ∷ 3 ∷ 0 ∷ 30 ∷ 0 ∷ 0 ∷ 0 ∷ 5 ∷ 1 ∷ 0 ∷ 0 ∷ 35 ∷ 1 ∷ 0 ∷ 0 ∷ 0 ∷ 0
     ∷ 0 ∷ 0 ∷ 35 ∷ 1 ∷ 0 ∷ 0 ∷ 0 ∷ 0 ∷ 0 ∷ 0 ∷ []) ++ replicate 261 0)
+    (refusal 3)
+
+-- 3: runs of three bytes.
+unfoldable pub unevenRuns : Row
+unevenRuns =
+    fileRow
+    (68 ∷ 69 ∷ 67 ∷ 75 ∷ 3 ∷ 0 ∷ 30 ∷ 0 ∷ 0 ∷ 0 ∷ 8 ∷ 0 ∷ 0 ∷ 0 ∷ 38 ∷ 0 ∷ 0 ∷ 0 ∷ 0 ∷ 0
+    ∷ 0 ∷ 0 ∷ 38 ∷ 0 ∷ 0 ∷ 0 ∷ 3 ∷ 0 ∷ 0 ∷ 0 ∷ 0 ∷ 0 ∷ 0 ∷ 0 ∷ 0 ∷ 0 ∷ 1 ∷ 0 ∷ 0 ∷ 1 ∷ 0 ∷ [])
     (refusal 3)
 
 -- 4: 65 pins, all at one place.
@@ -46,6 +78,22 @@ pinTwice =
     ∷ 0 ∷ 0 ∷ 38 ∷ 0 ∷ 0 ∷ 0 ∷ 2 ∷ 0 ∷ 0 ∷ 0 ∷ 0 ∷ 0 ∷ 0 ∷ 0 ∷ 0 ∷ 0 ∷ 0 ∷ 0 ∷ 1 ∷ 0 ∷ [])
     (refusal 5)
 
+-- 5: a pin at (0,30001).
+unfoldable pub beyondRange : Row
+beyondRange =
+    fileRow
+    (68 ∷ 69 ∷ 67 ∷ 75 ∷ 3 ∷ 0 ∷ 30 ∷ 0 ∷ 0 ∷ 0 ∷ 4 ∷ 0 ∷ 0 ∷ 0 ∷ 34 ∷ 0 ∷ 0 ∷ 0 ∷ 0 ∷ 0
+    ∷ 0 ∷ 0 ∷ 34 ∷ 0 ∷ 0 ∷ 0 ∷ 0 ∷ 0 ∷ 0 ∷ 0 ∷ 0 ∷ 0 ∷ 49 ∷ 117 ∷ [])
+    (refusal 5)
+
+-- 5: a tap where a pin stands.
+unfoldable pub tapOnPin : Row
+tapOnPin =
+    fileRow
+    (68 ∷ 69 ∷ 67 ∷ 75 ∷ 3 ∷ 0 ∷ 30 ∷ 0 ∷ 0 ∷ 0 ∷ 8 ∷ 0 ∷ 0 ∷ 0 ∷ 38 ∷ 0 ∷ 0 ∷ 0 ∷ 4 ∷ 0
+    ∷ 0 ∷ 0 ∷ 42 ∷ 0 ∷ 0 ∷ 0 ∷ 0 ∷ 0 ∷ 0 ∷ 0 ∷ 0 ∷ 0 ∷ 0 ∷ 0 ∷ 0 ∷ 0 ∷ 1 ∷ 0 ∷ 0 ∷ 0 ∷ 1 ∷ 0 ∷ [])
+    (refusal 5)
+
 -- 6: two pins, and their run has its larger number first.
 unfoldable pub runTurned : Row
 runTurned =
@@ -54,7 +102,23 @@ runTurned =
     ∷ 0 ∷ 0 ∷ 38 ∷ 0 ∷ 0 ∷ 0 ∷ 2 ∷ 0 ∷ 0 ∷ 0 ∷ 0 ∷ 0 ∷ 0 ∷ 0 ∷ 0 ∷ 0 ∷ 1 ∷ 0 ∷ 1 ∷ 0 ∷ [])
     (refusal 6)
 
--- Two pins and their run.
+-- 6: a tap at (0,1) with two runs, between the pins (0,0) and (0,2).
+unfoldable pub tapOfTwoRuns : Row
+tapOfTwoRuns =
+    fileRow
+    (68 ∷ 69 ∷ 67 ∷ 75 ∷ 3 ∷ 0 ∷ 30 ∷ 0 ∷ 0 ∷ 0 ∷ 8 ∷ 0 ∷ 0 ∷ 0 ∷ 38 ∷ 0 ∷ 0 ∷ 0 ∷ 4 ∷ 0
+    ∷ 0 ∷ 0 ∷ 42 ∷ 0 ∷ 0 ∷ 0 ∷ 4 ∷ 0 ∷ 0 ∷ 0 ∷ 0 ∷ 0 ∷ 0 ∷ 0 ∷ 0 ∷ 0 ∷ 2 ∷ 0 ∷ 0 ∷ 0 ∷ 1 ∷ 0 ∷ 0 ∷ 1 ∷ 1 ∷ 2 ∷ [])
+    (refusal 6)
+
+-- 6: the pins of deck 9 with the run (10,0) to (10,10) in the place of (0,10) to (10,10), which is as long.
+unfoldable pub otherTree : Row
+otherTree =
+    fileRow
+    (68 ∷ 69 ∷ 67 ∷ 75 ∷ 3 ∷ 0 ∷ 30 ∷ 0 ∷ 0 ∷ 0 ∷ 16 ∷ 0 ∷ 0 ∷ 0 ∷ 46 ∷ 0 ∷ 0 ∷ 0 ∷ 0 ∷ 0
+    ∷ 0 ∷ 0 ∷ 46 ∷ 0 ∷ 0 ∷ 0 ∷ 6 ∷ 0 ∷ 0 ∷ 0 ∷ 0 ∷ 0 ∷ 0 ∷ 0 ∷ 0 ∷ 0 ∷ 10 ∷ 0 ∷ 10 ∷ 0 ∷ 0 ∷ 0 ∷ 10 ∷ 0 ∷ 10 ∷ 0 ∷ 0 ∷ 1 ∷ 0 ∷ 2 ∷ 2 ∷ 3 ∷ [])
+    (refusal 6)
+
+-- The pins (0,0) and (0,1) and their run.
 unfoldable pub fullFile : Row
 fullFile =
     fileRow
