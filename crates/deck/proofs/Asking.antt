@@ -1,50 +1,25 @@
--- What each question answers: the working form and the deck's ends give what the model's questions give.
-use mathlib.Core.Path.{_≡_, refl, sym, ap, ap₂, _∙_, subst, subst⁻¹}
-use mathlib.Core.Logic.{inl, inr, ⊎-elim}
+-- A question on a deck, from that on its working form: refused by 11 where the deck is not sound, else the answer for the working form.
+use mathlib.Core.Path.{_≡_, sym, ap, _∙_}
 use mathlib.Core.Bool.{Bool, true, false}
-use mathlib.Core.Option.{Option, none, some}
-use mathlib.Core.List.{List, [], _∷_, _++_, map, List·Memᴰ, List·Memᴰ·head as head, List·Memᴰ·tail as tail}
-use Prim.Native.Nat.{ℕ, zero, suc, _+_, _-_, _*_, _/_, _%_, _≤_, _<_}
-use native.Mathlib.Omega.{arith}
-use lib.Dec.{T, ltb}
-use lib.ListN.{length, take, replicate, getD, getElem?, length-map}
-use Rattle.spanning.specs.Order.{Sorted}
-use Rattle.spanning.specs.Graph.{degree}
-use Rattle.spanning.proofs.Degree.{degree-zero}
+use mathlib.Core.List.{List, _++_, map}
+use Prim.Native.Nat.{ℕ, _-_}
+use lib.ListN.{length, replicate}
 use Rattle.plane.specs.Test.{if}
-use lib.IntN.{ℤ}
-use Rattle.plane.specs.Point.{Point, inRange, lower, Lower, dist}
-use Rattle.plane.specs.Coordinate.{coordinate}
-use Rattle.plane.specs.Stored.{pointAt}
-use Rattle.plane.specs.Edge.{Edge as PlaneEdge, planar, listedBefore}
-use Rattle.plane.proofs.Order.{lower-order, listed-order}
-use Rattle.model.specs.Set.{has, setOf}
-use Rattle.model.specs.Tree.{mst, edgesAt}
-use Rattle.model.specs.State.{State, points, Valid}
-use Rattle.model.specs.File.{numberOf}
-use Rattle.model.specs.Question as question
-use Rattle.model.proofs.Set.{has-in, set-of-in}
-use Rattle.model.proofs.Tree.{mst-run-tree}
-use Rattle.model.proofs.Prune.{points-in, points-rise}
-use Rattle.model.proofs.FileSize.{listed-count, number-below}
-use Rattle.tree.specs.Held.{held}
-use Rattle.tree.specs.Keys.{keyGraph, tab, endsAt, edgeOf, treeKeys}
-use Rattle.tree.proofs.Join.{tab-in}
-use Rattle.tree.proofs.Numbers.{number-at, tab-length}
-use Rattle.tree.proofs.Sorted.{tree-keys-mst, ps-sorted}
-use Rattle.sets.specs.Array.{placeOf}
-use Rattle.plan.specs.Code.{pointOf}
-use Rattle.plan.specs.declared.Plan.{Plan}
+use Rattle.model.specs.State.{State, points}
+use Rattle.model.specs.Question.{listed}
+use Rattle.tree.specs.Keys.{endsAt}
 use Rattle.plan.specs.Work as work
-use Rattle.plan.proofs.Codes.{points-has, points-union}
-use Rattle.plan.proofs.Arranging.{arranged-placed, codes-count}
-use Rattle.plan.proofs.Sweeping.{held-degree}
+use Rattle.questions.specs.declared.Answer.{Answer}
+use Rattle.questions.specs.declared.Answer.the-variants.{Refused}
+use Rattle.questions.specs.Answers.{Listed}
 use Rattle.deck.specs.declared.Deck.{Deck}
-use Rattle.deck.specs.declared.questions.Answer.{Answer}
-use Rattle.deck.specs.declared.questions.Answer.the-variants.{Refused, Length, Counts, Edge, NoEdge, Degree}
+use Rattle.deck.specs.declared.check.Checked.{Checked}
+use Rattle.deck.specs.Check.{Checks}
 use Rattle.deck.specs.Form.{row, deckOf, stateOf, Sound, sound}
-use Rattle.deck.specs.Questions.{asked, lengthAnswer, countsAnswer, edgeAnswer, edgeOrNone, degreeAnswer}
+use Rattle.deck.specs.Questions.{asked}
+use Rattle.deck.proofs.Calling.{checked-sound}
 
+-- A question by whether the deck is sound.
 pub asked-unsound : (d : Deck) (f : State → Answer) → sound d ≡ false → Refused 11 ≡ asked d f
 unfolding asked
 asked-unsound d f e = ap (λ (b : Bool). if b (λ _. f (stateOf d)) (λ _. Refused 11)) (sym e)
@@ -53,117 +28,26 @@ pub asked-sound : (d : Deck) (f : State → Answer) → sound d ≡ true → f (
 unfolding asked
 asked-sound d f e = ap (λ (b : Bool). if b (λ _. f (stateOf d)) (λ _. Refused 11)) (sym e)
 
--- No edge is at a point that is not held.
-pub none-at : (s : State) → Sorted Lower (s .steiner) → (p : Point) → ¬ List·Memᴰ p (points s) → edgesAt p (mst (points s)) ≡ 0
-unfolding planar
-none-at s rise p n =
-    degree-zero planar p (mst (points s))
-    (λ e i. ⊎-elim (λ q. n (subst⁻¹ (λ (z : Point). List·Memᴰ z (points s)) q (ends e i .0))) (λ q. n (subst⁻¹ (λ (z : Point). List·Memᴰ z (points s)) q (ends e i .1))))
-  where
-    ends : (e : PlaneEdge) → List·Memᴰ e (mst (points s)) → List·Memᴰ (e .lo) (points s) × List·Memᴰ (e .hi) (points s)
-    ends e i = unfold planar in mst-run-tree (points s) (points-rise s rise) .tree .ends e i
+-- The numbers of the edges' ends of a state, in the listing order.
+abbrev numbers : State → List ℕ
+numbers s = map (endsAt (points s)) (listed s)
 
-pub none-beyond : (s : State) → Valid s → (p : Point) → inRange p ≡ false → 0 ≡ question.edgeCountAt p s
-none-beyond s v p e =
-    sym (none-at s (v .placed .steinerRise) p (λ i. subst T e (⊎-elim (v .placed .pinsRange p) (v .placed .steinerRange p) (points-in s p .0 i))))
+-- Every method that asks: the check failed, or the question was asked of the working form.
+module _ (d : Deck) (r : Checked) (k : Checks (sound d) d r) where
+  pub refused-answer : r .ok ≡ false → (f : State → Answer) → Refused 11 ≡ asked d f
+  refused-answer e f = asked-unsound d f (sym (k .ok) ∙ e)
 
--- A working form: its counts, and the edges at a code.
-module _ (w : Plan) (p : work.Planned w) where
-  abbrev at : ℕ → Point
-  at = held (w .xs) (w .ys)
+  pub asked-by : r .ok ≡ true → (f : State → Answer) (a : Answer) → a ≡ f (work.stateOf (r .plan)) → a ≡ asked d f
+  asked-by e f a is = is ∙ ap f (checked-sound d r k e .2) ∙ asked-sound d f (sym (k .ok) ∙ e)
 
-  pub edge-count : w .nkeys ≡ question.edgeCount (work.stateOf w)
-  edge-count =
-      p .keyCount ∙ sym (length-map (treeKeys at (w .npoints)) (edgeOf at))
-      ∙ ap length (tree-keys-mst at (w .npoints) (omega (arith, p .few)) (p .rises)) ∙ ap (λ l. length (mst l)) (p .points)
-
-  listed-codes : map pointOf (take (w .npoints) (w .codes)) ≡ points (work.stateOf w)
-  listed-codes = unfold points in ap (map pointOf) (p .codes) ∙ points-union (take (w .npins) (w .pins)) (take (w .nsteiner) (w .steiner))
-
-  pub counts-answer : (s : State) → work.stateOf w ≡ s → Counts (w .npins) (w .nsteiner) (w .nkeys) ≡ countsAnswer s
-  counts-answer s e =
-      (λ i. Counts (codes-count (w .pins) (w .npins) (p .arranged .pinCodes) i) (codes-count (w .steiner) (w .nsteiner) (p .arranged .steinerCodes) i) (edge-count i)) ∙ ap countsAnswer e
-
-  pub degree-none : (k : ℕ) → has ltb k (take (w .npoints) (w .codes)) ≡ false → 0 ≡ question.edgeCountAt (pointOf k) (work.stateOf w)
-  degree-none k e =
-      sym (none-at (work.stateOf w) (arranged-placed (w .pins) (w .npins) (w .steiner) (w .nsteiner) (p .arranged) .steinerRise) (pointOf k)
-      (λ i. subst T (sym (ap (has lower (pointOf k)) listed-codes) ∙ sym (points-has k (take (w .npoints) (w .codes))) ∙ e) (has-in lower lower-order (pointOf k) (points (work.stateOf w)) .1 i)))
-
-  pub degree-there : (k i n : ℕ) → T (has ltb k (take (w .npoints) (w .codes))) → i ≡ placeOf k (take (w .npoints) (w .codes)) → n ≡ degree keyGraph i (take (w .nkeys) (w .keys))
-      → n ≡ question.edgeCountAt (pointOf k) (work.stateOf w)
-  degree-there k i n h e f = f ∙ ap (λ (z : ℕ). degree keyGraph z (take (w .nkeys) (w .keys))) e ∙ held-degree w p k h
-
-  rising : Sorted Lower (tab at (w .npoints))
-  rising = ps-sorted at (w .npoints) (omega (arith, p .few)) (p .rises)
-
-  -- An edge of the tree from its ends' numbers.
-  module _ (e : PlaneEdge) (i : List·Memᴰ e (mst (points (work.stateOf w)))) where
-    number : (q : Point) → List·Memᴰ q (points (work.stateOf w)) → (numberOf (points (work.stateOf w)) q < w .npoints) × (at (numberOf (points (work.stateOf w)) q) ≡ q)
-    number q m =
-        let t = tab-in at (w .npoints) q .0 (subst⁻¹ (λ (l : List Point). List·Memᴰ q l) (p .points) m) in
-        let n : numberOf (points (work.stateOf w)) q ≡ t .0 =
-        ap₂ numberOf (sym (p .points)) (t .2) ∙ number-at at (w .npoints) (omega (arith, p .few)) (p .rises) (t .0) (t .1) in
-        (omega (arith, n, t .1), ap at n ∙ sym (t .2))
-
-    pub edge-numbers : (n : ℕ) → n ≡ endsAt (points (work.stateOf w)) e
-        → (n / 128 < w .npoints) × (n % 128 < w .npoints) × (edgeAnswer (record { lo = at (n / 128); hi = at (n % 128) }) ≡ edgeAnswer e)
-    edge-numbers n q =
-        let a = number (e .lo) (ends .0) in
-        let b = number (e .hi) (ends .1) in
-        let low : n / 128 ≡ numberOf (points (work.stateOf w)) (e .lo) = omega (arith, q, a .0, b .0, p .few) in
-        let high : n % 128 ≡ numberOf (points (work.stateOf w)) (e .hi) = omega (arith, q, a .0, b .0, p .few) in
-        (omega (arith, low, a .0), omega (arith, high, b .0), (λ i. edgeAnswer (record { lo = (ap at low ∙ a .1) i; hi = (ap at high ∙ b .1) i })))
-      where
-        ends : List·Memᴰ (e .lo) (points (work.stateOf w)) × List·Memᴰ (e .hi) (points (work.stateOf w))
-        ends = unfold planar in mst-run-tree (points (work.stateOf w)) (subst (Sorted Lower) (p .points) rising) .tree .ends e i
-
--- A member of a list by its place, and its number in the row of all.
-pub beyond : {A : Type 0} (l : List A) (i : ℕ) → length l ≤ i → getElem? l i ≡ none
-beyond [] i h = refl
-beyond (a ∷ l) zero h = absurd (omega arith)
-beyond (a ∷ l) (suc i) h = beyond l i (omega arith)
-
-member-at : {A : Type 0} (f : A → ℕ) (l : List A) (r : List ℕ) (i : ℕ) → i < length l
-    → (a : A) × (getElem? l i ≡ some a) × List·Memᴰ a l × (getD (map f l ++ r) i 0 ≡ f a)
-member-at f [] r i h = absurd (omega arith)
-member-at f (a ∷ l) r zero h = (a, refl, head refl, refl)
-member-at f (a ∷ l) r (suc i) h = let m = member-at f l r i (omega arith) in (m .0, m .1, tail (m .2), m .3)
-
--- The edge at a place of a sound deck, of which w is the working form.
-pub record EdgeThere (d : Deck) (w : Plan) (i : ℕ) : Type 0 where
-  pub low : getD (d .ends) i 0 / 128 < w .npoints
-  pub high : getD (d .ends) i 0 % 128 < w .npoints
-  pub is : edgeAnswer (record { lo = held (w .xs) (w .ys) (getD (d .ends) i 0 / 128); hi = held (w .xs) (w .ys) (getD (d .ends) i 0 % 128) }) ≡ edgeOrNone (question.edgeAtPlace i (stateOf d))
-
-module _ (d : Deck) (s : Sound d) (w : Plan) (p : work.Planned w) (same : work.stateOf w ≡ stateOf d) where
-  count : length (question.listed (stateOf d)) ≡ w .nkeys
-  count = listed-count (stateOf d) (s .valid .placed) ∙ ap question.edgeCount (sym same) ∙ sym (edge-count w p)
-
-  pub no-edge : (i : ℕ) → w .nkeys ≤ i → NoEdge ≡ edgeOrNone (question.edgeAtPlace i (stateOf d))
-  unfolding edgeOrNone
-  no-edge i h = ap edgeOrNone (sym (beyond (question.listed (stateOf d)) i (omega (arith, count, h))))
-
-  pub edge-there : (i : ℕ) → i < w .nkeys → EdgeThere d w i
-  unfolding edgeOrNone
-  edge-there i h =
-      let m = member-at (endsAt (points (stateOf d))) (question.listed (stateOf d)) (replicate (128 - length (map (endsAt (points (stateOf d))) (question.listed (stateOf d)))) 0) i (omega (arith, count, h)) in
-      let n : getD (d .ends) i 0 ≡ endsAt (points (work.stateOf w)) (m .0) = ap (λ (l : List ℕ). getD l i 0) ends ∙ m .3 ∙ ap (λ (z : State). endsAt (points z) (m .0)) (sym same) in
-      let r = edge-numbers w p (m .0) (subst⁻¹ (λ (z : State). List·Memᴰ (m .0) (mst (points z))) same (in-tree (m .0) (m .2))) (getD (d .ends) i 0) n in
-      record { low = r .0; high = r .1; is = r .2 ∙ ap edgeOrNone (sym (m .1)) }
+  -- The ends of a sound deck are those of its edges in the listing order.
+  pub ends-listed : r .ok ≡ true → Listed (r .plan) (d .ends)
+  ends-listed e =
+      let is : d .ends ≡ row 128 (numbers (stateOf d)) = ends-are (checked-sound d r k e .0) in
+      record {
+        rest = replicate (128 - length (numbers (stateOf d))) 0;
+        is = is ∙ ap (λ (s : State). numbers s ++ replicate (128 - length (numbers (stateOf d))) 0) (sym (checked-sound d r k e .2));
+      }
     where
-      ends : d .ends ≡ row 128 (map (endsAt (points (stateOf d))) (question.listed (stateOf d)))
-      ends = unfold deckOf in λ i. s .same i .ends
-
-      in-tree : (e : PlaneEdge) → List·Memᴰ e (question.listed (stateOf d)) → List·Memᴰ e (mst (points (stateOf d)))
-      in-tree e i = unfold question.listed in set-of-in listedBefore listed-order (mst (points (stateOf d))) e .0 i
-
--- The answers from those of a working form.
-pub length-answer : (n : ℕ) (s s′ : State) → n ≡ question.lengthOfState s → s ≡ s′ → Length n ≡ lengthAnswer s′
-length-answer n s s′ e f = ap Length (e ∙ ap question.lengthOfState f)
-
-pub degree-answer : (n : ℕ) (p q : Point) (s s′ : State) → n ≡ question.edgeCountAt p s → p ≡ q → s ≡ s′ → Degree n ≡ degreeAnswer q s′
-degree-answer n p q s s′ e f g = ap Degree e ∙ ap₂ degreeAnswer f g
-
-pub edge-is : (x y u v : ℤ) (n a b c d : ℕ) → x ≡ coordinate a → y ≡ coordinate b → u ≡ coordinate c → v ≡ coordinate d → n ≡ dist (pointAt a b) (pointAt c d)
-    → Edge x y u v n ≡ edgeAnswer (record { lo = pointAt a b; hi = pointAt c d })
-edge-is x y u v n a b c d ex ey eu ev en = λ i. Edge (ex i) (ey i) (eu i) (ev i) (en i)
+      ends-are : Sound d → d .ends ≡ row 128 (numbers (stateOf d))
+      ends-are s = unfold deckOf in λ i. s .same i .ends

@@ -16,13 +16,15 @@ use Rattle.model.proofs.Step.{step-valid, after-valid}
 use Rattle.model.proofs.Demand3.{start-valid, valid-kept}
 use Rattle.plan.proofs.Sweeping.{true-of}
 use Rattle.deck.specs.declared.Deck.{Deck}
-use Rattle.deck.specs.declared.calls.Outcome.{Outcome}
-use Rattle.deck.specs.declared.calls.Reply.{Reply}
-use Rattle.deck.specs.declared.calls.Reply.the-variants.{Finished, Tap, Rounds}
-use Rattle.deck.specs.declared.questions.Answer.{Answer}
+use Rattle.deck.specs.declared.Outcome.{Outcome}
+use Rattle.calls.specs.declared.Reply.{Reply}
+use Rattle.calls.specs.declared.Reply.the-variants.{Finished, Tap, Rounds}
+use Rattle.questions.specs.declared.Answer.{Answer}
 use Rattle.deck.specs.Form.{deckOf, stateOf, Sound, sound}
-use Rattle.deck.specs.Calls.{replyOf, answer, called}
-use Rattle.deck.specs.Questions.{asked, lengthAnswer, edgeAtAnswer}
+use Rattle.calls.specs.Changes.{replyOf}
+use Rattle.deck.specs.Calls.{answer, called}
+use Rattle.deck.specs.Questions.{asked}
+use Rattle.questions.specs.Answers.{lengthAnswer, edgeAtAnswer}
 use Rattle.deck.specs.Demand3.{after, replies, reckoned, RoundsTo, ended, added, Kept, Demand3}
 use Rattle.deck.proofs.Forms.{state-deck, deck-sound, sound-is}
 use Rattle.deck.proofs.Calling.{called-sound}

@@ -4,6 +4,4 @@ pub mod Checking
 pub mod Demand3
 pub mod Forms
 pub mod FromPlan
-pub mod FromRounds
-pub mod Locating
 pub mod Pointing

@@ -10,13 +10,15 @@ use Rattle.model.specs.Question as question
 use Rattle.model.specs.Call as call
 use Rattle.model.specs.Demand3 as model
 use Rattle.deck.specs.declared.Deck.{Deck}
-use Rattle.deck.specs.declared.calls.Outcome.{Outcome}
-use Rattle.deck.specs.declared.calls.Reply.{Reply}
-use Rattle.deck.specs.declared.calls.Reply.the-variants.{Finished, Tap, Rounds}
-use Rattle.deck.specs.declared.questions.Answer.the-variants.{Length}
+use Rattle.deck.specs.declared.Outcome.{Outcome}
+use Rattle.calls.specs.declared.Reply.{Reply}
+use Rattle.calls.specs.declared.Reply.the-variants.{Finished, Tap, Rounds}
+use Rattle.questions.specs.declared.Answer.the-variants.{Length}
 use Rattle.deck.specs.Form.{deckOf, stateOf, Sound}
-use Rattle.deck.specs.Calls.{replyOf, called}
-use Rattle.deck.specs.Questions.{asked, lengthAnswer, edgeAtAnswer}
+use Rattle.calls.specs.Changes.{replyOf}
+use Rattle.deck.specs.Calls.{called}
+use Rattle.deck.specs.Questions.{asked}
+use Rattle.questions.specs.Answers.{lengthAnswer, edgeAtAnswer}
 
 -- The deck after a list of calls, and their replies. `called` is what each method of the deck answers, for every deck handed in.
 unfoldable pub after : Deck → List call.Call → Deck

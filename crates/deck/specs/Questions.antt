@@ -1,40 +1,12 @@
--- What the questions on a deck answer, by the model.
-use mathlib.Core.Option.{Option, none, some}
+-- What the questions on a deck answer.
 use Prim.Native.Nat.{ℕ}
 use Rattle.plane.specs.Test.{if}
-use Rattle.plane.specs.Point.{Point}
-use Rattle.plane.specs.Edge.{Edge as PlaneEdge, edgeLength}
 use Rattle.model.specs.State.{State}
-use Rattle.model.specs.Question as question
+use Rattle.questions.specs.declared.Answer.{Answer}
+use Rattle.questions.specs.declared.Answer.the-variants.{Refused}
 use Rattle.deck.specs.declared.Deck.{Deck}
-use Rattle.deck.specs.declared.questions.Answer.{Answer}
-use Rattle.deck.specs.declared.questions.Answer.the-variants.{Refused, Length, Counts, Edge, NoEdge, Degree}
 use Rattle.deck.specs.Form.{stateOf, sound}
 
 -- A question on any deck at all: refused by 11 where it is not sound, else the answer for its state.
 unfoldable pub asked : Deck → (State → Answer) → Answer
 asked d f = if (sound d) (λ _. f (stateOf d)) (λ _. Refused 11)
-
--- "its length"
-abbrev pub lengthAnswer : State → Answer
-lengthAnswer s = Length (question.lengthOfState s)
-
--- "its counts of pins, taps and runs"
-abbrev pub countsAnswer : State → Answer
-countsAnswer s = Counts (question.pinCount s) (question.steinerCount s) (question.edgeCount s)
-
--- A run: "lower end, higher end, length".
-abbrev pub edgeAnswer : PlaneEdge → Answer
-edgeAnswer e = Edge (e .lo .x) (e .lo .y) (e .hi .x) (e .hi .y) (edgeLength e)
-
-unfoldable pub edgeOrNone : Option PlaneEdge → Answer
-edgeOrNone none = NoEdge
-edgeOrNone (some e) = edgeAnswer e
-
--- "the run at a place in the listing order, places from 0"; "A run asked for beyond the last is answered 'no run'".
-abbrev pub edgeAtAnswer : ℕ → State → Answer
-edgeAtAnswer i s = edgeOrNone (question.edgeAtPlace i s)
-
--- "the number of runs at a point (0 where none is held)"
-abbrev pub degreeAnswer : Point → State → Answer
-degreeAnswer p s = Degree (question.edgeCountAt p s)

@@ -1,10 +1,10 @@
 // The deck: its pins, its Steiner points (document 01: taps) and the edges of its tree, with the calls and questions on it.
+mod answers;
 pub mod build;
-pub mod calls;
+mod changes;
 mod check;
-mod place;
-pub mod questions;
 
+use calls::Reply;
 ghost use mathlib.Core.Path.{_≡_};
 ghost use Rattle.model.specs.State as state;
 ghost use Rattle.deck.specs.Form.{deckOf};
@@ -17,6 +17,12 @@ pub struct Deck {
     pub steiner: [u64; 64],
     pub nsteiner: usize,
     pub ends: [u64; 128],
+}
+
+// What a call hands back: the deck that follows, and the reply.
+pub struct Outcome {
+    pub next: Deck,
+    pub reply: Reply,
 }
 
 impl Deck {

@@ -6,12 +6,11 @@ use lib.IntN.{ℤ}
 use mir.Syntax.{w32}
 use mir.Val.{SFits, toZ, ofZ}
 use mir.ValLaws.{toZ-ofZ}
-use Rattle.plane.specs.Point.{Point}
 use Rattle.model.specs.State.{State}
 use Rattle.model.specs.Call.{Call}
 use Rattle.deck.specs.declared.Deck.{Deck}
-use Rattle.deck.specs.declared.calls.Outcome.{Outcome}
-use Rattle.deck.specs.declared.questions.Answer.{Answer}
+use Rattle.deck.specs.declared.Outcome.{Outcome}
+use Rattle.questions.specs.declared.Answer.{Answer}
 use Rattle.deck.specs.Calls.{called}
 use Rattle.deck.specs.Questions.{asked}
 use Rattle.deck_entries.specs.Shown.{Shows}
@@ -25,10 +24,6 @@ read-two x y l f g i = toZ-ofZ w32 x f i ∷ toZ-ofZ w32 y g i ∷ l
 pub read-four : (x y u v : ℤ) → SFits w32 x → SFits w32 y → SFits w32 u → SFits w32 v
     → toZ w32 (ofZ w32 x) ∷ toZ w32 (ofZ w32 y) ∷ toZ w32 (ofZ w32 u) ∷ toZ w32 (ofZ w32 v) ∷ [] ≡ x ∷ y ∷ u ∷ v ∷ []
 read-four x y u v f g h k i = read-two x y (read-two u v [] h k i) f g i
-
--- A point read back.
-pub read-point : (x y : ℤ) → SFits w32 x → SFits w32 y → _≡_ {A = Point} (record { x = toZ w32 (ofZ w32 x); y = toZ w32 (ofZ w32 y) }) (record { x = x; y = y })
-read-point x y f g i = record { x = toZ-ofZ w32 x f i; y = toZ-ofZ w32 y g i }
 
 -- What is shown of an outcome is shown of the call's, where they are the same.
 pub shows-called : {d e : Deck} {a b : Call} {o : Outcome} {s : Deck} {k : ℕ} {n : List ℕ} {p : List ℤ}

@@ -4,9 +4,9 @@ use mathlib.Core.List.{List, [], _∷_}
 use Prim.Native.Nat.{ℕ}
 use lib.IntN.{ℤ, pos}
 use Rattle.deck.specs.declared.Deck.{Deck}
-use Rattle.deck.specs.declared.calls.Outcome.{Outcome}
-use Rattle.deck.specs.declared.calls.Reply.{Reply}
-use Rattle.deck.specs.declared.calls.Reply.the-variants.{Done, Refused, Finished, Tap, Rounds}
+use Rattle.deck.specs.declared.Outcome.{Outcome}
+use Rattle.calls.specs.declared.Reply.{Reply}
+use Rattle.calls.specs.declared.Reply.the-variants.{Done, Refused, Finished, Tap, Rounds}
 
 -- The deck with these fields.
 abbrev pub deckAt : List ℕ → ℕ → List ℕ → ℕ → List ℕ → Deck

@@ -3,8 +3,8 @@ use mathlib.Core.Path.{_≡_}
 use mathlib.Core.List.{List, [], _∷_}
 use Prim.Native.Nat.{ℕ}
 use lib.IntN.{ℤ, pos}
-use Rattle.deck.specs.declared.questions.Answer.{Answer}
-use Rattle.deck.specs.declared.questions.Answer.the-variants.{Refused, Length, Counts, Edge, NoEdge, Degree}
+use Rattle.questions.specs.declared.Answer.{Answer}
+use Rattle.questions.specs.declared.Answer.the-variants.{Refused, Length, Counts, Edge, NoEdge, Degree}
 
 -- The number of a kind of answer; a refusal has the number that it has for a reply, and no other has one of those.
 abbrev pub kindOf : Answer → ℕ

@@ -1,5 +1,5 @@
 // An answer to a question as a kind, three numbers and two points.
-use deck::questions::Answer;
+use questions::Answer;
 ghost use mathlib.Core.Path.{_≡_};
 ghost use Rattle.deck_entries.specs.Told.{kindOf, numbersOf, placesOf, Tells};
 

@@ -3,7 +3,7 @@ use super::replies::kind_of;
 use super::replies::numbers_of;
 use super::replies::places_of;
 use deck::Deck;
-use deck::calls::Outcome;
+use deck::Outcome;
 ghost use mathlib.Core.Path.{_≡_};
 ghost use Rattle.deck_entries.specs.Shown.{deckAt, Shows};
 

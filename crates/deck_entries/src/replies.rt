@@ -1,5 +1,5 @@
 // A reply as a kind, three numbers and two points.
-use deck::calls::Reply;
+use calls::Reply;
 ghost use mathlib.Core.Path.{_≡_};
 ghost use Rattle.deck_entries.specs.Shown.{kindOf, numbersOf, placesOf};
 

@@ -12,7 +12,7 @@ use Rattle.plane.proofs.Test.{and-parts}
 use Rattle.model.specs.Refusal.{check, firstFailed}
 use Rattle.model.specs.State.{maxPins, placed}
 use Rattle.model.specs.File.{readBy, readFile, offset, size, headed, laidOut, whole, shown, showsDeck}
-use Rattle.deck.specs.declared.calls.Outcome.{Outcome}
+use Rattle.deck.specs.declared.Outcome.{Outcome}
 use Rattle.deck.specs.Form.{deckOf}
 use Rattle.sections.specs.Layout.{Sections}
 use Rattle.deckfile.specs.Reading.{refusing, accepting, outcomeOf, reading, showing}

@@ -18,8 +18,8 @@ use Rattle.model.proofs.FileParts.{joined, joined-laid}
 use Rattle.model.proofs.FileValid.{file-valid}
 use Rattle.model.proofs.FileRoundTrip.{written-read, full-written-back}
 use Rattle.deck.specs.declared.Deck.{Deck}
-use Rattle.deck.specs.declared.calls.Outcome.{Outcome}
-use Rattle.deck.specs.declared.calls.Reply.the-variants as reply
+use Rattle.deck.specs.declared.Outcome.{Outcome}
+use Rattle.calls.specs.declared.Reply.the-variants as reply
 use Rattle.deck.specs.Form.{deckOf, stateOf, Sound, sound}
 use Rattle.deck.proofs.Forms.{state-deck, deck-sound, sound-is}
 use Rattle.deck.proofs.Checking.{sound-few, sound-left}

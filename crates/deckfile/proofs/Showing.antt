@@ -16,8 +16,8 @@ use Rattle.model.proofs.FileParts.{same-eq}
 use Rattle.plan.specs.Code.{code}
 use Rattle.deck.specs.declared.Deck.{Deck}
 use Rattle.deck.specs.declared.build.Built.{Built}
-use Rattle.deck.specs.declared.calls.Outcome.{Outcome}
-use Rattle.deck.specs.declared.calls.Reply.the-variants.{Refused}
+use Rattle.deck.specs.declared.Outcome.{Outcome}
+use Rattle.calls.specs.declared.Reply.the-variants.{Refused}
 use Rattle.deck.specs.Form.{row, deckOf, stateOf, Sound}
 use Rattle.deck.specs.Check.{arranged, pointed, unjoined, built}
 use Rattle.deck.proofs.Forms.{state-deck, deck-sound}

@@ -7,8 +7,8 @@ use Rattle.model.specs.State.{State, empty, valid}
 use Rattle.model.specs.File.{Read, deck, refusal, readFile, shown, showsDeck}
 use Rattle.deck.specs.declared.Deck.{Deck}
 use Rattle.deck.specs.declared.build.Built.{Built}
-use Rattle.deck.specs.declared.calls.Outcome.{Outcome}
-use Rattle.deck.specs.declared.calls.Reply.the-variants.{Done, Refused}
+use Rattle.deck.specs.declared.Outcome.{Outcome}
+use Rattle.calls.specs.declared.Reply.the-variants.{Done, Refused}
 use Rattle.deck.specs.Form.{deckOf}
 
 -- "reading hands back an empty deck" where it refuses.

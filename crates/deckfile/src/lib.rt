@@ -3,7 +3,7 @@ mod reader;
 mod writer;
 
 use deck::Deck;
-use deck::calls::Outcome;
+use deck::Outcome;
 use reader::deck_shown;
 use reader::refuse;
 use sections::header::is_headed;

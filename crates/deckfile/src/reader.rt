@@ -1,9 +1,9 @@
 // The deck that a file shows: check 6.
+use calls::Reply;
 use deck::Deck;
+use deck::Outcome;
 use deck::build::Built;
 use deck::build::build;
-use deck::calls::Outcome;
-use deck::calls::Reply;
 use sections::edges::edges_of;
 use sections::edges::same_edges;
 use sections::header::is_plain;

@@ -17,7 +17,8 @@ use Rattle.plan.proofs.Sweeping.{true-of}
 use Rattle.tree.specs.Front.{Front}
 use Rattle.deck.specs.declared.Deck.{Deck}
 use Rattle.deck.specs.Form.{deckOf, stateOf, sound}
-use Rattle.deck.specs.Calls.{refusalNumber, called}
+use Rattle.calls.specs.Changes.{refusalNumber}
+use Rattle.deck.specs.Calls.{called}
 use Rattle.deck.proofs.Forms.{state-deck, deck-sound, sound-is}
 use Rattle.deckfile.specs.Reading.{outcomeOf, reading}
 use Rattle.ascii.specs.Text.{fitting}

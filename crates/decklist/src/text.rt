@@ -1,5 +1,5 @@
 // What the program prints for a file.
-use deck::calls::refusal_number;
+use calls::refusal_number;
 ghost use lib.ListN.{length};
 ghost use Rattle.io.specs.Counts.{Counts};
 ghost use Rattle.model.specs.Listing.{listingOfFile};

@@ -11,7 +11,7 @@ use Rattle.plane.specs.Test.{if}
 use Rattle.model.specs.File.{fileOf}
 use Rattle.model.proofs.FileSize.{file-size}
 use Rattle.deck.specs.declared.Deck.{Deck}
-use Rattle.deck.specs.declared.questions.Answer.the-variants as answer
+use Rattle.questions.specs.declared.Answer.the-variants as answer
 use Rattle.deck.specs.Form.{stateOf, sound}
 use Rattle.deckfile.specs.declared.Written.{Written}
 use Rattle.deckfile.specs.declared.Written.the-variants.{Refused, Length}

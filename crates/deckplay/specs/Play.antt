@@ -12,11 +12,12 @@ use Rattle.model.specs.Call as call
 use Rattle.model.specs.File.{fileOf}
 use Rattle.tree.specs.Front.{Front}
 use Rattle.deck.specs.declared.Deck.{Deck}
-use Rattle.deck.specs.declared.calls.Outcome.{Outcome}
-use Rattle.deck.specs.declared.questions.Answer.the-variants as answer
+use Rattle.deck.specs.declared.Outcome.{Outcome}
+use Rattle.questions.specs.declared.Answer.the-variants as answer
 use Rattle.deck.specs.Form.{stateOf, sound}
 use Rattle.deck.specs.Calls.{called}
-use Rattle.deck.specs.Questions.{asked, lengthAnswer, countsAnswer, edgeAtAnswer, degreeAnswer}
+use Rattle.deck.specs.Questions.{asked}
+use Rattle.questions.specs.Answers.{lengthAnswer, countsAnswer, edgeAtAnswer, degreeAnswer}
 use Rattle.deckfile.specs.Reading.{reading}
 use Rattle.script.specs.declared.Command.{Command}
 use Rattle.script.specs.declared.Command.the-variants as command

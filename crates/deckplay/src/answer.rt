@@ -2,9 +2,9 @@
 use ascii::encode::file_line;
 use ascii::encode::joined;
 use deck::Deck;
-use deck::calls::Outcome;
-use deck::questions::Answer;
+use deck::Outcome;
 use deckfile::Written;
+use questions::Answer;
 use replies::answer_line;
 use replies::error_line;
 use replies::octant_line;

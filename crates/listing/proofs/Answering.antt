@@ -12,10 +12,11 @@ use Rattle.plane.specs.Test.{if}
 use Rattle.model.specs.Listing.{listing, refusedLine}
 use Rattle.tree.specs.Front.{Front}
 use Rattle.deck.specs.declared.Deck.{Deck}
-use Rattle.deck.specs.declared.questions.Answer.{Answer}
-use Rattle.deck.specs.declared.questions.Answer.the-variants.{Refused, Length, Counts, Edge, NoEdge, Degree}
+use Rattle.questions.specs.declared.Answer.{Answer}
+use Rattle.questions.specs.declared.Answer.the-variants.{Refused, Length, Counts, Edge, NoEdge, Degree}
 use Rattle.deck.specs.Form.{stateOf, sound}
-use Rattle.deck.specs.Questions.{asked, lengthAnswer}
+use Rattle.deck.specs.Questions.{asked}
+use Rattle.questions.specs.Answers.{lengthAnswer}
 use Rattle.ascii.specs.Text.{Put, fitting}
 use Rattle.listing.specs.Whole.{deckText, Measures}
 

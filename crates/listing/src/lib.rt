@@ -5,7 +5,7 @@ use ascii::byte;
 use ascii::decimal_field;
 use ascii::word;
 use deck::Deck;
-use deck::questions::Answer;
+use questions::Answer;
 use rows::head_line;
 use rows::run_lines;
 use rows::tap_lines;

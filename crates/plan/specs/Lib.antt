@@ -1,3 +1,4 @@
 pub mod Code
+pub mod Place
 pub mod Weak
 pub mod Work

@@ -1,6 +1,7 @@
 // The working form of a deck: its pins and Steiner points as codes, all its points with their coordinates, and the keys of
 // their tree.
 pub mod change;
+pub mod place;
 pub mod prune;
 
 ghost use mathlib.Core.Path.{_≡_};

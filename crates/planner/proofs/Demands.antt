@@ -21,11 +21,12 @@ use Rattle.model.proofs.Step.{step-valid, after-valid}
 use Rattle.model.proofs.FileSize.{file-size}
 use Rattle.model.proofs.FileRoundTrip.{written-read}
 use Rattle.deck.specs.declared.Deck.{Deck}
-use Rattle.deck.specs.declared.calls.Outcome.{Outcome}
-use Rattle.deck.specs.declared.calls.Reply.{Reply}
-use Rattle.deck.specs.declared.calls.Reply.the-variants as reply
+use Rattle.deck.specs.declared.Outcome.{Outcome}
+use Rattle.calls.specs.declared.Reply.{Reply}
+use Rattle.calls.specs.declared.Reply.the-variants as reply
 use Rattle.deck.specs.Form.{deckOf, stateOf, Sound, sound}
-use Rattle.deck.specs.Calls.{replyOf, answer, refusal, called}
+use Rattle.calls.specs.Changes.{replyOf}
+use Rattle.deck.specs.Calls.{answer, refusal, called}
 use Rattle.deck.specs.Demand3 as decks
 use Rattle.deck.proofs.Checking.{false-of}
 use Rattle.deck.proofs.Forms.{state-deck, deck-sound, sound-is}

@@ -17,9 +17,10 @@ use Rattle.model.proofs.FileValid.{file-valid}
 use Rattle.model.proofs.Demand3.{empty-valid}
 use Rattle.plan.proofs.Sweeping.{true-of}
 use Rattle.deck.specs.declared.Deck.{Deck}
-use Rattle.deck.specs.declared.calls.Outcome.{Outcome}
+use Rattle.deck.specs.declared.Outcome.{Outcome}
 use Rattle.deck.specs.Form.{deckOf, stateOf, sound}
-use Rattle.deck.specs.Calls.{refusalNumber, called}
+use Rattle.calls.specs.Changes.{refusalNumber}
+use Rattle.deck.specs.Calls.{called}
 use Rattle.deck.specs.Demand3 as decks
 use Rattle.deck.proofs.Forms.{state-deck, deck-sound, sound-is}
 use Rattle.deck.proofs.Demand3.{next-valid, after-deck}

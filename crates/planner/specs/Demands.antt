@@ -11,9 +11,9 @@ use Rattle.model.specs.State.{State, empty, Valid}
 use Rattle.model.specs.Call as call
 use Rattle.model.specs.File.{deck, readFile, fileOf, longest}
 use Rattle.deck.specs.declared.Deck.{Deck}
-use Rattle.deck.specs.declared.calls.Reply.the-variants as reply
-use Rattle.deck.specs.declared.questions.Answer.{Answer}
-use Rattle.deck.specs.declared.questions.Answer.the-variants as question
+use Rattle.calls.specs.declared.Reply.the-variants as reply
+use Rattle.questions.specs.declared.Answer.{Answer}
+use Rattle.questions.specs.declared.Answer.the-variants as question
 use Rattle.deck.specs.Form.{deckOf, stateOf, Sound}
 use Rattle.deck.specs.Calls.{answer, refusal, called}
 use Rattle.deck.specs.Questions.{asked}

@@ -1,10 +1,10 @@
 // What other programs call: a deck file planned to the end, and a list of calls made on a deck.
 mod replay;
 
+use calls::Reply;
+use calls::refusal_number;
 use deck::Deck;
-use deck::calls::Outcome;
-use deck::calls::Reply;
-use deck::calls::refusal_number;
+use deck::Outcome;
 use deckfile::Written;
 use replay::replay;
 ghost use mathlib.Core.Path.{_≡_};

@@ -2,8 +2,8 @@
 use ascii::decimal_field;
 use ascii::signed_field;
 use ascii::word;
-use deck::calls::Reply;
-use deck::questions::Answer;
+use calls::Reply;
+use questions::Answer;
 ghost use Prim.Native.Nat.{_+_, _≤_};
 ghost use lib.ListN.{length};
 ghost use Rattle.tree.specs.Front.{Front};

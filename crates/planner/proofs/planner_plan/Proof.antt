@@ -1,9 +1,9 @@
 -- `planner::planner_plan` meets its contract: a refusal of the file, or the run to the end of its deck written.
 use mathlib.Core.Path.{ap, _∙_}
 use Rattle.model.specs.File.{readFile}
-use Rattle.deck.specs.declared.calls.Outcome.{Outcome}
+use Rattle.deck.specs.declared.Outcome.{Outcome}
 use Rattle.planner.specs.Entry.{toEnd}
-use Rattle.deck.specs.Calls.{refusalNumber}
+use Rattle.calls.specs.Changes.{refusalNumber}
 use Rattle.planner.proofs.Serving.{read-good, served-refused, served-deck, end-valid, end-next}
 use borrow.Author.Needs.{needs}
 use Rattle.planner.proofs.planner_plan.Statement.{statement}

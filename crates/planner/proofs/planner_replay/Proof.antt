@@ -1,9 +1,9 @@
 -- `planner::planner_replay` meets its contract: a refusal of the file, or the deck after the calls written.
 use mathlib.Core.Path.{ap, _∙_}
 use denote.Ref.{now}
-use Rattle.deck.specs.declared.calls.Outcome.{Outcome}
+use Rattle.deck.specs.declared.Outcome.{Outcome}
 use Rattle.planner.specs.Entry.{startOf, afterAll}
-use Rattle.deck.specs.Calls.{refusalNumber}
+use Rattle.calls.specs.Changes.{refusalNumber}
 use Rattle.planner.proofs.Serving.{start-good, served-refused, served-deck, all-valid, all-next}
 use borrow.Author.Needs.{needs}
 use Rattle.planner.proofs.planner_replay.Statement.{statement}

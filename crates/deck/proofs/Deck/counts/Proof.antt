@@ -1,30 +1,30 @@
--- `deck::Deck::counts` meets its contract: the check, then the counts of the working form.
-use mathlib.Core.Path.{sym, _∙_}
+-- `deck::Deck::counts` meets its contract: the check, then the question on the working form.
 use borrow.Author.Tests.{not-true, not-false}
-use Rattle.deck.specs.Questions.{countsAnswer}
+use Rattle.questions.specs.Answers.{countsAnswer}
 use Rattle.deck.proofs.Calling.{checked-sound}
-use Rattle.deck.proofs.Asking.{asked-unsound, asked-sound, counts-answer}
+use Rattle.deck.proofs.Asking.{refused-answer, asked-by}
 use borrow.Author.Needs.{needs}
 use Rattle.deck.proofs.Deck.counts.Statement.{statement}
 use Rattle.deck.proofs.Deck.counts.Tie as tie
-use Rattle.deck.proofs.Deck.counts.Reads as reads
-use Rattle.deck.proofs.Deck.counts.Lts as lts
-use Rattle.deck.proofs.check.check.Reads as check-reads
 
--- src/questions.rt:83:13
 check-requires : tie.Need-check-requires
 check-requires c κs = search needs
 
--- src/questions.rt:85:13
 returns : tie.Need-returns
-returns c = asked-unsound _ _ (sym (c .before .before .check .ensures .ok) ∙ not-true _ (c .if1 .taken))
+returns c =
+    let at-check = c .before .before in
+    refused-answer _ _ (at-check .check .ensures) (not-true _ (c .if1 .taken)) _
 
--- src/questions.rt:80:5
+counts-requires : tie.Need-counts-requires
+counts-requires c κs =
+    let at-check = c .before .before in
+    checked-sound _ _ (at-check .check .ensures) (not-false _ (c .if1 .left)) .1
+
 returns-2 : tie.Need-returns-2
 returns-2 c =
-    let t = not-false _ (c .before .if1 .left) in
-    let k = checked-sound _ _ (c .before .before .before .check .ensures) t in
-    counts-answer (c .before .before .before .check .result .plan) (k .1) _ (k .2) ∙ asked-sound (c .before .before .before .before .args .self) countsAnswer (sym (c .before .before .before .check .ensures .ok) ∙ t)
+    let at-if = c .before in
+    let at-check = at-if .before .before in
+    asked-by _ _ (at-check .check .ensures) (not-false _ (at-if .if1 .left)) countsAnswer _ (c .counts .ensures)
 
 pub counts-spec : {M : Type 1} → statement M
-counts-spec = tie.close (tie.spec check-requires returns returns-2)
+counts-spec = tie.close (tie.spec check-requires returns counts-requires returns-2)

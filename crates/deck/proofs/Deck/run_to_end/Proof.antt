@@ -1,18 +1,9 @@
--- `deck::Deck::run_to_end` meets its contract: the check, then a run to the end on the working form.
-use mathlib.Core.Path.{sym, _∙_, subst⁻¹}
+-- `deck::Deck::run_to_end` meets its contract: the check, then the call on the working form.
 use borrow.Author.Tests.{not-true, not-false}
-use Rattle.model.specs.State.{Valid}
-use Rattle.deck.proofs.Calling.{checked-sound, called-unsound, called-sound}
-use Rattle.deck.proofs.FromRounds.{end-answer}
+use Rattle.deck.proofs.Calling.{checked-valid, refused-by, called-by}
 use borrow.Author.Needs.{needs}
 use Rattle.deck.proofs.Deck.run_to_end.Statement.{statement}
 use Rattle.deck.proofs.Deck.run_to_end.Tie as tie
-use Rattle.deck.proofs.Deck.run_to_end.Reads as reads
-use Rattle.deck.proofs.Deck.run_to_end.Lts as lts
-use Rattle.deck.proofs.calls.refuse.Reads as refuse-reads
-use Rattle.deck.proofs.check.check.Reads as check-reads
-use Rattle.deck.proofs.check.deck_of.Reads as deck-of-reads
-use Rattle.rounds.proofs.finish_of.Reads as finish-of-reads
 
 check-requires : tie.Need-check-requires
 check-requires c κs = search needs
@@ -21,23 +12,33 @@ refuse-requires : tie.Need-refuse-requires
 refuse-requires c κs = search needs
 
 returns : tie.Need-returns
-returns c = c .refuse .ensures ∙ called-unsound _ _ (sym (c .before .before .before .check .ensures .ok) ∙ not-true _ (c .before .if1 .taken))
+returns c =
+    let at-if = c .before in
+    let at-check = at-if .before .before in
+    refused-by _ _ (at-check .check .ensures) _ _ (not-true _ (at-if .if1 .taken)) (c .refuse .ensures)
 
-finish-of-requires : tie.Need-finish-of-requires
-finish-of-requires c κs =
-    let k = checked-sound _ _ (c .before .before .check .ensures) (not-false _ (c .if1 .left)) in
-    (k .1, subst⁻¹ Valid (k .2) (k .0 .valid))
+run-to-end-requires : tie.Need-run-to-end-requires
+run-to-end-requires c κs =
+    let at-check = c .before .before in
+    checked-valid _ _ (at-check .check .ensures) (not-false _ (c .if1 .left))
 
-deck-of-requires : tie.Need-deck-of-requires
-deck-of-requires c κs = search needs
+outcome-of-requires : tie.Need-outcome-of-requires
+outcome-of-requires c κs = search needs
 
 returns-2 : tie.Need-returns-2
 returns-2 c =
-    let t = not-false _ (c .before .before .if1 .left) in
-    let k = checked-sound _ _ (c .before .before .before .before .check .ensures) t in
-    end-answer (c .before .before .before .before .before .args .self) _ _ (k .2) _ (c .before .finish-of .ensures) (c .deck-of .ensures) ∙ called-sound _ _ (sym (c .before .before .before .before .check .ensures .ok) ∙ t)
+    let at-call = c .before in
+    let at-if = at-call .before in
+    let at-check = at-if .before .before in
+    called-by _ _ (at-check .check .ensures) _ _ (not-false _ (at-if .if1 .left)) _ (at-call .run-to-end .ensures) (c .outcome-of .ensures)
 
 pub run-to-end-spec : {M : Type 1} → statement M
 run-to-end-spec =
     tie.close
-    (tie.spec check-requires refuse-requires returns finish-of-requires deck-of-requires returns-2)
+    (tie.spec
+    check-requires
+    refuse-requires
+    returns
+    run-to-end-requires
+    outcome-of-requires
+    returns-2)

@@ -2,8 +2,8 @@
 use mathlib.Core.Path.{ap, _∙_}
 use native.Mathlib.Omega.{arith}
 use borrow.Author.Needs.{needs}
-use Rattle.deck.specs.declared.calls.Outcome.{Outcome}
-use Rattle.deck.specs.Calls.{refusalNumber}
+use Rattle.deck.specs.declared.Outcome.{Outcome}
+use Rattle.calls.specs.Changes.{refusalNumber}
 use Rattle.ascii.proofs.Fitting.{front-none, front-counted}
 use Rattle.decklist.proofs.Printing.{none-counted, roomy, printed-refusal, printed-deck}
 use Rattle.decklist.proofs.text.list_file.Statement.{statement}

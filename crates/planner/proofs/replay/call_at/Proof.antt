@@ -2,7 +2,7 @@
 use mathlib.Core.Path.{ap, _∙_}
 use mir.Syntax.{w32}
 use mir.ValLaws.{toZ-ofZ}
-use Rattle.deck.specs.declared.calls.Outcome.{Outcome}
+use Rattle.deck.specs.declared.Outcome.{Outcome}
 use Rattle.planner.proofs.Replaying.{add-there, withdraw-there, round-there, end-there}
 use borrow.Author.Needs.{needs}
 use Rattle.planner.proofs.replay.call_at.Statement.{statement}

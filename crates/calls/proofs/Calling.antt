@@ -1,0 +1,103 @@
+-- What each call leaves and replies, case by case: the tests of the program are those of the model.
+use mathlib.Core.Path.{_≡_, refl, sym, ap, _∙_, subst, subst⁻¹}
+use mathlib.Core.Bool.{Bool, true, false, not}
+use mathlib.Core.Option.{Option}
+use mathlib.Core.List.{List, [], _∷_, map}
+use Prim.Native.Nat.{ℕ, _≤_, _<_}
+use native.Mathlib.Omega.{arith}
+use lib.Dec.{T, ltb}
+use lib.ListN.{length, take}
+use borrow.Author.Tests.{le-ltb, lt-ltb}
+use Rattle.plane.specs.Point.{Point, inRange, lower}
+use Rattle.plane.proofs.Order.{lower-order}
+use Rattle.model.specs.Set.{has}
+use Rattle.model.specs.Refusal.{check, firstFailed}
+use Rattle.model.specs.State.{State, Valid, maxPins, insert, remove}
+use Rattle.model.specs.Call as call
+use Rattle.model.proofs.Set.{has-in}
+use Rattle.plan.specs.declared.Plan.{Plan}
+use Rattle.plan.specs.Code.{pointOf, isCode}
+use Rattle.plan.specs.Work.{Planned, stateOf}
+use Rattle.plan.proofs.Arranging.{codes-count}
+use Rattle.plan.proofs.Codes.{points-has, range-code}
+use Rattle.plan.proofs.Sweeping.{true-of}
+use Rattle.calls.specs.declared.Changed.{Changed}
+use Rattle.calls.specs.declared.Reply.the-variants.{Done}
+use Rattle.calls.specs.Changes.{replyOf, refusing, ChangedBy}
+
+-- A call that the model refuses leaves the working form, and one that it carries out leads to the model's next state.
+pub refused-is : (w : Plan) → Planned w → (c : call.Call) (n : ℕ) → call.step (stateOf w) c ≡ record { next = stateOf w; reply = call.refused n }
+    → (r : Changed) → r ≡ refusing w n → ChangedBy w c r
+unfolding replyOf
+refused-is w p c n e r is =
+    subst⁻¹ (ChangedBy w c) is
+    (record { planned = p; next = ap (λ (o : call.Outcome). o .next) (sym e); reply = ap (λ (o : call.Outcome). replyOf (o .reply)) (sym e) })
+
+pub done-is : (w : Plan) (c : call.Call) (v : Plan) (s : State) → Planned v → stateOf v ≡ s → call.step (stateOf w) c ≡ record { next = s; reply = call.done }
+    → ChangedBy w c (record { plan = v; reply = Done })
+unfolding replyOf
+done-is w c v s p f e =
+    record { planned = p; next = f ∙ ap (λ (o : call.Outcome). o .next) (sym e); reply = ap (λ (o : call.Outcome). replyOf (o .reply)) (sym e) }
+
+-- The same call by equal points.
+pub by-point : (w : Plan) (f : Point → call.Call) (p q : Point) → p ≡ q → (r : Changed) → ChangedBy w (f p) r → ChangedBy w (f q) r
+by-point w f p q e r c = subst (λ (z : Point). ChangedBy w (f z) r) e c
+
+pub in-range : (k : ℕ) → T (isCode k) → inRange (pointOf k) ≡ true
+in-range k t = range-code k ∙ true-of (isCode k) t
+
+not-so : (b : Bool) → ¬ T b → b ≡ false
+not-so true n = absurd (n tt)
+not-so false n = refl
+
+-- Adding.
+module _ (p : Point) (s : State) where
+  choice : Bool → Bool → Bool → Option ℕ
+  choice a b c = firstFailed (check 7 (λ _. a) ∷ check 8 (λ _. not b) ∷ check 10 (λ _. c) ∷ [])
+
+  refusal-is : {a b c : Bool} → inRange p ≡ a → call.holdsPin p s ≡ b → ltb (length (s .pins)) maxPins ≡ c → call.insertRefusal p s ≡ choice a b c
+  unfolding call.insertRefusal choice
+  refusal-is e f g = λ i. choice (e i) (f i) (g i)
+
+  adding : Option ℕ → call.Outcome
+  adding o = call.unless o s (λ _. insert p s)
+
+  pub add-out : inRange p ≡ false → call.step s (call.add p) ≡ record { next = s; reply = call.refused 7 }
+  unfolding call.step adding choice firstFailed
+  add-out e = ap adding (refusal-is e refl refl)
+
+  pub add-there : inRange p ≡ true → call.holdsPin p s ≡ true → call.step s (call.add p) ≡ record { next = s; reply = call.refused 8 }
+  unfolding call.step adding choice firstFailed
+  add-there e f = ap adding (refusal-is e f refl)
+
+  pub add-full : inRange p ≡ true → call.holdsPin p s ≡ false → 64 ≤ length (s .pins) → call.step s (call.add p) ≡ record { next = s; reply = call.refused 10 }
+  unfolding call.step adding choice firstFailed
+  add-full e f g = ap adding (refusal-is e f (le-ltb (length (s .pins)) 64 g))
+
+  pub add-done : inRange p ≡ true → call.holdsPin p s ≡ false → length (s .pins) < 64 → call.step s (call.add p) ≡ record { next = insert p s; reply = call.done }
+  unfolding call.step adding choice firstFailed
+  add-done e f g = ap adding (refusal-is e f (lt-ltb (length (s .pins)) 64 g))
+
+  -- Withdrawing.
+  withdrawing : Bool → call.Outcome
+  withdrawing b = call.unless (firstFailed (check 9 (λ _. b) ∷ [])) s (λ _. remove p s)
+
+  pub withdraw-none : call.holdsPin p s ≡ false → call.step s (call.withdraw p) ≡ record { next = s; reply = call.refused 9 }
+  unfolding call.step call.removeRefusal withdrawing firstFailed
+  withdraw-none e = ap withdrawing e
+
+  pub withdraw-done : call.holdsPin p s ≡ true → call.step s (call.withdraw p) ≡ record { next = remove p s; reply = call.done }
+  unfolding call.step call.removeRefusal withdrawing firstFailed
+  withdraw-done e = ap withdrawing e
+
+  -- No pin stands out of range.
+  pub none-outside : Valid s → inRange p ≡ false → call.holdsPin p s ≡ false
+  none-outside v e = not-so (call.holdsPin p s) (λ t. subst T e (v .placed .pinsRange p (has-in lower lower-order p (s .pins) .0 t)))
+
+-- What a working form says of its pins.
+module _ (w : Plan) (p : Planned w) where
+  pub pin-there : (k : ℕ) → has ltb k (take (w .npins) (w .pins)) ≡ call.holdsPin (pointOf k) (stateOf w)
+  pin-there k = points-has k (take (w .npins) (w .pins))
+
+  pub pin-count : w .npins ≡ length (stateOf w .pins)
+  pin-count = codes-count (w .pins) (w .npins) (p .arranged .pinCodes)

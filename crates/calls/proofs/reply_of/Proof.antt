@@ -1,0 +1,28 @@
+-- `calls::reply_of` meets its contract, case by case.
+use mathlib.Core.Path.{sym, ap, _∙_}
+use Rattle.calls.specs.Changes.{stepReply}
+use Rattle.calls.proofs.Rounding.{read-tap}
+use borrow.Author.Needs.{needs}
+use Rattle.calls.proofs.reply_of.Statement.{statement}
+use Rattle.calls.proofs.reply_of.Tie as tie
+use Rattle.calls.proofs.reply_of.Reads as reads
+use Rattle.calls.proofs.reply_of.Lts as lts
+
+enum-told : tie.Need-enum-told
+enum-told c = search needs
+
+enum-known-s : tie.Need-enum-known-s
+enum-known-s c = search needs
+
+returns : tie.Need-returns
+unfolding stepReply
+returns c = sym (ap stepReply (c .enum-told .given .1))
+
+returns-2 : tie.Need-returns-2
+unfolding stepReply
+returns-2 c =
+    read-tap _ _ _ (record { sfits = c .known-told .given .0 .1 }) (record { sfits = c .known-told .given .1 .0 .1 })
+    ∙ sym (ap stepReply (c .before .s .given .1))
+
+pub reply-of-spec : {M : Type 1} → statement M
+reply-of-spec = tie.close (tie.spec enum-told enum-known-s returns returns-2)

@@ -1,0 +1,43 @@
+-- What the calls on a working form leave and reply, by the model.
+use mathlib.Core.Path.{_≡_}
+use Prim.Native.Nat.{ℕ}
+use Rattle.model.specs.Round.{finished, tap}
+use Rattle.model.specs.Call as call
+use Rattle.plan.specs.declared.Plan.{Plan}
+use Rattle.plan.specs.Work.{Planned, stateOf}
+use Rattle.rounds.specs.declared.Step.{Step}
+use Rattle.rounds.specs.declared.Step.the-variants as step
+use Rattle.calls.specs.declared.Changed.{Changed}
+use Rattle.calls.specs.declared.Reply.{Reply}
+use Rattle.calls.specs.declared.Reply.the-variants.{Done, Refused, Finished, Tap, Rounds}
+
+-- What the model replies, as the program's enum: each of document 01's answers with its number or values.
+unfoldable pub replyOf : call.Reply → Reply
+replyOf call.done = Done
+replyOf (call.refused n) = Refused n
+replyOf (call.answered finished) = Finished
+replyOf (call.answered (tap p fall)) = Tap (p .x) (p .y) fall
+replyOf (call.rounds n) = Rounds n
+
+-- What a round did, as the reply.
+unfoldable pub stepReply : Step → Reply
+stepReply step.Finished = Finished
+stepReply (step.Tap x y fall) = Tap x y fall
+
+-- The number of a refusal, and 0 for any other reply.
+unfoldable pub refusalNumber : Reply → ℕ
+refusalNumber Done = 0
+refusalNumber (Refused n) = n
+refusalNumber Finished = 0
+refusalNumber (Tap x y fall) = 0
+refusalNumber (Rounds n) = 0
+
+-- A refusal hands back the working form it was given.
+abbrev pub refusing : Plan → ℕ → Changed
+refusing w n = record { plan = w; reply = Refused n }
+
+-- The working form r follows from w by the call c: it is in order, its state is the model's next, and the reply is the model's.
+pub record ChangedBy (w : Plan) (c : call.Call) (r : Changed) : Type 0 where
+  pub planned : Planned (r .plan)
+  pub next : stateOf (r .plan) ≡ call.step (stateOf w) c .next
+  pub reply : r .reply ≡ replyOf (call.step (stateOf w) c .reply)

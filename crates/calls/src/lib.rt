@@ -1,0 +1,153 @@
+// The calls on a working form in order. Each hands back the working form that follows from the one it was given, beside its reply;
+// a refused call hands back the one it was given.
+use plan::Plan;
+use plan::place::Place;
+use plan::place::locate;
+use rounds::Step;
+ghost use mathlib.Core.Path.{_≡_};
+ghost use lib.Dec.{T};
+ghost use Rattle.model.specs.State.{Valid};
+ghost use Rattle.model.specs.Call as call;
+ghost use Rattle.plan.specs.Code.{pointOf, isCode};
+ghost use Rattle.plan.specs.Work.{Planned, stateOf};
+ghost use Rattle.calls.specs.Changes.{refusing, refusalNumber, stepReply, ChangedBy};
+
+// What a call replies: done, or a refusal by its number; a round: finished, or the new Steiner point and the whole fall in
+// length; a run to the end: the number of rounds that added a Steiner point.
+pub enum Reply {
+    Done,
+    Refused(u8),
+    Finished,
+    Tap(i32, i32, u64),
+    Rounds(u64),
+}
+
+// The working form that follows, and the reply.
+pub struct Changed {
+    pub plan: Plan,
+    pub reply: Reply,
+}
+
+// The number of a refusal, and 0 for any other reply.
+pub fn refusal_number(r: Reply) -> u8
+    ensures { λ n. ⌜ n ≡ refusalNumber r ⌝ }
+{
+    match r {
+        Reply::Done => 0,
+        Reply::Refused(n) => n,
+        Reply::Finished => 0,
+        Reply::Tap(x, y, fall) => 0,
+        Reply::Rounds(n) => 0,
+    }
+}
+
+// What a round did, as the reply.
+fn reply_of(s: Step) -> Reply
+    ensures { λ r. ⌜ r ≡ stepReply s ⌝ }
+{
+    match s {
+        Step::Finished => Reply::Finished,
+        Step::Tap(x, y, fall) => Reply::Tap(x, y, fall),
+    }
+}
+
+// A refusal.
+fn refuse(w: Plan, number: u8) -> Changed
+    ensures { λ r. ⌜ r ≡ refusing w number ⌝ }
+{
+    Changed {
+        plan: w,
+        reply: Reply::Refused(number),
+    }
+}
+
+// Adds a pin at a place in range.
+fn add_at(w: Plan, k: u64) -> Changed
+    requires { ⌜ Planned w ⌝ }
+    requires { ⌜ T (isCode k) ⌝ }
+    ensures { λ r. ⌜ ChangedBy w (call.add (pointOf k)) r ⌝ }
+{
+    let pins = w.pins;
+    let npins = w.npins;
+    let there = sets::has(&pins, npins, k);
+    let full = 64 <= npins;
+    if there {
+        return refuse(w, 8);
+    }
+    if full {
+        return refuse(w, 10);
+    }
+    let next = plan::change::insert(w, k);
+    Changed {
+        plan: next,
+        reply: Reply::Done,
+    }
+}
+
+// Withdraws a pin at a place in range.
+fn withdraw_at(w: Plan, k: u64) -> Changed
+    requires { ⌜ Planned w ⌝ }
+    ensures { λ r. ⌜ ChangedBy w (call.withdraw (pointOf k)) r ⌝ }
+{
+    let pins = w.pins;
+    if !sets::has(&pins, w.npins, k) {
+        return refuse(w, 9);
+    }
+    let next = plan::change::remove(w, k);
+    Changed {
+        plan: next,
+        reply: Reply::Done,
+    }
+}
+
+// Adds a pin. Refusals in the order 7, 8, 10.
+pub fn add(w: Plan, x: i32, y: i32) -> Changed
+    requires { ⌜ Planned w ⌝ }
+    ensures { λ r. ⌜ ChangedBy w (call.add (record { x = x; y = y })) r ⌝ }
+{
+    match locate(x, y) {
+        Place::OutOfRange => refuse(w, 7),
+        Place::At(k) => add_at(w, k),
+    }
+}
+
+// Withdraws a pin. Refusal 9.
+pub fn withdraw(w: Plan, x: i32, y: i32) -> Changed
+    requires { ⌜ Planned w ⌝ }
+    requires { ⌜ Valid (stateOf w) ⌝ }
+    ensures { λ r. ⌜ ChangedBy w (call.withdraw (record { x = x; y = y })) r ⌝ }
+{
+    match locate(x, y) {
+        Place::OutOfRange => refuse(w, 9),
+        Place::At(k) => withdraw_at(w, k),
+    }
+}
+
+// One round.
+pub fn round(w: Plan) -> Changed
+    requires { ⌜ Planned w ⌝ }
+    requires { ⌜ Valid (stateOf w) ⌝ }
+    ensures { λ r. ⌜ ChangedBy w call.oneRound r ⌝ }
+{
+    let t = rounds::round_of(w);
+    let next = t.plan;
+    let step = t.step;
+    Changed {
+        plan: next,
+        reply: reply_of(step),
+    }
+}
+
+// Rounds until finished.
+pub fn run_to_end(w: Plan) -> Changed
+    requires { ⌜ Planned w ⌝ }
+    requires { ⌜ Valid (stateOf w) ⌝ }
+    ensures { λ r. ⌜ ChangedBy w call.runToEnd r ⌝ }
+{
+    let e = rounds::finish_of(w);
+    let next = e.plan;
+    Changed {
+        plan: next,
+        reply: Reply::Rounds(e.count),
+    }
+}

@@ -1,0 +1,63 @@
+// The questions on a deck. Each is refused by 11 where the deck is not sound.
+use super::Deck;
+use super::check::check;
+use questions::Answer;
+ghost use mathlib.Core.Path.{_≡_};
+ghost use Rattle.questions.specs.Answers.{lengthAnswer, countsAnswer, edgeAtAnswer, degreeAnswer};
+ghost use Rattle.deck.specs.Form.{sound};
+ghost use Rattle.deck.specs.Questions.{asked};
+
+impl Deck {
+    // Check 11: whether the deck is sound.
+    pub fn is_valid(self) -> bool
+        ensures { λ r. ⌜ r ≡ sound self ⌝ }
+    {
+        let c = check(self);
+        c.ok
+    }
+
+    // The length of the deck's tree.
+    pub fn length(self) -> Answer
+        ensures { λ r. ⌜ r ≡ asked self lengthAnswer ⌝ }
+    {
+        let c = check(self);
+        if !c.ok {
+            return Answer::Refused(11);
+        }
+        questions::length(c.plan)
+    }
+
+    // The counts of pins, Steiner points and edges.
+    pub fn counts(self) -> Answer
+        ensures { λ r. ⌜ r ≡ asked self countsAnswer ⌝ }
+    {
+        let c = check(self);
+        if !c.ok {
+            return Answer::Refused(11);
+        }
+        questions::counts(c.plan)
+    }
+
+    // The edge at a place in the listing order, places from 0.
+    pub fn edge_at(self, i: usize) -> Answer
+        ensures { λ r. ⌜ r ≡ asked self (edgeAtAnswer i) ⌝ }
+    {
+        let c = check(self);
+        if !c.ok {
+            return Answer::Refused(11);
+        }
+        let ends = self.ends;
+        questions::edge_at(c.plan, &ends, i)
+    }
+
+    // The number of edges at a point, 0 where none is held.
+    pub fn degree_at(self, x: i32, y: i32) -> Answer
+        ensures { λ r. ⌜ r ≡ asked self (degreeAnswer (record { x = x; y = y })) ⌝ }
+    {
+        let c = check(self);
+        if !c.ok {
+            return Answer::Refused(11);
+        }
+        questions::degree_at(c.plan, x, y)
+    }
+}

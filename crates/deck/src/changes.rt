@@ -1,0 +1,79 @@
+// The calls on a deck. Each hands back the deck that follows from the one it was given, beside its reply.
+use super::Deck;
+use super::Outcome;
+use super::check::check;
+use super::check::deck_of;
+use calls::Changed;
+use calls::Reply;
+ghost use mathlib.Core.Path.{_≡_};
+ghost use Rattle.model.specs.Call as call;
+ghost use Rattle.plan.specs.Work as work;
+ghost use Rattle.deck.specs.Calls.{outcomeOf, refusal, called};
+
+// Refusal 11: the deck is handed back unchanged.
+fn refuse(d: Deck) -> Outcome
+    ensures { λ r. ⌜ r ≡ refusal d 11 ⌝ }
+{
+    Outcome {
+        next: d,
+        reply: Reply::Refused(11),
+    }
+}
+
+// The outcome of a call on a working form.
+fn outcome_of(c: Changed) -> Outcome
+    requires { ⌜ work.Planned (c .plan) ⌝ }
+    ensures { λ r. ⌜ r ≡ outcomeOf c ⌝ }
+{
+    let reply = c.reply;
+    Outcome {
+        next: deck_of(c.plan),
+        reply,
+    }
+}
+
+impl Deck {
+    // Adds a pin. Refusals in the order 11, 7, 8, 10.
+    pub fn add(self, x: i32, y: i32) -> Outcome
+        ensures { λ r. ⌜ r ≡ called self (call.add (record { x = x; y = y })) ⌝ }
+    {
+        let c = check(self);
+        if !c.ok {
+            return refuse(self);
+        }
+        outcome_of(calls::add(c.plan, x, y))
+    }
+
+    // Withdraws a pin. Refusals in the order 11, 9.
+    pub fn withdraw(self, x: i32, y: i32) -> Outcome
+        ensures { λ r. ⌜ r ≡ called self (call.withdraw (record { x = x; y = y })) ⌝ }
+    {
+        let c = check(self);
+        if !c.ok {
+            return refuse(self);
+        }
+        outcome_of(calls::withdraw(c.plan, x, y))
+    }
+
+    // One round. Refusal 11.
+    pub fn round(self) -> Outcome
+        ensures { λ r. ⌜ r ≡ called self call.oneRound ⌝ }
+    {
+        let c = check(self);
+        if !c.ok {
+            return refuse(self);
+        }
+        outcome_of(calls::round(c.plan))
+    }
+
+    // Rounds until finished. Refusal 11.
+    pub fn run_to_end(self) -> Outcome
+        ensures { λ r. ⌜ r ≡ called self call.runToEnd ⌝ }
+    {
+        let c = check(self);
+        if !c.ok {
+            return refuse(self);
+        }
+        outcome_of(calls::run_to_end(c.plan))
+    }
+}

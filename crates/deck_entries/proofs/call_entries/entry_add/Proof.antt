@@ -1,0 +1,28 @@
+-- `deck_entries::call_entries::entry_add` meets its contract: the outcome shown is that of the call on the deck lent.
+use mathlib.Core.Path.{ap}
+use Rattle.model.specs.Call as call
+use Rattle.plan.proofs.Locating.{read-point}
+use Rattle.deck_entries.proofs.Handed.{shows-called}
+use borrow.Author.Needs.{needs}
+use Rattle.deck_entries.proofs.call_entries.entry_add.Statement.{statement}
+use Rattle.deck_entries.proofs.call_entries.entry_add.Tie as tie
+
+deck-at-requires : tie.Need-deck-at-requires
+deck-at-requires c κs = search needs
+
+add-requires : tie.Need-add-requires
+add-requires c κs = search needs
+
+show-requires : tie.Need-show-requires
+show-requires c κs = search needs
+
+returns : tie.Need-returns
+returns c =
+    let s = c .before .before .before .before .before .before .before .before in
+    shows-called (s .before .deck-at .ensures)
+    (ap call.add (read-point _ _ (s .before .before .before .before .before .before .before .fits .x) (s .before .before .before .before .before .before .before .fits .y)))
+    (s .add .ensures)
+    (c .show .ensures)
+
+pub entry-add-spec : {M : Type 1} → statement M
+entry-add-spec = tie.close (tie.spec deck-at-requires add-requires show-requires returns)

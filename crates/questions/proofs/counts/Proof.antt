@@ -1,0 +1,11 @@
+-- `questions::counts` meets its contract.
+use Rattle.questions.proofs.Asking.{counts-answer}
+use Rattle.questions.proofs.counts.Statement.{statement}
+use Rattle.questions.proofs.counts.Tie as tie
+
+returns : tie.Need-returns
+returns c =
+    counts-answer _ (c .pre)
+
+pub counts-spec : {M : Type 1} → statement M
+counts-spec = tie.close (tie.spec returns)

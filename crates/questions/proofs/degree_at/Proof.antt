@@ -1,0 +1,43 @@
+-- `questions::degree_at` meets its contract: no point is held out of range, and in range the edges at the code are counted.
+use mathlib.Core.Path.{ap, _∙_}
+use Rattle.plane.specs.Point.{Point}
+use Rattle.plan.specs.Work.{stateOf}
+use Rattle.plan.proofs.Locating.{read-place, place-out, place-point}
+use Rattle.questions.specs.declared.Answer.the-variants.{Degree}
+use Rattle.questions.specs.Answers.{degreeAnswer}
+use Rattle.questions.proofs.Asking.{none-beyond}
+use borrow.Author.Needs.{needs}
+use Rattle.questions.proofs.degree_at.Statement.{statement}
+use Rattle.questions.proofs.degree_at.Tie as tie
+
+locate-requires : tie.Need-locate-requires
+locate-requires c κs = search needs
+
+enum-told : tie.Need-enum-told
+enum-told c = search needs
+
+enum-known-k : tie.Need-enum-known-k
+enum-known-k c = search needs
+
+degree-of-requires : tie.Need-degree-of-requires
+degree-of-requires c κs = search needs
+
+returns : tie.Need-returns
+returns c =
+    let at-locate = c .before .before in
+    let at-start = at-locate .before in
+    let out = read-place _ _ _ (at-start .fits .x) (at-start .fits .y) (at-locate .locate .ensures) ∙ c .enum-told .given .1 in
+    ap Degree (none-beyond _ (at-start .pre .1) _ (place-out _ out))
+
+returns-2 : tie.Need-returns-2
+returns-2 c =
+    let at-k = c .before .before in
+    let at-locate = at-k .before .before in
+    let at-start = at-locate .before in
+    let there = read-place _ _ _ (at-start .fits .x) (at-start .fits .y) (at-locate .locate .ensures) ∙ at-k .k .given .1 in
+    ap Degree (c .degree-of .ensures) ∙ ap (λ (p : Point). degreeAnswer p (stateOf (at-start .args .w))) (place-point _ _ there)
+
+pub degree-at-spec : {M : Type 1} → statement M
+degree-at-spec =
+    tie.close
+    (tie.spec locate-requires enum-told enum-known-k degree-of-requires returns returns-2)
