@@ -23,10 +23,10 @@ use Rattle.deck.proofs.Checking.{sound-few, sound-left, sound-pins, sound-stein
 use Rattle.deckfile.specs.declared.Written.{Written}
 use Rattle.deckfile.specs.declared.Written.the-variants.{Refused, Length}
 use Rattle.sections.specs.Bytes.{each, edgeTwo, pointFour, over}
-use Rattle.sections.specs.Parts.{fileParts, Kept}
+use Rattle.buffer.specs.Parts.{fileParts, Kept}
 use Rattle.deckfile.specs.Writing.{written, left}
 use Rattle.deckfile.proofs.Listing.{pins-are, steiner-are, count-is, edges-are, edges-long}
-use Rattle.sections.proofs.Putting.{each-length, over-next}
+use Rattle.buffer.proofs.Putting.{each-length, over-next}
 
 -- The points of codes, in bytes.
 kept-point : (k : ℕ) → T (isCode k) → pointFour k ≡ pointBytes (pointOf k)

@@ -1,7 +1,7 @@
 // The file of a sound deck.
+use buffer::file::length_for;
+use buffer::file::put_parts;
 use deck::Deck;
-use sections::file::length_for;
-use sections::file::put_parts;
 ghost use mathlib.Core.Path.{_≡_};
 ghost use Prim.Native.Nat.{_≤_};
 ghost use lib.ListN.{length};

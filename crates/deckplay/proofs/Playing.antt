@@ -15,7 +15,7 @@ use Rattle.plane.specs.Test.{if}
 use Rattle.plane.specs.Octant.{octant}
 use Rattle.tree.specs.Front.{Front}
 use Rattle.deck.specs.declared.Deck.{Deck}
-use Rattle.script.specs.Hex.{Filled}
+use Rattle.words.specs.Hex.{Filled}
 use Rattle.script.proofs.Fitting.{filled-whole}
 use Rattle.replies.specs.Replies.{errorWord, octantWord, numberText}
 use Rattle.ascii.specs.Text.{fitting}

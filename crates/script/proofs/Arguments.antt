@@ -8,14 +8,14 @@ use mir.Syntax.{w32}
 use mir.Val.{SFits, toZ, ofZ}
 use Rattle.script.specs.declared.Command.{Command}
 use Rattle.script.specs.declared.Command.the-variants.{Error, Read}
-use Rattle.script.specs.declared.numbers.Number.{Number}
-use Rattle.script.specs.declared.numbers.Number.the-variants.{NoNumber, Is}
-use Rattle.script.specs.declared.numbers.Size.{Size}
-use Rattle.script.specs.declared.numbers.Size.the-variants.{NoSize, Of}
+use Rattle.words.specs.declared.numbers.Number.{Number}
+use Rattle.words.specs.declared.numbers.Number.the-variants.{NoNumber, Is}
+use Rattle.words.specs.declared.numbers.Size.{Size}
+use Rattle.words.specs.declared.numbers.Size.the-variants.{NoSize, Of}
 use Rattle.script.specs.Names.{bytes}
-use Rattle.script.specs.Words.{same}
-use Rattle.script.specs.Numbers.{numberOf, sizeOf}
-use Rattle.script.specs.Hex.{isHex}
+use Rattle.words.specs.Words.{same}
+use Rattle.words.specs.Numbers.{numberOf, sizeOf}
+use Rattle.words.specs.Hex.{isHex}
 use Rattle.script.specs.Commands.{sized, withOne, placed, withTwo}
 use Rattle.script.proofs.Naming.{read-two}
 

@@ -10,8 +10,8 @@ use lib.ListN.{length, take, drop, getD}
 use borrow.Author.Tests.{lt-ltb, le-ltb, eq-eqb, ne-eqb}
 use Rattle.script.specs.declared.Command.{Command}
 use Rattle.script.specs.declared.Command.the-variants.{Blank, Error}
-use Rattle.script.specs.Words.{split, wordsOf, Next}
-use Rattle.script.specs.Hex.{isHex, pairs, Filled}
+use Rattle.words.specs.Words.{split, wordsOf, Next}
+use Rattle.words.specs.Hex.{isHex, pairs, Filled}
 use Rattle.script.specs.Commands.{alone, withOne, withTwo, asked, isBlank, commandOf, second, fileOf}
 
 -- The bytes from place a up to place b.

@@ -11,8 +11,8 @@ use lib.Seq.{take-all, take-at}
 use borrow.Author.Tests.{ltb-false}
 use Rattle.plane.specs.Test.{if}
 use Rattle.script.specs.declared.Command.the-variants.{Blank, Error, Read}
-use Rattle.script.specs.Words.{isSpace, ended, split, wordsOf}
-use Rattle.script.specs.Hex.{isHex, pairs, Filled}
+use Rattle.words.specs.Words.{isSpace, ended, split, wordsOf}
+use Rattle.words.specs.Hex.{isHex, pairs, Filled}
 use Rattle.script.specs.Commands.{asked, isBlank, commandOf, second, fileOf}
 
 -- The lengths of words, added up.

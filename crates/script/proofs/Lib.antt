@@ -1,9 +1,5 @@
 pub mod Arguments
 pub mod Asking
-pub mod Decoding
-pub mod Digits
 pub mod Examples
 pub mod Fitting
 pub mod Naming
-pub mod Pairs
-pub mod Splitting

@@ -11,7 +11,7 @@ use Rattle.script.specs.declared.Command.{Command}
 use Rattle.script.specs.declared.Command.the-variants.{Error, Write, Add, Withdraw, Round, Finish, Length, Counts, Run, Degree, Octant}
 use Rattle.script.specs.declared.Command.the-variants as command
 use Rattle.script.specs.Names.{bytes}
-use Rattle.script.specs.Words.{same}
+use Rattle.words.specs.Words.{same}
 use Rattle.script.specs.Commands.{alone, sized, placed}
 
 -- The names of one word.

@@ -9,14 +9,14 @@ use Rattle.plane.specs.Test.{if}
 use Rattle.script.specs.declared.Command.{Command}
 use Rattle.script.specs.declared.Command.the-variants.{Blank, Error, Read, Write, Add, Withdraw, Round, Finish, Length, Counts, Run, Degree, Octant}
 use Rattle.script.specs.declared.Command.the-variants as command
-use Rattle.script.specs.declared.numbers.Number.{Number}
-use Rattle.script.specs.declared.numbers.Number.the-variants.{NoNumber, Is}
-use Rattle.script.specs.declared.numbers.Size.{Size}
-use Rattle.script.specs.declared.numbers.Size.the-variants.{NoSize, Of}
+use Rattle.words.specs.declared.numbers.Number.{Number}
+use Rattle.words.specs.declared.numbers.Number.the-variants.{NoNumber, Is}
+use Rattle.words.specs.declared.numbers.Size.{Size}
+use Rattle.words.specs.declared.numbers.Size.the-variants.{NoSize, Of}
 use Rattle.script.specs.Names.{bytes}
-use Rattle.script.specs.Words.{wordsOf, same}
-use Rattle.script.specs.Numbers.{numberOf, sizeOf}
-use Rattle.script.specs.Hex.{isHex, pairs}
+use Rattle.words.specs.Words.{wordsOf, same}
+use Rattle.words.specs.Numbers.{numberOf, sizeOf}
+use Rattle.words.specs.Hex.{isHex, pairs}
 
 -- One word: `write`, `round`, `finish`, `length`, `counts`, `list`. The capacity of `write` is then that of the longest file.
 unfoldable pub alone : List ℕ → Command

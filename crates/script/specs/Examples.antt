@@ -8,9 +8,9 @@ use lib.IntN.{pos, negsuc}
 use Rattle.script.specs.declared.Command.{Command}
 use Rattle.script.specs.declared.Command.the-variants.{Blank, Error, Read, Write, Add, Withdraw, Round, Finish, Run, Octant}
 use Rattle.script.specs.Names.{bytes}
-use Rattle.script.specs.Words.{isSpace, split, same}
-use Rattle.script.specs.Numbers.{areDigits, valueFrom, numberOf, sizeOf}
-use Rattle.script.specs.Hex.{digitOf, isHex, pairs}
+use Rattle.words.specs.Words.{isSpace, split, same}
+use Rattle.words.specs.Numbers.{areDigits, valueFrom, numberOf, sizeOf}
+use Rattle.words.specs.Hex.{digitOf, isHex, pairs}
 use Rattle.script.specs.Commands.{alone, sized, withOne, placed, withTwo, asked, commandOf, fileOf}
 
 -- The commands of lines.

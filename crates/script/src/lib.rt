@@ -1,21 +1,17 @@
 // One line of a script of calls: the command that it asks for, and the bytes of a file in it. A line that asks for nothing and a
 // line that is no command have their own variants, so every line has an answer.
-mod hex;
-mod numbers;
-mod words;
-
-use hex::decode;
-use hex::is_hex;
-use numbers::Number;
-use numbers::Size;
-use numbers::number_of;
-use numbers::size_of;
+use words::hex::decode;
+use words::hex::is_hex;
 use words::next;
+use words::numbers::Number;
+use words::numbers::Size;
+use words::numbers::number_of;
+use words::numbers::size_of;
 use words::same;
 ghost use mathlib.Core.Path.{_≡_};
 ghost use Rattle.script.specs.Commands.{commandOf, asked, alone, withOne, withTwo, sized, placed, fileOf};
-ghost use Rattle.script.specs.Hex.{Filled};
-ghost use Rattle.script.specs.Words.{wordsOf};
+ghost use Rattle.words.specs.Hex.{Filled};
+ghost use Rattle.words.specs.Words.{wordsOf};
 
 // What a line asks for: nothing, as it is empty or a comment; no command; a file to read, which `bytes_of` gives; a file to write,
 // into so many bytes; the calls and the questions.

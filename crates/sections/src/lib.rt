@@ -1,7 +1,5 @@
-// The header and the sections of a deck file in bytes: their checks, the codes of points, and how they are put into a buffer.
-pub mod buffer;
+// The header and the sections of a deck file in bytes: their checks, the codes of points, and the edges compared.
 pub mod edges;
-pub mod file;
 pub mod header;
 pub mod number;
 pub mod points;

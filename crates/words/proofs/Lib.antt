@@ -1,0 +1,4 @@
+pub mod Decoding
+pub mod Digits
+pub mod Pairs
+pub mod Splitting

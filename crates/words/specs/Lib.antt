@@ -1,0 +1,3 @@
+pub mod Hex
+pub mod Numbers
+pub mod Words

@@ -1,0 +1,48 @@
+-- Whole numbers of 32 bits, signed, as words.
+use mathlib.Core.Bool.{Bool, true, false, _&&_}
+use mathlib.Core.List.{List, [], _∷_}
+use Prim.Native.Nat.{ℕ, _+_, _*_, _-_}
+use lib.Dec.{leb, eqb}
+use lib.IntN.{pos, negsuc, negℤ}
+use Rattle.plane.specs.Test.{if}
+use Rattle.words.specs.declared.numbers.Number.{Number}
+use Rattle.words.specs.declared.numbers.Number.the-variants.{NoNumber, Is}
+use Rattle.words.specs.declared.numbers.Size.{Size}
+use Rattle.words.specs.declared.numbers.Size.the-variants.{NoSize, Of}
+
+-- Whether every byte is a digit, 0 (48) to 9 (57).
+unfoldable pub areDigits : List ℕ → Bool
+areDigits [] = true
+areDigits (b ∷ l) = leb 48 b && (leb b 57 && areDigits l)
+
+-- The value of digits that follow digits of the value v.
+unfoldable pub valueFrom : ℕ → List ℕ → ℕ
+valueFrom v [] = v
+valueFrom v (b ∷ l) = valueFrom (10 * v + (b - 48)) l
+
+-- Whether a word is one digit or more, of a value that is at most `most`.
+abbrev pub isMagnitude : ℕ → List ℕ → Bool
+isMagnitude most [] = false
+isMagnitude most (b ∷ l) = areDigits (b ∷ l) && leb (valueFrom 0 (b ∷ l)) most
+
+-- Its value, and `most` + 1 where it is none.
+unfoldable pub magnitudeOf : ℕ → List ℕ → ℕ
+magnitudeOf most l = if (isMagnitude most l) (λ _. valueFrom 0 l) (λ _. most + 1)
+
+-- The number of a word: digits, with a minus sign (45) before them or with none, of a value that 32 bits hold.
+unfoldable pub numberOf : List ℕ → Number
+numberOf [] = NoNumber
+numberOf (b ∷ l) =
+    if (eqb b 45)
+    (λ _. if (isMagnitude 2147483648 l) (λ _. Is (negℤ (pos (valueFrom 0 l)))) (λ _. NoNumber))
+    (λ _. if (isMagnitude 2147483647 (b ∷ l)) (λ _. Is (pos (valueFrom 0 (b ∷ l)))) (λ _. NoNumber))
+
+-- A number as a size, which is not negative.
+abbrev pub natural : Number → Size
+natural NoNumber = NoSize
+natural (Is (pos n)) = Of n
+natural (Is (negsuc n)) = NoSize
+
+-- The size of a word.
+unfoldable pub sizeOf : List ℕ → Size
+sizeOf w = natural (numberOf w)

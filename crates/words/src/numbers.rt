@@ -1,0 +1,97 @@
+// Whole numbers of 32 bits, as words of a line.
+ghost use mathlib.Core.Path.{_≡_};
+ghost use Prim.Native.Nat.{_≤_};
+ghost use lib.IntN.{pos, negℤ};
+ghost use Rattle.words.specs.Numbers.{magnitudeOf, numberOf, sizeOf};
+
+// A word as a number: none, or its value.
+pub enum Number {
+    NoNumber,
+    Is(i32),
+}
+
+// A word as a number that is not negative.
+pub enum Size {
+    NoSize,
+    Of(u32),
+}
+
+// The value of one or more digits, or `most` + 1 where there are none, or others beside them, or the value is more than `most`.
+fn magnitude(digits: &[u8], most: u64) -> u64
+    requires { ⌜ most ≤ 2147483648 ⌝ }
+    ensures { λ r. ⌜ r ≡ magnitudeOf most (now (digits .entry)) ⌝ }
+{
+    let none = most + 1;
+    if digits.len() == 0 {
+        return none;
+    }
+    let mut v: u64 = 0;
+    let mut i = 0;
+    while i < digits.len() {
+        let b = digits[i];
+        if b < 48 {
+            return none;
+        }
+        if 57 < b {
+            return none;
+        }
+        v = 10 * v + (b - 48) as u64;
+        if most < v {
+            return none;
+        }
+        i += 1;
+    }
+    v
+}
+
+// The negative of a magnitude.
+fn negated(m: u64) -> i32
+    requires { ⌜ m ≤ 2147483648 ⌝ }
+    ensures { λ r. ⌜ r ≡ negℤ (pos m) ⌝ }
+{
+    (0 - m as i64) as i32
+}
+
+// A magnitude as a signed number.
+fn positive(m: u64) -> i32
+    requires { ⌜ m ≤ 2147483647 ⌝ }
+    ensures { λ r. ⌜ r ≡ pos m ⌝ }
+{
+    m as i32
+}
+
+// The number that a word stands for.
+pub fn number_of(word: &[u8]) -> Number
+    ensures { λ r. ⌜ r ≡ numberOf (now (word .entry)) ⌝ }
+{
+    if word.len() == 0 {
+        return Number::NoNumber;
+    }
+    if word[0] == b'-' {
+        let m = magnitude(&word[1..], 2147483648);
+        if 2147483648 < m {
+            return Number::NoNumber;
+        }
+        return Number::Is(negated(m));
+    }
+    let m = magnitude(word, 2147483647);
+    if 2147483647 < m {
+        return Number::NoNumber;
+    }
+    Number::Is(positive(m))
+}
+
+// The number that a word stands for, where it is not negative.
+pub fn size_of(word: &[u8]) -> Size
+    ensures { λ r. ⌜ r ≡ sizeOf (now (word .entry)) ⌝ }
+{
+    match number_of(word) {
+        Number::NoNumber => Size::NoSize,
+        Number::Is(z) => {
+            if z < 0 {
+                return Size::NoSize;
+            }
+            Size::Of(z as u32)
+        }
+    }
+}
