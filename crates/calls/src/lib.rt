@@ -130,10 +130,10 @@ pub fn round(w: Plan) -> Changed
     ensures { λ r. ⌜ ChangedBy w call.oneRound r ⌝ }
 {
     let t = rounds::round_of(w);
-    let next = t.plan;
+    let swept = t.plan;
     let step = t.step;
     Changed {
-        plan: next,
+        plan: swept,
         reply: reply_of(step),
     }
 }
@@ -145,9 +145,9 @@ pub fn run_to_end(w: Plan) -> Changed
     ensures { λ r. ⌜ ChangedBy w call.runToEnd r ⌝ }
 {
     let e = rounds::finish_of(w);
-    let next = e.plan;
+    let ended = e.plan;
     Changed {
-        plan: next,
+        plan: ended,
         reply: Reply::Rounds(e.count),
     }
 }
