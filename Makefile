@@ -31,8 +31,8 @@ test:
 
 # The libraries are linked beside the tests that need none of them; the programs are in target/bin already.
 tests:
-	$(MAKE) -s -j2 -O entries reference_tests
-	$(MAKE) -s -j2 -O compare_tests gate_tests
+	$(MAKE) -s -j2 -O entries gate_tests
+	$(MAKE) -s compare_tests
 
 reference_tests:
 	cd tests/reference && cargo test --release --offline --quiet
@@ -41,7 +41,7 @@ compare_tests:
 	cd tests/compare && cargo test --release --offline --quiet
 
 # That the gate fails when it must.
-gate_tests:
+gate_tests: reference_tests
 	sh tests/gate/failures.sh
 
 bench: entries

@@ -2,7 +2,7 @@
 use super::put_edges;
 use super::put_header;
 use super::put_points;
-use sections::edges::edges_of;
+use tree::list::edges_of;
 ghost use mathlib.Core.Path.{_≡_};
 ghost use Prim.Native.Nat.{_+_, _*_, _-_, _≤_};
 ghost use Rattle.sections.specs.Bytes.{over};

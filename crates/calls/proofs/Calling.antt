@@ -2,9 +2,8 @@
 use mathlib.Core.Path.{_≡_, refl, sym, ap, _∙_, subst, subst⁻¹}
 use mathlib.Core.Bool.{Bool, true, false, not}
 use mathlib.Core.Option.{Option}
-use mathlib.Core.List.{List, [], _∷_, map}
+use mathlib.Core.List.{[], _∷_}
 use Prim.Native.Nat.{ℕ, _≤_, _<_}
-use native.Mathlib.Omega.{arith}
 use lib.Dec.{T, ltb}
 use lib.ListN.{length, take}
 use borrow.Author.Tests.{le-ltb, lt-ltb}
@@ -20,7 +19,7 @@ use Rattle.plan.specs.Code.{pointOf, isCode}
 use Rattle.plan.specs.Work.{Planned, stateOf}
 use Rattle.plan.proofs.Arranging.{codes-count}
 use Rattle.plan.proofs.Codes.{points-has, range-code}
-use Rattle.plan.proofs.Sweeping.{true-of}
+use Rattle.plane.proofs.Test.{true-of, false-of}
 use Rattle.calls.specs.declared.Changed.{Changed}
 use Rattle.calls.specs.declared.Reply.the-variants.{Done}
 use Rattle.calls.specs.Changes.{replyOf, refusing, ChangedBy}
@@ -45,10 +44,6 @@ by-point w f p q e r c = subst (λ (z : Point). ChangedBy w (f z) r) e c
 
 pub in-range : (k : ℕ) → T (isCode k) → inRange (pointOf k) ≡ true
 in-range k t = range-code k ∙ true-of (isCode k) t
-
-not-so : (b : Bool) → ¬ T b → b ≡ false
-not-so true n = absurd (n tt)
-not-so false n = refl
 
 -- Adding.
 module _ (p : Point) (s : State) where
@@ -92,7 +87,7 @@ module _ (p : Point) (s : State) where
 
   -- No pin stands out of range.
   pub none-outside : Valid s → inRange p ≡ false → call.holdsPin p s ≡ false
-  none-outside v e = not-so (call.holdsPin p s) (λ t. subst T e (v .placed .pinsRange p (has-in lower lower-order p (s .pins) .0 t)))
+  none-outside v e = false-of (call.holdsPin p s) (λ t. subst T e (v .placed .pinsRange p (has-in lower lower-order p (s .pins) .0 t)))
 
 -- What a working form says of its pins.
 module _ (w : Plan) (p : Planned w) where

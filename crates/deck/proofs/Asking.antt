@@ -15,8 +15,9 @@ use Rattle.questions.specs.Answers.{Listed}
 use Rattle.deck.specs.declared.Deck.{Deck}
 use Rattle.deck.specs.declared.check.Checked.{Checked}
 use Rattle.deck.specs.Check.{Checks}
-use Rattle.deck.specs.Form.{row, deckOf, stateOf, Sound, sound}
+use Rattle.deck.specs.Form.{stateOf, sound}
 use Rattle.deck.specs.Questions.{asked}
+use Rattle.deck.proofs.Forms.{ends-are}
 use Rattle.deck.proofs.Calling.{checked-sound}
 
 -- A question by whether the deck is sound.
@@ -43,11 +44,7 @@ module _ (d : Deck) (r : Checked) (k : Checks (sound d) d r) where
   -- The ends of a sound deck are those of its edges in the listing order.
   pub ends-listed : r .ok ≡ true → Listed (r .plan) (d .ends)
   ends-listed e =
-      let is : d .ends ≡ row 128 (numbers (stateOf d)) = ends-are (checked-sound d r k e .0) in
       record {
         rest = replicate (128 - length (numbers (stateOf d))) 0;
-        is = is ∙ ap (λ (s : State). numbers s ++ replicate (128 - length (numbers (stateOf d))) 0) (sym (checked-sound d r k e .2));
+        is = ends-are d (checked-sound d r k e .0) ∙ ap (λ (s : State). numbers s ++ replicate (128 - length (numbers (stateOf d))) 0) (sym (checked-sound d r k e .2));
       }
-    where
-      ends-are : Sound d → d .ends ≡ row 128 (numbers (stateOf d))
-      ends-are s = unfold deckOf in λ i. s .same i .ends

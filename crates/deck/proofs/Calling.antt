@@ -14,7 +14,7 @@ use Rattle.deck.specs.declared.check.Checked.{Checked}
 use Rattle.deck.specs.Check.{Checks}
 use Rattle.deck.specs.Form.{deckOf, stateOf, Sound, sound}
 use Rattle.deck.specs.Calls.{answer, refusal, called, outcomeOf}
-use Rattle.deck.proofs.Checking.{of-true}
+use Rattle.plane.proofs.Test.{of-true}
 use Rattle.deck.proofs.Forms.{sound-is}
 
 -- What the check of a deck gives where it passed: the deck is sound, and its working form stands for its state.

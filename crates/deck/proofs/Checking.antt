@@ -1,48 +1,32 @@
 -- The parts of check 11 say together that a deck is sound, and each fails only where it is not.
-use mathlib.Core.Path.{_≡_, refl, sym, ap, ap₂, _∙_, subst, subst⁻¹}
-use mathlib.Core.Logic.{_⊎_, inl, inr, ⊎-elim, _↔_}
+use mathlib.Core.Path.{_≡_, refl, sym, ap, _∙_, subst, subst⁻¹}
+use mathlib.Core.Logic.{_⊎_, ⊎-elim, _↔_}
 use mathlib.Core.Bool.{Bool, true, false, not, _&&_}
-use mathlib.Core.Option.{Option, none, some}
-use mathlib.Core.List.{List, [], _∷_, _++_, map, List·Memᴰ, List·Memᴰ·head as head, List·Memᴰ·tail as tail, List·Memᴰ·not-nil as not-nil}
-use Prim.Native.Nat.{ℕ, zero, suc, _+_, _-_, _≤_, _<_}
+use mathlib.Core.List.{List, map, List·Memᴰ, List·Memᴰ·not-nil as not-nil}
+use Prim.Native.Nat.{ℕ, _-_, _≤_}
 use native.Mathlib.Omega.{arith}
 use lib.Dec.{T, ltb, leb}
 use borrow.Author.Tests.{leb-true, le-leb}
 use lib.ListN.{length, take, drop, replicate, length-map, length-drop}
-use lib.Seq.{length-take-le}
-use Rattle.plane.specs.Point.{Point, inRange, lower, Lower}
-use Rattle.plane.proofs.Test.{and-parts, and-both}
+use Rattle.plane.specs.Point.{Point, inRange, lower}
+use Rattle.plane.proofs.Test.{and-parts, and-both, true-of, of-true, false-of}
 use Rattle.plane.proofs.Order.{nat-order, lower-order}
 use Rattle.model.specs.Set.{rising, all, has}
-use Rattle.model.specs.Tree.{mst, edgesAt}
-use Rattle.model.specs.State.{State, points, Placed, Valid, lowestWeak}
 use Rattle.model.specs.File.{sameBytes}
 use Rattle.model.proofs.Set.{all-in, has-not, rising-sorted}
-use Rattle.model.proofs.Prune.{LowestWeakView, all-strong, weak, lowest-weak-view, few-steiner}
+use Rattle.model.proofs.Prune.{few-steiner}
 use Rattle.model.proofs.Candidate.{map-in}
-use Rattle.model.proofs.FileParts.{same-eq, same-refl}
+use Rattle.model.proofs.FileParts.{same-refl}
 use Rattle.sets.specs.Array.{noneIn, allZero}
 use Rattle.sets.proofs.Scanning.{all-zero}
 use Rattle.plan.specs.Code.{code, pointOf, isCode}
-use Rattle.plan.specs.Weak.{firstWeak}
-use Rattle.plan.specs.declared.Plan.{Plan}
 use Rattle.plan.specs.Work as work
-use Rattle.plan.proofs.Codes.{code-is, code-point, map-codes, points-rising}
-use Rattle.plan.proofs.Arranging.{arranged-placed}
-use Rattle.plan.proofs.Sweeping.{true-of, Found, none-weak, at, found, planned-degree}
+use Rattle.plan.proofs.Codes.{code-is, map-codes, points-rising}
 use Rattle.deck.specs.declared.Deck.{Deck}
 use Rattle.deck.specs.declared.check.Checked.{Checked}
-use Rattle.deck.specs.Form.{row, deckOf, stateOf, Sound, sound}
+use Rattle.deck.specs.Form.{row, deckOf, stateOf, Sound}
 use Rattle.deck.specs.Check.{ordered, arranged, Checks}
-use Rattle.deck.proofs.Forms.{row-take, row-drop, row-length, sound-is}
-use Rattle.deck.proofs.FromPlan.{codes-row}
-
-pub false-of : (b : Bool) → ¬ T b → b ≡ false
-false-of true n = absurd (n tt)
-false-of false n = refl
-
-pub of-true : {b : Bool} → b ≡ true → T b
-of-true e = subst⁻¹ T e tt
+use Rattle.deck.proofs.Forms.{row-take, row-drop, row-length}
 
 -- A set of codes with zeros behind, as a test and as facts.
 pub ordered-codes : (a : List ℕ) (n : ℕ) → length a ≡ 64 → n ≤ 64 → T (ordered a n) → work.Codes a n 64

@@ -1,26 +1,24 @@
 -- Demand 3 on decks, proved: a call on the deck of a valid state is the model's call on the state, so a list of calls is too.
 use mathlib.Core.Path.{_≡_, refl, sym, ap, ap₂, _∙_, subst, subst⁻¹}
 use mathlib.Core.Logic.{_↔_}
-use mathlib.Core.Bool.{Bool, true, false}
-use mathlib.Core.List.{List, [], _∷_, List·Memᴰ}
-use Prim.Native.Nat.{ℕ, suc}
+use mathlib.Core.Bool.{true}
+use mathlib.Core.List.{List, [], _∷_}
+use Prim.Native.Nat.{ℕ}
 use native.Mathlib.Omega.{arith}
-use Rattle.plane.specs.Point.{Point}
-use Rattle.model.specs.State.{State, points, Valid}
+use Rattle.model.specs.State.{State, Valid}
 use Rattle.model.specs.Round.{RoundAnswer, finished, tap, round, finish}
 use Rattle.model.specs.Question as question
 use Rattle.model.specs.Call as call
 use Rattle.model.specs.Demand3 as model
-use Rattle.model.proofs.Round.{round-valid, rounds-valid}
+use Rattle.model.proofs.Round.{round-valid}
 use Rattle.model.proofs.Step.{step-valid, after-valid}
 use Rattle.model.proofs.Demand3.{start-valid, valid-kept}
-use Rattle.plan.proofs.Sweeping.{true-of}
+use Rattle.plane.proofs.Test.{true-of}
 use Rattle.deck.specs.declared.Deck.{Deck}
 use Rattle.deck.specs.declared.Outcome.{Outcome}
-use Rattle.calls.specs.declared.Reply.{Reply}
-use Rattle.calls.specs.declared.Reply.the-variants.{Finished, Tap, Rounds}
+use Rattle.calls.specs.declared.Reply.the-variants.{Finished}
 use Rattle.questions.specs.declared.Answer.{Answer}
-use Rattle.deck.specs.Form.{deckOf, stateOf, Sound, sound}
+use Rattle.deck.specs.Form.{deckOf, sound}
 use Rattle.calls.specs.Changes.{replyOf}
 use Rattle.deck.specs.Calls.{answer, called}
 use Rattle.deck.specs.Questions.{asked}

@@ -1,24 +1,22 @@
 -- Decks and states correspond: the state of a valid state's deck is the state, two sound decks with the same points are equal, and
 -- soundness is decided by the test.
-use mathlib.Core.Path.{_≡_, refl, sym, ap, ap₂, _∙_, subst, subst⁻¹}
-use mathlib.Core.Logic.{_⊎_, inl, inr, ⊎-elim, _↔_}
-use mathlib.Core.Bool.{Bool, true, false, not, _&&_}
-use mathlib.Core.List.{List, [], _∷_, _++_, map, List·Memᴰ, List·Memᴰ·head as head, List·Memᴰ·tail as tail, List·Memᴰ·not-nil as not-nil}
-use Prim.Native.Nat.{ℕ, zero, suc, _+_, _-_, _≤_, _<_}
+use mathlib.Core.Path.{_≡_, sym, ap, _∙_, subst, subst⁻¹}
+use mathlib.Core.Logic.{_↔_}
+use mathlib.Core.List.{List, map}
+use Prim.Native.Nat.{ℕ, _-_, _≤_}
 use native.Mathlib.Omega.{arith}
-use lib.Dec.{T, eqb, eqb→eq, eqb-refl, ltb}
+use lib.Dec.{T, eqb, eqb→eq, eqb-refl}
 use lib.ListN.{length, take, drop, replicate, length-map, length-append, length-replicate}
 use lib.Seq.{take-at, drop-at}
-use Rattle.plane.specs.Point.{Point, inRange, lower, Lower}
 use Rattle.plane.proofs.Test.{and-parts, and-both}
-use Rattle.model.specs.Set.{rising}
 use Rattle.model.specs.State.{State, points, Placed, Valid, valid}
+use Rattle.model.specs.Question.{listed}
 use Rattle.model.specs.File.{sameBytes}
 use Rattle.model.proofs.Validity.{valid-is}
 use Rattle.model.proofs.FileParts.{same-refl, same-eq}
-use Rattle.plan.specs.Code.{code, pointOf, isCode}
-use Rattle.plan.specs.Work.{stateAt, Codes, Arranged}
-use Rattle.plan.proofs.Codes.{map-codes, map-points, code-is, points-rising}
+use Rattle.tree.specs.Keys.{endsAt}
+use Rattle.plan.specs.Code.{code, pointOf}
+use Rattle.plan.proofs.Codes.{map-codes}
 use Rattle.deck.specs.declared.Deck.{Deck}
 use Rattle.deck.specs.Form.{row, deckOf, stateOf, Sound, sameDeck, sound}
 
@@ -30,6 +28,11 @@ row-drop n l m e = drop-at l (replicate (n - length l) 0) m e ∙ ap (λ (z : �
 
 pub row-length : (n : ℕ) (l : List ℕ) → length l ≤ n → length (row n l) ≡ n
 row-length n l h = omega (arith, length-append l (replicate (n - length l) 0), length-replicate {A = ℕ} (n - length l) 0)
+
+-- The ends of a sound deck are those of its edges in the listing order.
+pub ends-are : (d : Deck) → Sound d → d .ends ≡ row 128 (map (endsAt (points (stateOf d))) (listed (stateOf d)))
+unfolding deckOf
+ends-are d s = λ i. s .same i .ends
 
 -- The state of the deck of a placed state is the state.
 pub state-deck : (s : State) → Placed s → stateOf (deckOf s) ≡ s

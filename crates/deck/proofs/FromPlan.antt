@@ -1,36 +1,27 @@
 -- The deck of a working form is the deck of its state.
-use mathlib.Core.Path.{_≡_, refl, sym, ap, ap₂, _∙_, subst, subst⁻¹}
-use mathlib.Core.List.{List, [], _∷_, _++_, map}
-use Prim.Native.Nat.{ℕ, zero, suc, _+_, _-_, _≤_, _<_}
+use mathlib.Core.Path.{_≡_, sym, ap, _∙_}
+use mathlib.Core.List.{List, _++_, map}
+use Prim.Native.Nat.{ℕ, _-_}
 use native.Mathlib.Omega.{arith}
 use lib.Dec.{ltb}
-use lib.ListN.{length, take, drop, replicate, take-append-drop}
+use lib.ListN.{length, take, replicate, take-append-drop}
 use lib.Seq.{length-take-le}
 use Rattle.plane.specs.Edge.{listedBefore}
 use Rattle.model.specs.Set.{setOf}
 use Rattle.model.specs.Tree.{mst}
-use Rattle.model.specs.State.{State, points}
+use Rattle.model.specs.State.{points}
 use Rattle.model.specs.Question.{listed}
 use Rattle.tree.specs.Front.{Front}
 use Rattle.tree.specs.Held.{held}
-use Rattle.tree.specs.Keys.{tab, treeKeys, endsOf, endsAt}
+use Rattle.tree.specs.Keys.{endsOf, endsAt}
 use Rattle.tree.proofs.Numbers.{ends-listed}
 use Rattle.plan.specs.Code.{code, pointOf}
 use Rattle.plan.specs.declared.Plan.{Plan}
 use Rattle.plan.specs.Work as work
 use Rattle.plan.proofs.Arranging.{codes-count}
+use Rattle.plan.proofs.Changing.{drop-zeros}
 use Rattle.plan.proofs.Codes.{map-points}
-use Rattle.deck.specs.declared.Deck.{Deck}
 use Rattle.deck.specs.Form.{row, deckOf}
-
-zeros : ℕ → List ℕ
-zeros n = replicate n 0
-
-drop-zeros : (n m : ℕ) → drop m (zeros n) ≡ zeros (n - m)
-unfolding zeros
-drop-zeros n zero = let e : n ≡ n - 0 = omega arith in ap zeros e
-drop-zeros zero (suc m) = let e : 0 ≡ 0 - suc m = omega arith in ap zeros e
-drop-zeros (suc n) (suc m) = let e : n - m ≡ suc n - suc m = omega arith in drop-zeros n m ∙ ap zeros e
 
 -- A set of codes with zeros behind is the row of its points' codes.
 pub codes-row : (a : List ℕ) (n : ℕ) → work.Codes a n 64 → a ≡ row 64 (map code (map pointOf (take n a)))
@@ -51,7 +42,7 @@ plan-ends w p =
 
 pub plan-deck : (w : Plan) → work.Planned w → (ends : List ℕ) (r : ℕ) → Front (setOf ltb (map endsOf (take (w .nkeys) (w .keys)))) (replicate 128 0) ends r
     → record { pins = w .pins; npins = w .npins; steiner = w .steiner; nsteiner = w .nsteiner; ends = ends } ≡ deckOf (work.stateOf w)
-unfolding deckOf zeros
+unfolding deckOf
 plan-deck w p ends r f =
     λ i. record {
       pins = codes-row (w .pins) (w .npins) (p .arranged .pinCodes) i;
@@ -65,4 +56,4 @@ plan-deck w p ends r f =
     L = setOf ltb (map endsOf (take (w .nkeys) (w .keys)))
 
     listing : ends ≡ row 128 (map (endsAt (points (work.stateOf w))) (listed (work.stateOf w)))
-    listing = f .front ∙ ap (λ (l : List ℕ). L ++ l) (drop-zeros 128 (length L)) ∙ ap (row 128) (plan-ends w p)
+    listing = f .front ∙ ap (λ (l : List ℕ). L ++ l) (drop-zeros (length L) 128) ∙ ap (row 128) (plan-ends w p)

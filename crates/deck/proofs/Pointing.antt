@@ -1,19 +1,19 @@
 -- The working form of a deck's points: a search for a weak Steiner point in it tells whether they are those of a valid state; with
 -- the same edges the deck is sound.
 use mathlib.Core.Path.{_≡_, refl, sym, ap, _∙_, subst, subst⁻¹}
-use mathlib.Core.Bool.{Bool, true, false, _&&_}
-use mathlib.Core.Option.{Option, none, some}
+use mathlib.Core.Bool.{Bool, true, false}
+use mathlib.Core.Option.{Option, none}
 use mathlib.Core.List.{List, List·Memᴰ}
 use Prim.Native.Nat.{ℕ, _≤_, _<_}
 use native.Mathlib.Omega.{arith}
 use lib.Dec.{T}
-use lib.ListN.{length, take, replicate}
+use lib.ListN.{length, take}
 use lib.Seq.{length-take-le}
 use Rattle.plane.specs.Test.{if}
 use Rattle.plane.specs.Point.{Point}
-use Rattle.plane.proofs.Test.{and-parts, and-both}
+use Rattle.plane.proofs.Test.{and-parts, and-both, of-true}
 use Rattle.model.specs.Tree.{mst, edgesAt}
-use Rattle.model.specs.State.{State, empty, points, Placed, Valid, valid, lowestWeak}
+use Rattle.model.specs.State.{State, empty, points, Placed, valid, lowestWeak}
 use Rattle.model.specs.File.{sameBytes}
 use Rattle.model.proofs.Prune.{LowestWeakView, all-strong, weak, lowest-weak-view}
 use Rattle.model.proofs.Validity.{valid-is}
@@ -30,7 +30,7 @@ use Rattle.deck.specs.Form.{deckOf, stateOf, Sound, sound}
 use Rattle.deck.specs.Check.{arranged, pointed, Checks, unjoined, built}
 use Rattle.deck.proofs.Forms.{sound-is}
 use Rattle.deck.proofs.FromPlan.{codes-row}
-use Rattle.deck.proofs.Checking.{of-true, sound-arranged, arranged-few, same-of, refuted, refused, accepted}
+use Rattle.deck.proofs.Checking.{sound-arranged, arranged-few, same-of, refuted, refused, accepted}
 
 module _ (d : Deck) (w : Plan) (p : work.Planned w) (e₁ : w .pins ≡ d .pins) (e₂ : w .npins ≡ d .npins) (e₃ : w .steiner ≡ d .steiner) (e₄ : w .nsteiner ≡ d .nsteiner)
     (j : ℕ) (is : j ≡ firstWeak (take (w .npoints) (w .codes)) (take (w .nkeys) (w .keys)) (take (w .nsteiner) (w .steiner))) where

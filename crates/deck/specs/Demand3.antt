@@ -10,7 +10,6 @@ use Rattle.model.specs.Question as question
 use Rattle.model.specs.Call as call
 use Rattle.model.specs.Demand3 as model
 use Rattle.deck.specs.declared.Deck.{Deck}
-use Rattle.deck.specs.declared.Outcome.{Outcome}
 use Rattle.calls.specs.declared.Reply.{Reply}
 use Rattle.calls.specs.declared.Reply.the-variants.{Finished, Tap, Rounds}
 use Rattle.questions.specs.declared.Answer.the-variants.{Length}

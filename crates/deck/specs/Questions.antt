@@ -1,5 +1,4 @@
 -- What the questions on a deck answer.
-use Prim.Native.Nat.{ℕ}
 use Rattle.plane.specs.Test.{if}
 use Rattle.model.specs.State.{State}
 use Rattle.questions.specs.declared.Answer.{Answer}

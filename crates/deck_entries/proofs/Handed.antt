@@ -1,5 +1,5 @@
 -- What an entry hands on: whole numbers are read back from their bits, and the outcome shown is that of the call on the deck lent.
-use mathlib.Core.Path.{_≡_, refl, sym, ap, _∙_, subst}
+use mathlib.Core.Path.{_≡_, _∙_, subst}
 use mathlib.Core.List.{List, [], _∷_}
 use Prim.Native.Nat.{ℕ}
 use lib.IntN.{ℤ}

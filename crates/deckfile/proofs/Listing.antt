@@ -5,32 +5,22 @@ use mathlib.Core.List.{List, [], _∷_, map, List·Memᴰ, List·Memᴰ·head as
 use Prim.Native.Nat.{ℕ, _+_, _-_, _*_, _/_, _%_, _≤_, _<_}
 use native.Mathlib.Omega.{arith}
 use lib.ListN.{length, take, length-map}
-use Rattle.spanning.proofs.Sorted.{sorted-distinct}
-use Rattle.spanning.proofs.Count.{tree-count, tree-none}
-use Rattle.spanning.specs.Order.{Sorted}
-use Rattle.plane.specs.Point.{Point, Lower}
+use Rattle.plane.specs.Point.{Point}
 use Rattle.plane.specs.Edge.{Edge, listedBefore, planar}
-use Rattle.plane.proofs.Order.{lower-order, listed-order}
-use Rattle.model.specs.Tree.{mst}
+use Rattle.plane.proofs.Order.{listed-order}
 use Rattle.model.specs.State.{State, points, Valid}
 use Rattle.model.specs.Question.{listed, treeOf}
 use Rattle.model.specs.File.{numberOf, runBytes, runSection}
 use Rattle.model.proofs.Set.{set-of-in}
-use Rattle.model.proofs.Tree.{mst-run-tree}
+use Rattle.model.proofs.Tree.{mst-run-tree, tree-edges}
 use Rattle.model.proofs.Prune.{points-rise}
 use Rattle.model.proofs.Bounds.{points-count, points-few}
 use Rattle.model.proofs.FileSize.{listed-count, number-below, runs-length}
 use Rattle.tree.specs.Keys.{endsAt}
 use Rattle.deck.specs.declared.Deck.{Deck}
-use Rattle.deck.specs.Form.{row, deckOf, stateOf, Sound}
-use Rattle.deck.proofs.Forms.{row-take}
+use Rattle.deck.specs.Form.{deckOf, stateOf, Sound}
+use Rattle.deck.proofs.Forms.{row-take, ends-are}
 use Rattle.sections.specs.Bytes.{each, edgeBytes}
-
--- A tree has one edge less than points, and none where there is no point.
-tree-edges : (ps : List Point) → Sorted Lower ps → length (mst ps) ≡ length ps - 1
-tree-edges [] rise = omega (arith, ap length (tree-none planar (mst []) (mst-run-tree [] rise .tree)))
-tree-edges (p ∷ l) rise =
-    omega (arith, tree-count planar (p ∷ l) (mst (p ∷ l)) (sorted-distinct lower-order (p ∷ l) rise) (mst-run-tree (p ∷ l) rise .tree) (omega arith))
 
 pub edge-count : (s : State) → Valid s → length (listed s) ≡ length (s .pins) + length (s .steiner) - 1
 edge-count s v =
@@ -71,15 +61,11 @@ module _ (d : Deck) (s : Sound d) where
   pub count-is : length (listed (stateOf d)) ≡ d .npins + d .nsteiner - 1
   count-is = omega (arith, edge-count (stateOf d) (s .valid), pins-are, steiner-are)
 
-  ends-are : d .ends ≡ row 128 (map (endsAt (points (stateOf d))) (listed (stateOf d)))
-  unfolding deckOf
-  ends-are = λ i. s .same i .ends
-
   pub edges-are : edgeBytes (take (d .npins + d .nsteiner - 1) (d .ends)) ≡ runSection (stateOf d)
   edges-are =
       let l = map (endsAt (points (stateOf d))) (listed (stateOf d)) in
       ap edgeBytes
-      (ap (take (d .npins + d .nsteiner - 1)) ends-are
+      (ap (take (d .npins + d .nsteiner - 1)) (ends-are d s)
       ∙ row-take 128 l (d .npins + d .nsteiner - 1) (length-map (listed (stateOf d)) (endsAt (points (stateOf d))) ∙ count-is))
       ∙ section-edges (stateOf d) (s .valid)
 

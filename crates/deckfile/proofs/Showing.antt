@@ -2,18 +2,19 @@
 use mathlib.Core.Path.{_≡_, refl, sym, ap, ap₂, _∙_, subst, subst⁻¹}
 use mathlib.Core.Bool.{Bool, true, false, _&&_, _||_}
 use mathlib.Core.List.{List, [], _∷_, _++_, map, List·Memᴰ, List·Memᴰ·not-nil as not-nil}
-use Prim.Native.Nat.{ℕ, zero, suc, _+_, _-_, _*_, _/_, _<_}
+use Prim.Native.Nat.{ℕ, _+_, _-_, _*_, _/_, _<_}
 use native.Mathlib.Omega.{arith}
 use lib.Dec.{T, eqb, eqb→eq}
 use lib.ListN.{length, take, drop, replicate, length-map, length-take, length-drop}
 use Rattle.plane.specs.Test.{if}
-use Rattle.plane.proofs.Test.{and-parts, and-both, same-test}
+use Rattle.plane.proofs.Test.{and-parts, and-both, same-test, false-of}
 use Rattle.model.specs.State.{State, empty, Placed, placed, valid}
 use Rattle.model.specs.File.{offset, size, section, shown, plain, sameBytes, runSection}
 use Rattle.model.proofs.Validity.{placed-is, valid-is}
 use Rattle.model.proofs.FileSize.{steiner-few}
 use Rattle.model.proofs.FileParts.{same-eq}
 use Rattle.plan.specs.Code.{code}
+use Rattle.plan.proofs.Changing.{drop-zeros}
 use Rattle.deck.specs.declared.Deck.{Deck}
 use Rattle.deck.specs.declared.build.Built.{Built}
 use Rattle.deck.specs.declared.Outcome.{Outcome}
@@ -21,7 +22,7 @@ use Rattle.calls.specs.declared.Reply.the-variants.{Refused}
 use Rattle.deck.specs.Form.{row, deckOf, stateOf, Sound}
 use Rattle.deck.specs.Check.{arranged, pointed, unjoined, built}
 use Rattle.deck.proofs.Forms.{state-deck, deck-sound}
-use Rattle.deck.proofs.Checking.{false-of, sound-arranged}
+use Rattle.deck.proofs.Checking.{sound-arranged}
 use Rattle.sections.specs.Bytes.{edgeBytes}
 use Rattle.sections.specs.Points.{mark, marks}
 use Rattle.sections.specs.Layout.{Sections, FewPins}
@@ -63,15 +64,6 @@ built-state s p = ap₂ chosen (state-deck s p) tests
         (λ t. and-both (arranged d) (valid (stateOf d)) (sound-arranged (deckOf s) (deck-sound s (valid-is s .0 t)))
         (subst⁻¹ (λ (r : State). T (valid r)) (state-deck s p) t))
 
-zeros : ℕ → List ℕ
-zeros n = replicate n 0
-
-drop-zeros : (n m : ℕ) → drop m (zeros n) ≡ zeros (n - m)
-unfolding zeros
-drop-zeros n zero = let e : n ≡ n - 0 = omega arith in ap zeros e
-drop-zeros zero (suc m) = let e : 0 ≡ 0 - suc m = omega arith in ap zeros e
-drop-zeros (suc n) (suc m) = let e : n - m ≡ suc n - suc m = omega arith in drop-zeros n m ∙ ap zeros e
-
 module _ (b : List ℕ) (d : Sections b) where
   pub pins-count : length (shown b .pins) ≡ size b 0 / 4
   pins-count =
@@ -90,8 +82,7 @@ module _ (b : List ℕ) (d : Sections b) where
     is-placed = placed-is s .0 p
 
     row-of : (l : List ℕ) (n : ℕ) → length l ≡ n → l ++ drop n (replicate 64 0) ≡ row 64 l
-    unfolding zeros
-    row-of l n e = ap (λ (m : List ℕ). l ++ m) (drop-zeros 64 n ∙ ap (λ (z : ℕ). zeros (64 - z)) (sym e))
+    row-of l n e = ap (λ (m : List ℕ). l ++ m) (drop-zeros n 64 ∙ ap (λ (z : ℕ). replicate (64 - z) 0) (sym e))
 
     pub shown-built : (pins steiner : List ℕ) (u v : ℕ) → u ≡ size b 0 → v ≡ size b 1
         → pins ≡ marks b 30 (u / 4) ++ drop (u / 4) (replicate 64 0) → steiner ≡ marks b (30 + u) (v / 4) ++ drop (v / 4) (replicate 64 0)

@@ -1,32 +1,29 @@
 -- Writing a deck: its parts one behind the other are the file of its state, and the checks in turn say what is answered and left.
 use mathlib.Core.Path.{_≡_, refl, sym, ap, ap₂, _∙_}
 use mathlib.Core.Bool.{Bool, true, false}
-use mathlib.Core.List.{List, [], _∷_, _++_, append-assoc, map, List·Memᴰ, List·Memᴰ·head as head, List·Memᴰ·tail as tail}
+use mathlib.Core.List.{List, [], _∷_, _++_, map, List·Memᴰ, List·Memᴰ·head as head, List·Memᴰ·tail as tail}
 use Prim.Native.Nat.{ℕ, _+_, _-_, _*_, _/_, _%_, _≤_, _<_}
 use native.Mathlib.Omega.{arith}
 use lib.Dec.{T, leb, leb→le}
-use lib.ListN.{length, take, drop, length-append}
-use lib.Seq.{length-take-le}
+use lib.ListN.{length, take, drop}
 use borrow.Author.Tests.{le-leb, lt-leb}
 use Rattle.plane.specs.Test.{if}
 use Rattle.plane.specs.Stored.{pointAt}
-use Rattle.plane.proofs.Test.{and-parts}
+use Rattle.plane.proofs.Test.{and-parts, true-of}
 use Rattle.model.specs.File.{pointBytes, sectionOf, header, fileOf}
 use Rattle.model.proofs.Bytes.{section-length}
 use Rattle.model.proofs.FileSize.{file-length, listed-count}
 use Rattle.plan.specs.Code.{pointOf, isCode}
 use Rattle.deck.specs.declared.Deck.{Deck}
 use Rattle.deck.specs.Form.{stateOf, Sound, sound}
-use Rattle.plan.proofs.Sweeping.{true-of}
 use Rattle.deck.proofs.Forms.{sound-is}
 use Rattle.deck.proofs.Checking.{sound-few, sound-left, sound-pins, sound-steiner}
 use Rattle.deckfile.specs.declared.Written.{Written}
 use Rattle.deckfile.specs.declared.Written.the-variants.{Refused, Length}
-use Rattle.sections.specs.Bytes.{each, edgeTwo, pointFour, over}
+use Rattle.sections.specs.Bytes.{each, pointFour, over}
 use Rattle.buffer.specs.Parts.{fileParts, Kept}
 use Rattle.deckfile.specs.Writing.{written, left}
 use Rattle.deckfile.proofs.Listing.{pins-are, steiner-are, count-is, edges-are, edges-long}
-use Rattle.buffer.proofs.Putting.{each-length, over-next}
 
 -- The points of codes, in bytes.
 kept-point : (k : ℕ) → T (isCode k) → pointFour k ≡ pointBytes (pointOf k)

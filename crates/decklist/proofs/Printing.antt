@@ -1,22 +1,22 @@
 -- What the program prints for a file: the line of its refusal, or the listing of its deck after a run to the end.
-use mathlib.Core.Path.{_≡_, refl, sym, ap, _∙_, subst, subst⁻¹}
-use mathlib.Core.Bool.{Bool, true, false}
-use mathlib.Core.List.{List, [], _∷_, _++_}
-use Prim.Native.Nat.{ℕ, _+_, _≤_, _<_}
+use mathlib.Core.Path.{_≡_, refl, sym, ap, _∙_, subst}
+use mathlib.Core.Bool.{Bool}
+use mathlib.Core.List.{List, []}
+use Prim.Native.Nat.{ℕ, _≤_}
 use native.Mathlib.Omega.{arith}
 use lib.ListN.{length}
 use borrow.Author.Tests.{le-leb}
 use Rattle.io.specs.Counts.{Counts}
 use Rattle.plane.specs.Test.{if}
-use Rattle.model.specs.State.{State, Valid}
+use Rattle.model.specs.State.{State}
 use Rattle.model.specs.Call as call
 use Rattle.model.specs.Round.{finish}
 use Rattle.model.specs.File.{Read, deck, refusal, readFile}
 use Rattle.model.specs.Listing.{listing, refusedLine, listingOfFile}
-use Rattle.plan.proofs.Sweeping.{true-of}
+use Rattle.plane.proofs.Test.{true-of}
 use Rattle.tree.specs.Front.{Front}
 use Rattle.deck.specs.declared.Deck.{Deck}
-use Rattle.deck.specs.Form.{deckOf, stateOf, sound}
+use Rattle.deck.specs.Form.{deckOf, sound}
 use Rattle.calls.specs.Changes.{refusalNumber}
 use Rattle.deck.specs.Calls.{called}
 use Rattle.deck.proofs.Forms.{state-deck, deck-sound, sound-is}

@@ -1,23 +1,18 @@
 -- The text of a deck, and the answer that tells whether a deck is sound.
-use mathlib.Core.Path.{_≡_, refl, sym, ap, _∙_, subst, subst⁻¹}
+use mathlib.Core.Path.{_≡_, refl, sym, ap, _∙_, subst}
 use mathlib.Core.Bool.{Bool, true, false}
-use mathlib.Core.List.{List, [], _++_}
-use Prim.Native.Nat.{ℕ, _+_, _≤_, _<_}
+use Prim.Native.Nat.{ℕ}
 use native.Mathlib.Omega.{arith}
 use lib.Dec.{T}
-use lib.ListN.{length, take, drop, length-append}
-use lib.Seq.{length-take-le, take-at}
-use borrow.Author.Tests.{le-leb, lt-leb}
+use lib.ListN.{length}
 use Rattle.plane.specs.Test.{if}
 use Rattle.model.specs.Listing.{listing, refusedLine}
-use Rattle.tree.specs.Front.{Front}
 use Rattle.deck.specs.declared.Deck.{Deck}
 use Rattle.questions.specs.declared.Answer.{Answer}
 use Rattle.questions.specs.declared.Answer.the-variants.{Refused, Length, Counts, Edge, NoEdge, Degree}
 use Rattle.deck.specs.Form.{stateOf, sound}
 use Rattle.deck.specs.Questions.{asked}
 use Rattle.questions.specs.Answers.{lengthAnswer}
-use Rattle.ascii.specs.Text.{Put, fitting}
 use Rattle.listing.specs.Whole.{deckText, Measures}
 
 -- The text of a deck, by whether it is sound.

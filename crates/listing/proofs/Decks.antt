@@ -8,10 +8,7 @@ use native.Mathlib.Omega.{arith}
 use lib.Dec.{T, ltb, leb, leb→le}
 use lib.ListN.{length, take, getD, replicate, length-map}
 use lib.Seq.{length-take-le, getD-take}
-use Rattle.spanning.specs.Order.{Sorted}
-use Rattle.spanning.proofs.Sorted.{sorted-distinct}
-use Rattle.spanning.proofs.Count.{tree-count, tree-none}
-use Rattle.plane.specs.Point.{Point, lower, Lower}
+use Rattle.plane.specs.Point.{Point, lower}
 use Rattle.plane.specs.Edge.{Edge, listedBefore, planar}
 use Rattle.plane.proofs.Test.{and-parts, by-test}
 use Rattle.plane.proofs.Order.{nat-order, lower-order, listed-order}
@@ -22,7 +19,7 @@ use Rattle.model.specs.Question as question
 use Rattle.model.specs.File.{numberOf}
 use Rattle.model.specs.Listing.{listing, tapLines, runLines}
 use Rattle.model.proofs.Set.{tie-eq, no-tie, union-in, set-of-in}
-use Rattle.model.proofs.Tree.{mst-run-tree}
+use Rattle.model.proofs.Tree.{mst-run-tree, tree-edges}
 use Rattle.model.proofs.Prune.{points-rise}
 use Rattle.model.proofs.Bounds.{points-few}
 use Rattle.model.proofs.FileSize.{listed-count, number-below}
@@ -33,8 +30,8 @@ use Rattle.plan.specs.Code.{pointOf, isCode}
 use Rattle.plan.proofs.Arranging.{codes-count}
 use Rattle.plan.proofs.Codes.{points-union}
 use Rattle.deck.specs.declared.Deck.{Deck}
-use Rattle.deck.specs.Form.{row, deckOf, stateOf, Sound}
-use Rattle.deck.proofs.Forms.{row-take, row-length}
+use Rattle.deck.specs.Form.{row, stateOf, Sound}
+use Rattle.deck.proofs.Forms.{row-take, row-length, ends-are}
 use Rattle.deck.proofs.Checking.{sound-pins, sound-steiner}
 use Rattle.listing.specs.Line.{headText, edgeAt, Coded, Ended}
 use Rattle.ascii.specs.Text.{Put}
@@ -63,12 +60,6 @@ number-point [] q i = absurd (not-nil i)
 number-point (k ∷ l) q i =
     by-test (λ (n : ℕ). pointOf (getD (k ∷ l) n 0) ≡ q) (tie lower q (pointOf k)) _ _ (λ t. sym (tie-eq lower lower-order q (pointOf k) t))
     (λ n. number-point l q (⊎-elim (λ e. absurd (no-tie lower lower-order q (pointOf k) n e)) (λ j. j) (cases i)))
-
--- A tree has one edge less than points.
-edges-less : (ps : List Point) → Sorted Lower ps → length (mst ps) ≡ length ps - 1
-edges-less [] rise = omega (arith, ap length (tree-none planar (mst []) (mst-run-tree [] rise .tree)))
-edges-less (p ∷ l) rise =
-    omega (arith, tree-count planar (p ∷ l) (mst (p ∷ l)) (sorted-distinct lower-order (p ∷ l) rise) (mst-run-tree (p ∷ l) rise .tree) (omega arith))
 
 -- The edges from the numbers of their ends.
 module _ (codes : List ℕ) (n : ℕ) (fits : n ≤ length codes) (few : n ≤ 126) where
@@ -132,14 +123,14 @@ module _ (d : Deck) (s : Sound d) (from codes : List ℕ) (n : ℕ)
 
   listed-length : length (question.listed (stateOf d)) ≡ n - 1
   listed-length =
-      listed-count (stateOf d) (s .valid .placed) ∙ edges-less (points (stateOf d)) (points-rise (stateOf d) (s .valid .placed .steinerRise))
+      listed-count (stateOf d) (s .valid .placed) ∙ tree-edges (points (stateOf d)) (points-rise (stateOf d) (s .valid .placed .steinerRise))
       ∙ ap (λ (k : ℕ). k - 1) (sym held-count)
 
   abbrev full : List ℕ
   full = row 128 (map (endsAt (map pointOf (take n codes))) (question.listed (stateOf d)))
 
   ends-row : d .ends ≡ full
-  ends-row = unfold deckOf in (λ i. s .same i .ends) ∙ ap (λ (l : List Point). row 128 (map (endsAt l) (question.listed (stateOf d)))) (sym held)
+  ends-row = ends-are d s ∙ ap (λ (l : List Point). row 128 (map (endsAt l) (question.listed (stateOf d)))) (sym held)
 
   ends-held : (e : Edge) → List·Memᴰ e (question.listed (stateOf d)) → List·Memᴰ (e .lo) (map pointOf (take n codes)) × List·Memᴰ (e .hi) (map pointOf (take n codes))
   unfolding planar

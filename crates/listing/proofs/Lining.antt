@@ -1,10 +1,8 @@
 -- The tap lines and the run lines of the first items, then a line more.
-use mathlib.Core.Path.{_≡_, refl, sym, ap, _∙_, subst}
+use mathlib.Core.Path.{_≡_, refl, sym, ap, _∙_}
 use mathlib.Core.List.{List, [], _∷_, _++_, map, append-assoc}
-use Prim.Native.Nat.{ℕ, _+_, _*_, _≤_, _<_}
-use native.Mathlib.Nat.{mul-suc}
+use Prim.Native.Nat.{ℕ, _+_, _<_}
 use native.Mathlib.Numerals.{add-one}
-use native.Mathlib.Omega.{arith}
 use lib.ListN.{length, take, getD}
 use lib.Seq.{take-suc}
 use Rattle.plane.specs.Point.{Point}
@@ -12,8 +10,6 @@ use Rattle.plane.specs.Edge.{Edge, edgeLength}
 use Rattle.model.specs.Listing.{tapLines, runLines, tapWord, runWord, pointFields, field, decimal, lineFeed}
 use Rattle.plan.specs.Code.{pointOf}
 use Rattle.listing.specs.Line.{tapLine, runLine, edgeAt}
-use Rattle.ascii.specs.Text.{Put}
-use Rattle.ascii.proofs.Puts.{put-none, put-then, put-same}
 
 -- The text of one item more.
 taps-more : (l : List Point) (q : Point) → tapLines (l ++ (q ∷ [])) ≡ tapLines l ++ tapLine q

@@ -9,8 +9,9 @@ use questions::Answer;
 use rows::head_line;
 use rows::run_lines;
 use rows::tap_lines;
+use tree::list::edges_of;
 ghost use mathlib.Core.Path.{_≡_};
-ghost use Prim.Native.Nat.{_+_, _-_, _≤_};
+ghost use Prim.Native.Nat.{_+_, _≤_};
 ghost use lib.ListN.{length};
 ghost use Rattle.model.specs.Question as question;
 ghost use Rattle.model.specs.Listing as model;
@@ -65,13 +66,6 @@ fn refused_line(out: &mut [u8], n: u64) -> usize
     let a = word(out, 0, b"refused");
     let b = decimal_field(out, a, n);
     byte(out, b, b'\n')
-}
-
-// How many edges a tree of so many points has.
-fn edges_of(points: usize) -> usize
-    ensures { λ r. ⌜ r ≡ points - 1 ⌝ }
-{
-    if points == 0 { 0 } else { points - 1 }
 }
 
 // The tap lines of a sound deck.

@@ -1,24 +1,22 @@
 -- At most 126 points between calls and 127 during a round; every tree of points in range on so few points is at most 15,120,000 long.
-use mathlib.Core.Path.{_≡_, refl, sym, ap, _∙_, subst, subst⁻¹}
-use mathlib.Core.Logic.{_⊎_, inl, inr, ⊎-elim}
+use mathlib.Core.Path.{_≡_, ap, subst, subst⁻¹}
+use mathlib.Core.Logic.{_⊎_, ⊎-elim}
 use mathlib.Core.List.{List, [], _∷_, List·Memᴰ}
-use Prim.Native.Nat.{ℕ, zero, suc, _+_, _*_, _≤_, _<_}
-use native.Mathlib.Nat.{le-trans}
+use Prim.Native.Nat.{ℕ, suc, _+_, _≤_}
 use native.Mathlib.Omega.{arith}
 use lib.Dec.{T}
 use lib.ListN.{length}
-use Rattle.spanning.specs.Graph.{Tree}
-use Rattle.spanning.specs.Order.{StrictTotal, Sorted}
+use Rattle.spanning.specs.Order.{Sorted}
 use Rattle.spanning.proofs.Sorted.{sorted-distinct}
 use Rattle.spanning.proofs.Totals.{total-most}
 use Rattle.spanning.proofs.Count.{tree-count, tree-none}
 use Rattle.plane.specs.Point.{Point, inRange, lower, Lower}
-use Rattle.plane.specs.Edge.{Edge, edgeLength, planar}
+use Rattle.plane.specs.Edge.{edgeLength, planar}
 use Rattle.plane.proofs.Order.{lower-order}
 use Rattle.plane.proofs.Range.{dist-range}
-use Rattle.model.specs.Set.{put, union}
-use Rattle.model.specs.Tree.{mst, lengthOf, treeLength}
-use Rattle.model.specs.State.{State, points, Valid, maxPins}
+use Rattle.model.specs.Set.{put}
+use Rattle.model.specs.Tree.{mst, treeLength}
+use Rattle.model.specs.State.{State, points, Valid}
 use Rattle.model.specs.Demand3.{mostPoints, longestTree}
 use Rattle.model.proofs.Set.{put-in, put-sorted, put-length, union-length}
 use Rattle.model.proofs.Tree.{mst-run-tree}

@@ -1,14 +1,13 @@
 -- Demand 3, proved: every state that a list of calls leads to is valid, and of a valid state the rest holds.
-use mathlib.Core.Path.{_≡_}
-use mathlib.Core.List.{List, [], _∷_, List·Memᴰ, List·Memᴰ·not-nil as not-nil}
-use Prim.Native.Nat.{ℕ, suc, _≤_}
+use mathlib.Core.List.{List·Memᴰ·not-nil as not-nil}
+use Prim.Native.Nat.{_≤_}
 use native.Mathlib.Omega.{arith}
 use lib.ListN.{length}
 use Rattle.spanning.specs.Order.{Sorted}
 use Rattle.plane.specs.Point.{Lower}
 use Rattle.model.specs.Tree.{treeLength}
 use Rattle.model.specs.State.{State, empty, points, Valid}
-use Rattle.model.specs.Call.{Call, after}
+use Rattle.model.specs.Call.{after}
 use Rattle.model.specs.Demand3.{Start, fresh, file, Kept, Demand3, mostPoints}
 use Rattle.model.proofs.Tree.{mst-run-tree}
 use Rattle.model.proofs.Cover.{mst-least}

@@ -11,7 +11,7 @@ use lib.ListN.{length, take, drop}
 use Rattle.plane.proofs.Test.{and-parts, and-both}
 use Rattle.model.specs.Refusal.{Pass}
 use Rattle.model.specs.State.{State, maxPins, Placed, Valid, placed, valid}
-use Rattle.model.specs.File.{deck, fileChecks, readFile, shown, headed, laidOut, whole, plain, showsDeck, section, offset, size, pointsOf, sameBytes, runSection}
+use Rattle.model.specs.File.{deck, fileChecks, readFile, shown, headed, laidOut, whole, plain, section, offset, size, pointsOf, sameBytes, runSection}
 use Rattle.model.proofs.Refusal.{file-taken}
 use Rattle.model.proofs.Validity.{placed-is, valid-is}
 

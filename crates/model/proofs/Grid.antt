@@ -1,29 +1,28 @@
 -- The grid theorem for one point: if any whole point, not held, has a tree over the held points and it that is shorter than the
 -- tree, then some candidate shortens it. The point is replaced by one with the median x and the median y of its neighbours.
 use mathlib.Core.Path.{_≡_, refl, sym, ap, _∙_, subst, subst⁻¹}
-use mathlib.Core.Logic.{_⊎_, inl, inr, ⊎-elim, _↔_}
+use mathlib.Core.Logic.{_⊎_, inl, inr, ⊎-elim}
 use mathlib.Core.Bool.{Bool, true, false, not}
-use mathlib.Core.List.{List, [], _∷_, map, List·Memᴰ, List·Memᴰ·head as head, List·Memᴰ·tail as tail, List·Memᴰ·cases-cons as cases, List·Memᴰ·not-nil as not-nil}
-use Prim.Native.Nat.{ℕ, zero, suc, _+_, _≤_, _<_}
+use mathlib.Core.List.{List, [], _∷_, map, List·Memᴰ, List·Memᴰ·head as head, List·Memᴰ·tail as tail, List·Memᴰ·cases-cons as cases}
+use Prim.Native.Nat.{_+_, _≤_}
 use native.Mathlib.Nat.{le-trans}
 use native.Mathlib.Omega.{arith}
 use lib.Dec.{T}
 use lib.ListN.{length}
 use lib.IntN.{ℤ}
 use Rattle.spanning.specs.Graph.{Conn, In, Tree, total}
-use Rattle.spanning.specs.Order.{StrictTotal, Sorted}
+use Rattle.spanning.specs.Order.{Sorted}
 use Rattle.spanning.specs.Kruskal.{kruskal}
 use Rattle.spanning.proofs.Sorted.{Distinct, sorted-distinct}
 use Rattle.spanning.proofs.Count.{forest-ends}
 use Rattle.spanning.proofs.Degree.{tree-degree-pos}
-use Rattle.plane.specs.Point.{Point, lower, Lower, gap, dist, pointDec}
+use Rattle.plane.specs.Point.{Point, lower, Lower, dist, pointDec}
 use Rattle.plane.specs.Edge.{Edge, planar}
 use Rattle.plane.proofs.Order.{lower-order}
 use Rattle.plane.proofs.Median.{sumGap, median}
 use Rattle.model.specs.Set.{put, has, union}
 use Rattle.model.specs.Tree.{pairs, edges, mst, lengthOf, treeLength, edgesAt}
 use Rattle.model.proofs.Set.{put-in, put-sorted, put-same, has-in, has-not}
-use Rattle.model.proofs.Tree.{mst-run-tree}
 use Rattle.model.proofs.Cover.{Connects, mst-cover}
 use Rattle.model.proofs.Replace.{swap, swap-same, swap-other, replaced, star, sumDist, replaced-conn, replaced-ends, replaced-length, star-count, star-edge}
 use Rattle.model.specs.Choice.{Candidate}

@@ -1,26 +1,23 @@
 -- The sweep ends with every Steiner point at three edges or more, keeps the pins, adds no point and never lengthens the tree.
 -- By induction on the number of Steiner points left: each removal takes out one of at most two edges.
-use mathlib.Core.Path.{_≡_, refl, sym, ap, _∙_, subst, subst⁻¹}
+use mathlib.Core.Path.{_≡_, refl, ap, subst, subst⁻¹}
 use mathlib.Core.Logic.{_⊎_, inl, inr, ⊎-elim, _↔_}
-use mathlib.Core.Bool.{Bool, true, false, not}
 use mathlib.Core.Option.{Option, none, some}
 use mathlib.Core.List.{List, [], _∷_, List·Memᴰ, List·Memᴰ·head as head, List·Memᴰ·tail as tail, List·Memᴰ·cases-cons as cases, List·Memᴰ·not-nil as not-nil}
-use Prim.Native.Nat.{ℕ, zero, suc, _+_, _-_, _≤_, _<_}
+use Prim.Native.Nat.{ℕ, zero, suc, _+_, _-_, _≤_}
 use native.Mathlib.Nat.{le-refl, le-trans}
 use native.Mathlib.Omega.{arith}
-use lib.Dec.{T, leb, leb→le, nleb→lt}
+use lib.Dec.{leb, leb→le, nleb→lt}
 use lib.ListN.{length}
-use Rattle.spanning.specs.Order.{StrictTotal, Sorted}
-use Rattle.spanning.specs.Graph.{Tree}
+use Rattle.spanning.specs.Order.{Sorted}
 use Rattle.spanning.proofs.Sorted.{Distinct, sorted-distinct, sorted-ext}
 use Rattle.spanning.proofs.Degree.{branches-some}
-use Rattle.plane.specs.Test.{if}
 use Rattle.plane.specs.Point.{Point, lower, Lower}
 use Rattle.plane.specs.Edge.{Edge, planar}
 use Rattle.plane.proofs.Order.{lower-order}
 use Rattle.plane.proofs.Test.{by-test}
-use Rattle.model.specs.Set.{out, union}
-use Rattle.model.specs.Tree.{mst, treeLength, edgesAt, RunTree}
+use Rattle.model.specs.Set.{out}
+use Rattle.model.specs.Tree.{mst, treeLength, edgesAt}
 use Rattle.model.specs.State.{State, points, strong, Placed, Valid, lowestWeak, without, pruneFrom, prune, maxPins}
 use Rattle.model.proofs.Set.{out-in, out-sorted, out-length, union-in, union-sorted}
 use Rattle.model.proofs.Tree.{mst-run-tree}

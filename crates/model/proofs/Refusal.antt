@@ -1,6 +1,6 @@
 -- The first check that fails is the refusal, in both directions, and there is none exactly if all pass: by the tests in turn. So it
 -- is of the checks of a file, of adding and of withdrawing.
-use mathlib.Core.Path.{_≡_, refl, sym, ap, _∙_, subst}
+use mathlib.Core.Path.{_≡_, refl, sym, ap, subst}
 use mathlib.Core.Logic.{_↔_}
 use mathlib.Core.Bool.{Bool, true, false}
 use mathlib.Core.Option.{Option, none, some}
@@ -12,8 +12,8 @@ use Rattle.plane.specs.Test.{if}
 use Rattle.plane.specs.Point.{Point}
 use Rattle.model.specs.Refusal.{Check, firstFailed, Pass, FirstFailed, here, later}
 use Rattle.model.specs.State.{State, insert, remove}
-use Rattle.model.specs.Call.{add, withdraw, done, refused, addChecks, withdrawChecks, insertRefusal, removeRefusal, Outcome, unless, step}
-use Rattle.model.specs.File.{Read, deck, refusal, fileChecks, readBy, readFile, shown}
+use Rattle.model.specs.Call.{add, withdraw, done, refused, addChecks, withdrawChecks, insertRefusal, removeRefusal, unless, step}
+use Rattle.model.specs.File.{deck, refusal, fileChecks, readBy, readFile, shown}
 
 -- One check by its test.
 failed-by : (n : ℕ) (c : Check) (l : List Check) (b : Bool) → c .test tt ≡ b → ((firstFailed l ≡ some n) → FirstFailed n l)

@@ -1,32 +1,30 @@
 -- A round keeps a state valid; it is finished exactly if no whole point shortens the tree; one that adds a point shortens the
 -- tree by at least 1 and by at least the saving. So rounds alone end, and the run to the end is those rounds.
-use mathlib.Core.Path.{_≡_, refl, sym, ap, _∙_, subst, subst⁻¹}
+use mathlib.Core.Path.{_≡_, refl, subst, subst⁻¹}
 use mathlib.Core.Logic.{_⊎_, inl, inr, ⊎-elim, _↔_}
-use mathlib.Core.Bool.{Bool, true, false}
 use mathlib.Core.Option.{Option, none, some}
-use mathlib.Core.List.{List, [], _∷_, List·Memᴰ, List·Memᴰ·head as head, List·Memᴰ·tail as tail, List·Memᴰ·cases-cons as cases}
+use mathlib.Core.List.{List, _∷_, List·Memᴰ, List·Memᴰ·head as head, List·Memᴰ·tail as tail, List·Memᴰ·cases-cons as cases}
 use Prim.Native.Nat.{ℕ, zero, suc, _+_, _-_, _≤_, _<_}
-use native.Mathlib.Nat.{le-refl, le-trans}
+use native.Mathlib.Nat.{le-refl}
 use native.Mathlib.Omega.{arith}
 use lib.Dec.{T}
-use lib.ListN.{length}
 use Rattle.spanning.specs.Graph.{Tree}
-use Rattle.spanning.specs.Order.{StrictTotal, Sorted}
+use Rattle.spanning.specs.Order.{Sorted}
 use Rattle.spanning.proofs.Sorted.{sorted-ext}
 use Rattle.plane.specs.Point.{Point, coordinateInRange, inRange, lower, Lower}
-use Rattle.plane.specs.Edge.{Edge, planar}
+use Rattle.plane.specs.Edge.{planar}
 use Rattle.plane.proofs.Order.{lower-order}
 use Rattle.plane.proofs.Test.{and-parts, and-both}
 use Rattle.model.specs.Set.{put}
 use Rattle.model.specs.Tree.{mst, lengthOf, treeLength}
-use Rattle.model.specs.State.{State, points, Placed, Valid, prune, maxPins}
-use Rattle.model.specs.Round.{RoundAnswer, finished, tap, RoundResult, withSteiner, best, round, Ended, roundsFrom, finish}
+use Rattle.model.specs.State.{State, points, Placed, Valid, prune}
+use Rattle.model.specs.Round.{RoundAnswer, finished, tap, RoundResult, withSteiner, round, Ended, roundsFrom, finish}
 use Rattle.model.specs.Choice.{Candidate}
 use Rattle.model.specs.Question.{lengthOfState}
 use Rattle.model.specs.Demand3.{RoundsTo, ended, added, NoShorter}
 use Rattle.model.proofs.Set.{put-in, put-sorted}
 use Rattle.model.proofs.Tree.{mst-run-tree, tree-members}
-use Rattle.model.proofs.Prune.{points-in, points-rise, Pruned, prune-leaves, prune-valid}
+use Rattle.model.proofs.Prune.{points-in, points-rise, prune-leaves, prune-valid}
 use Rattle.model.proofs.Choice.{Choice, none-saves, some-chosen, best-choice, saved-shorter, unsaved-longer}
 use Rattle.model.proofs.Grid.{grid-theorem}
 

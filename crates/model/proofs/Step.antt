@@ -1,19 +1,16 @@
 -- Every call keeps a state valid, refused ones too.
-use mathlib.Core.Path.{_≡_, refl, sym, ap, _∙_, subst, subst⁻¹}
-use mathlib.Core.Logic.{_⊎_, inl, inr, ⊎-elim, _↔_}
-use mathlib.Core.Bool.{Bool, true, false, not}
+use mathlib.Core.Path.{_≡_, refl, subst, subst⁻¹}
+use mathlib.Core.Logic.{_⊎_, ⊎-elim}
 use mathlib.Core.Option.{Option, none, some}
 use mathlib.Core.List.{List, [], _∷_, List·Memᴰ}
-use Prim.Native.Nat.{ℕ, zero, suc, _+_, _≤_, _<_}
+use Prim.Native.Nat.{ℕ, _<_}
 use native.Mathlib.Omega.{arith}
 use lib.Dec.{T, ltb→lt}
 use lib.ListN.{length}
-use Rattle.spanning.specs.Order.{Sorted}
-use Rattle.plane.specs.Point.{Point, inRange, lower, Lower}
+use Rattle.plane.specs.Point.{Point, inRange, lower}
 use Rattle.plane.proofs.Order.{lower-order}
-use Rattle.model.specs.Set.{put, out, has}
-use Rattle.model.specs.State.{State, empty, Placed, Valid, prune, insert, remove, maxPins}
-use Rattle.model.specs.Round.{round, finish}
+use Rattle.model.specs.Set.{put, out}
+use Rattle.model.specs.State.{State, Valid, insert, remove, maxPins}
 use Rattle.model.specs.Call.{addChecks, withdrawChecks, insertRefusal, removeRefusal, Call, add, withdraw, oneRound, runToEnd, unless, step, after}
 use Rattle.model.proofs.Set.{put-in, put-sorted, put-length, out-in, out-sorted, out-length, has-in, has-not}
 use Rattle.model.proofs.Prune.{prune-valid}

@@ -1,24 +1,24 @@
 -- Kruskal's tree over all edges is THE tree of document 01: a tree, least among all trees, first among equals, and the only
 -- such. Points may come in any order, with repeats: a tree over a list is one over its members, so over the list put in order.
-use mathlib.Core.Path.{_≡_, refl, sym, ap, subst}
-use mathlib.Core.Logic.{_⊎_, inl, inr, ⊎-elim, _↔_}
-use mathlib.Core.List.{List, [], _∷_, _++_, map, List·Memᴰ, List·Memᴰ·head as head, List·Memᴰ·tail as tail, List·Memᴰ·cases-cons as cases, List·Memᴰ·not-nil as not-nil, Memᴰ·append-left, Memᴰ·append-right, List·Memᴰ·append-cases}
-use Prim.Native.Nat.{ℕ, _+_, _≤_}
+use mathlib.Core.Path.{_≡_, sym, ap, subst}
+use mathlib.Core.Logic.{_⊎_, ⊎-elim, _↔_}
+use mathlib.Core.List.{List, [], _∷_, map, List·Memᴰ, List·Memᴰ·head as head, List·Memᴰ·tail as tail, List·Memᴰ·cases-cons as cases, List·Memᴰ·not-nil as not-nil, Memᴰ·append-left, Memᴰ·append-right, List·Memᴰ·append-cases}
+use Prim.Native.Nat.{_-_}
 use native.Mathlib.Omega.{arith}
-use Rattle.spanning.specs.Graph.{Graph, Conn, stop, fwd, bwd, In, Tree, total}
-use Rattle.spanning.specs.Order.{StrictTotal, Sorted, First}
-use Rattle.spanning.specs.Kruskal.{kruskal}
-use Rattle.spanning.proofs.Conn.{conn-edge, conn-sym, conn-mono, conn-bind}
+use lib.ListN.{length}
+use Rattle.spanning.specs.Graph.{Conn, stop, In, Tree}
+use Rattle.spanning.specs.Order.{Sorted}
+use Rattle.spanning.proofs.Conn.{conn-edge, conn-sym}
 use Rattle.spanning.proofs.Least.{Spanning, least, least-first, unique-least}
 use Rattle.spanning.proofs.Kruskal.{kruskal-in, kruskal-sorted}
-use Rattle.spanning.proofs.Sorted.{sorted-ext}
+use Rattle.spanning.proofs.Sorted.{sorted-ext, sorted-distinct}
+use Rattle.spanning.proofs.Count.{tree-count, tree-none}
 use Rattle.spanning.proofs.Tree.{Links, tree-spanning, spanning-tree, kruskal-tree}
 use Rattle.plane.specs.Point.{Point, lower, Lower}
 use Rattle.plane.specs.Edge.{Edge, Rising, edgeLength, before, Before, planar}
 use Rattle.plane.proofs.Order.{lower-order, before-order, before-length}
-use Rattle.plane.proofs.Metric.{dist-sym}
 use Rattle.model.specs.Set.{setOf}
-use Rattle.model.specs.Tree.{pairs, edges, mst, lengthOf, treeLength, RunTree, TheTree}
+use Rattle.model.specs.Tree.{pairs, edges, mst, RunTree, TheTree}
 use Rattle.model.proofs.Set.{set-of-in, set-of-sorted}
 
 abbrev edge : Point → Point → Edge
@@ -166,3 +166,9 @@ any-order l m h =
     (sorted-ext lower-order (setOf lower l) (setOf lower m) (set-of-sorted lower lower-order l) (set-of-sorted lower lower-order m)
     (λ p i. set-of-in lower lower-order m p .1 (h p .0 (set-of-in lower lower-order l p .0 i)))
     (λ p i. set-of-in lower lower-order l p .1 (h p .1 (set-of-in lower lower-order m p .0 i))))
+
+-- A tree has one edge less than points, and none where there is no point.
+pub tree-edges : (ps : List Point) → Sorted Lower ps → length (mst ps) ≡ length ps - 1
+tree-edges [] rise = omega (arith, ap length (tree-none planar (mst []) (mst-run-tree [] rise .tree)))
+tree-edges (p ∷ l) rise =
+    omega (arith, tree-count planar (p ∷ l) (mst (p ∷ l)) (sorted-distinct lower-order (p ∷ l) rise) (mst-run-tree (p ∷ l) rise .tree) (omega arith))

@@ -1,16 +1,15 @@
 -- The calls on a session, their refusals and a list of calls.
-use mathlib.Core.Bool.{Bool, not, _&&_}
+use mathlib.Core.Bool.{Bool, not}
 use mathlib.Core.Option.{Option, none, some}
 use mathlib.Core.List.{List, [], _∷_}
 use Prim.Native.Nat.{ℕ}
 use lib.Dec.{ltb}
 use lib.ListN.{length}
-use lib.IntN.{ℤ}
 use Rattle.plane.specs.Point.{Point, inRange, lower}
 use Rattle.model.specs.Set.{has}
 use Rattle.model.specs.Refusal.{Check, check, firstFailed}
 use Rattle.model.specs.State.{State, insert, remove, maxPins}
-use Rattle.model.specs.Round.{RoundAnswer, finished, tap, round, finish}
+use Rattle.model.specs.Round.{RoundAnswer, round, finish}
 
 -- Whether a pin stands at p.
 abbrev pub holdsPin : Point → State → Bool

@@ -7,7 +7,7 @@ use lib.Dec.{T}
 use lib.ListN.{length}
 use Rattle.plane.specs.Point.{Point, inRange}
 use Rattle.model.specs.State.{State}
-use Rattle.model.specs.Call.{Call, add, withdraw, Reply, done, refused, step}
+use Rattle.model.specs.Call.{Call, add, withdraw, done, refused, step}
 
 -- A call on s is refused by n.
 abbrev pub RefusedBy : State → Call → ℕ → Type 0

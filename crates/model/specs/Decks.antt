@@ -2,7 +2,7 @@
 use mathlib.Core.Path.{_≡_}
 use mathlib.Core.List.{List, [], _∷_}
 use Prim.Native.Nat.{ℕ}
-use lib.IntN.{ℤ, pos, negsuc}
+use lib.IntN.{pos}
 use Rattle.spanning.specs.Graph.{total, degree}
 use Rattle.spanning.specs.Kruskal.{comp, kruskal}
 use Rattle.plane.specs.Point.{Point, lower, gap, dist, pointDec}
@@ -13,8 +13,8 @@ use Rattle.model.specs.Set.{put, out, has, union, rising, all}
 use Rattle.model.specs.Refusal.{firstFailed}
 use Rattle.model.specs.Tree.{pairs, edges, mst, treeLength}
 use Rattle.model.specs.State.{State, points, placed, valid, lowestWeak, pruneFrom, prune, insert, remove}
-use Rattle.model.specs.Round.{finished, tap, column, crossings, notHeld, candidates, saving, bestAbove, best, round, roundsFrom, finish}
-use Rattle.model.specs.Call.{Call, add, withdraw, oneRound, runToEnd, Reply, done, refused, answered, rounds, Outcome, insertRefusal, removeRefusal, step}
+use Rattle.model.specs.Round.{column, crossings, notHeld, candidates, saving, bestAbove, best, round, roundsFrom, finish}
+use Rattle.model.specs.Call.{Call, Reply, insertRefusal, removeRefusal, step}
 use Rattle.model.specs.Question.{lengthOfState, listed}
 use Rattle.model.specs.File.{Read, deck, sectionOf, numberOf, runBytes, fileOf, sameBytes, pointsOf, readBy, readFile}
 

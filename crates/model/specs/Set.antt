@@ -1,5 +1,5 @@
 -- Finite sets as strictly rising lists under an order `less`, given as a test. Two elements of which neither is less are equal.
-use mathlib.Core.Bool.{Bool, true, false, not, _&&_, _||_}
+use mathlib.Core.Bool.{Bool, true, false, not, _&&_}
 use mathlib.Core.List.{List, [], _∷_}
 use Rattle.plane.specs.Test.{if}
 

@@ -1,9 +1,8 @@
 -- Rows of the table on files: a file for each refusal that fails the next check too, files that just miss each check, and a file taken
 -- in both forms. The first line of a list is the header up to the second length, the next its rest and the sections.
-use mathlib.Core.List.{List, [], _∷_, _++_}
-use Prim.Native.Nat.{ℕ}
+use mathlib.Core.List.{[], _∷_, _++_}
 use lib.ListN.{replicate}
-use Rattle.model.specs.File.{Read, deck, refusal}
+use Rattle.model.specs.File.{deck, refusal}
 use Rattle.model.specs.Decks.{Row, fileRow, at}
 
 -- 1: the first four bytes are DECL; the second section does not start where the first ends.

@@ -1,6 +1,5 @@
 -- The tree of a set of points: Kruskal's method over all edges, and what document 01 says THE tree is.
 use mathlib.Core.Path.{_≡_}
-use mathlib.Core.Bool.{Bool}
 use mathlib.Core.List.{List, [], _∷_, _++_, map, List·Memᴰ}
 use Prim.Native.Nat.{ℕ, _≤_}
 use Rattle.spanning.specs.Graph.{Tree, total, degree}

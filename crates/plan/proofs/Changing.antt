@@ -2,17 +2,16 @@
 use mathlib.Core.Path.{_≡_, refl, sym, ap, _∙_, subst, subst⁻¹}
 use mathlib.Core.Logic.{_⊎_, ⊎-elim}
 use mathlib.Core.Bool.{true}
-use mathlib.Core.List.{List, [], _∷_, map, List·Memᴰ}
+use mathlib.Core.List.{List, map, List·Memᴰ}
 use Prim.Native.Nat.{ℕ, zero, suc, _+_, _-_, _≤_, _<_}
 use native.Mathlib.Numerals.{unary-clauses}
 use native.Mathlib.Omega.{arith}
 use lib.Dec.{T, ltb}
 use lib.ListN.{length, take, drop, replicate}
 use lib.Seq.{length-take-le, drop-drop}
-use Rattle.plane.specs.Point.{Point, lower}
 use Rattle.plane.proofs.Order.{nat-order}
 use Rattle.model.specs.Set.{put, out, rising}
-use Rattle.model.specs.State.{State, insert, remove, prune}
+use Rattle.model.specs.State.{insert, remove, prune}
 use Rattle.model.specs.Round.{withSteiner}
 use Rattle.model.proofs.Set.{put-in, put-sorted, out-in, rising-sorted}
 use Rattle.sets.specs.Array.{Written, Removed}
@@ -20,9 +19,10 @@ use Rattle.sets.proofs.Results.{written-part, written-behind, removed-part, put
 use Rattle.plan.specs.Code.{pointOf, isCode}
 use Rattle.plan.specs.Work.{Codes, Arranged, stateAt}
 use Rattle.plan.proofs.Codes.{points-put, points-out}
-use Rattle.plan.proofs.Sweeping.{true-of, codes-out}
+use Rattle.plane.proofs.Test.{true-of}
+use Rattle.plan.proofs.Sweeping.{codes-out}
 
-drop-zeros : (m n : ℕ) → drop m (replicate {A = ℕ} n 0) ≡ replicate (n - m) 0
+pub drop-zeros : (m n : ℕ) → drop m (replicate {A = ℕ} n 0) ≡ replicate (n - m) 0
 drop-zeros zero n = simp unary-clauses refl
 drop-zeros (suc m) zero = ap (λ (z : ℕ). replicate z 0) none
   where

@@ -1,29 +1,29 @@
 -- The sweep on working forms follows the definition: each turn takes out the point that the definition takes out.
 use mathlib.Core.Path.{_≡_, refl, sym, ap, ap₂, _∙_, subst, subst⁻¹}
-use mathlib.Core.Logic.{_⊎_, inl, inr, ⊎-elim, _↔_}
-use mathlib.Core.Bool.{Bool, true, false, not}
+use mathlib.Core.Logic.{inr}
+use mathlib.Core.Bool.{Bool, true, false}
 use mathlib.Core.Option.{Option, none, some}
 use mathlib.Core.List.{List, [], _∷_, _++_, map, List·Memᴰ, List·Memᴰ·head as head, List·Memᴰ·tail as tail}
 use Prim.Native.Nat.{ℕ, suc, _+_, _-_, _≤_, _<_}
 use native.Mathlib.Omega.{arith}
-use lib.Dec.{T, leb, leb→le, le→leb, nleb→lt, ltb}
-use lib.ListN.{length, take, drop, getD, replicate, length-map, List·getD-map, length-append, length-replicate, replicate-append-replicate}
-use lib.Seq.{drop-at, take-at, getD-take, length-take-le}
+use lib.Dec.{T, leb, ltb}
+use lib.ListN.{length, take, getD, replicate, length-map, List·getD-map, replicate-append-replicate}
+use lib.Seq.{getD-take, length-take-le}
 use Rattle.spanning.specs.Graph.{degree}
 use Rattle.plane.specs.Test.{if}
-use Rattle.plane.specs.Point.{Point, lower}
+use Rattle.plane.specs.Point.{Point}
 use Rattle.plane.specs.Edge.{Edge}
-use Rattle.plane.proofs.Test.{by-test}
+use Rattle.plane.proofs.Test.{true-of}
 use Rattle.plane.proofs.Order.{nat-order}
 use Rattle.model.specs.Set.{out, has, union, rising}
 use Rattle.model.specs.Tree.{mst, edgesAt}
-use Rattle.model.specs.State.{State, points, strong, lowestWeak, without, pruneFrom, prune}
+use Rattle.model.specs.State.{State, points, lowestWeak, without, pruneFrom, prune}
 use Rattle.model.proofs.Prune.{prune-step, prune-stop}
 use Rattle.model.proofs.Set.{out-in, out-sorted, out-length, has-in, union-in, rising-sorted}
 use Rattle.sets.specs.Array.{Removed, placeOf}
 use Rattle.sets.proofs.Results.{removed-part, removed-behind, out-most, place-has, place-at}
 use Rattle.tree.specs.Held.{held}
-use Rattle.tree.specs.Keys.{keyGraph, tab}
+use Rattle.tree.specs.Keys.{keyGraph}
 use Rattle.tree.proofs.Sorted.{tree-keys-degree}
 use Rattle.tree.proofs.OctantKeys.{tab-get}
 use Rattle.plan.specs.Code.{pointOf}
@@ -91,10 +91,6 @@ planned-degree w p q i =
     (subst⁻¹ (λ (l : List ℕ). T (has ltb q l)) (p .codes)
     (has-in ltb nat-order q (union ltb (take (w .npins) (w .pins)) (take (w .nsteiner) (w .steiner))) .1
     (union-in ltb nat-order (take (w .npins) (w .pins)) (take (w .nsteiner) (w .steiner)) q .1 (inr i))))
-
-pub true-of : (b : Bool) → T b → b ≡ true
-true-of true t = refl
-true-of false t = absurd t
 
 -- A code taken out leaves arranged codes.
 pub codes-out : (a a′ : List ℕ) (n r room k : ℕ) → Codes a n room → Removed (out ltb k (take n a)) a a′ n r → length a′ ≡ length a → Codes a′ r room

@@ -1,5 +1,5 @@
 -- Laws of the tests: a choice by a test, both of two tests, an order by two keys.
-use mathlib.Core.Path.{_≡_, refl}
+use mathlib.Core.Path.{_≡_, refl, subst⁻¹}
 use mathlib.Core.Logic.{_⊎_, inl, inr}
 use mathlib.Core.Bool.{Bool, true, false, not, _&&_}
 use lib.Dec.{T}
@@ -39,3 +39,15 @@ same-test true true f g = refl
 same-test true false f g = absurd (f tt)
 same-test false true f g = absurd (g tt)
 same-test false false f g = refl
+
+-- A test that passes is true, and one that does not is false.
+pub true-of : (b : Bool) → T b → b ≡ true
+true-of true t = refl
+true-of false t = absurd t
+
+pub of-true : {b : Bool} → b ≡ true → T b
+of-true e = subst⁻¹ T e tt
+
+pub false-of : (b : Bool) → ¬ T b → b ≡ false
+false-of true n = absurd (n tt)
+false-of false n = refl

@@ -1,5 +1,5 @@
 -- Points, when they are in range, which is lower, and their distance.
-use mathlib.Core.Path.{_≡_, refl, ap, subst⁻¹}
+use mathlib.Core.Path.{_≡_, ap, subst⁻¹}
 use mathlib.Core.Bool.{Bool, true, false, _&&_}
 use Prim.Native.Nat.{ℕ, _+_}
 use lib.Dec.{T, leb, eqb, eqb→eq, eqb-refl}

@@ -1,40 +1,35 @@
 -- The three demands, proved from the definitions that the contracts name.
-use mathlib.Core.Path.{_≡_, refl, sym, ap, ap₂, _∙_, subst, subst⁻¹}
-use mathlib.Core.Logic.{_⊎_, inl, inr, ⊎-elim}
-use mathlib.Core.Bool.{Bool, true, false, not}
+use mathlib.Core.Path.{_≡_, refl, sym, ap, _∙_, subst, subst⁻¹}
+use mathlib.Core.Logic.{_⊎_, inl, inr}
+use mathlib.Core.Bool.{Bool, true, false}
 use mathlib.Core.Option.{Option, none, some}
 use mathlib.Core.List.{List, _++_}
 use Prim.Native.Nat.{ℕ, _≤_, _<_}
 use native.Mathlib.Omega.{arith}
-use native.Mathlib.Nat.{le-trans}
-use lib.Dec.{T, leb}
+use lib.Dec.{leb}
 use lib.ListN.{length, drop}
-use borrow.Author.Tests.{le-leb, lt-leb}
+use borrow.Author.Tests.{le-leb}
 use Rattle.plane.specs.Test.{if}
-use Rattle.plane.proofs.Test.{by-test}
-use Rattle.model.specs.State.{State, empty, Valid}
-use Rattle.model.specs.Round.{RoundAnswer, finished, tap, round, finish}
+use Rattle.plane.proofs.Test.{false-of, true-of}
+use Rattle.model.specs.State.{State, Valid}
+use Rattle.model.specs.Round.{RoundAnswer, finished, tap, round}
 use Rattle.model.specs.Call as call
 use Rattle.model.specs.Demand3 as model
 use Rattle.model.specs.File.{Read, deck, refusal as refusing-file, readFile, fileOf, longest}
-use Rattle.model.proofs.Step.{step-valid, after-valid}
+use Rattle.model.proofs.Step.{step-valid}
 use Rattle.model.proofs.FileSize.{file-size}
 use Rattle.model.proofs.FileRoundTrip.{written-read}
 use Rattle.deck.specs.declared.Deck.{Deck}
 use Rattle.deck.specs.declared.Outcome.{Outcome}
-use Rattle.calls.specs.declared.Reply.{Reply}
 use Rattle.calls.specs.declared.Reply.the-variants as reply
 use Rattle.deck.specs.Form.{deckOf, stateOf, Sound, sound}
 use Rattle.calls.specs.Changes.{replyOf}
-use Rattle.deck.specs.Calls.{answer, refusal, called}
+use Rattle.deck.specs.Calls.{answer, called}
 use Rattle.deck.specs.Demand3 as decks
-use Rattle.deck.proofs.Checking.{false-of}
-use Rattle.deck.proofs.Forms.{state-deck, deck-sound, sound-is}
+use Rattle.deck.proofs.Forms.{deck-sound, sound-is}
 use Rattle.deck.proofs.Calling.{called-unsound, called-sound}
 use Rattle.deck.proofs.Asking.{asked-unsound, asked-sound}
 use Rattle.deck.proofs.Demand3.{after-deck, demand3 as on-decks}
-use Rattle.plan.proofs.Sweeping.{true-of}
-use Rattle.deckfile.specs.declared.Written.{Written}
 use Rattle.deckfile.specs.declared.Written.the-variants as writing
 use Rattle.deckfile.specs.Reading.{outcomeOf, reading, accepting, refusing}
 use Rattle.deckfile.specs.Writing as writer

@@ -1,5 +1,5 @@
 -- What the entries answer: a refusal of the file, or what writing the deck of a valid state answers.
-use mathlib.Core.Path.{_≡_, refl, sym, ap, ap₂, _∙_, subst, subst⁻¹}
+use mathlib.Core.Path.{_≡_, refl, ap, ap₂, _∙_}
 use mathlib.Core.Bool.{Bool, true, false}
 use mathlib.Core.List.{List, [], _∷_, _++_}
 use Prim.Native.Nat.{ℕ, _≤_}
@@ -8,23 +8,20 @@ use lib.Dec.{leb}
 use lib.ListN.{length, drop}
 use Rattle.plane.specs.Test.{if}
 use Rattle.model.specs.State.{State, empty, Valid}
-use Rattle.model.specs.Round.{finish}
 use Rattle.model.specs.Call as call
 use Rattle.model.specs.File.{Read, deck, refusal, fileChecks, readFile, fileOf}
 use Rattle.model.proofs.Step.{step-valid, after-valid}
 use Rattle.model.proofs.Refusal.{Numbered, failed-number, file-refused}
 use Rattle.model.proofs.FileValid.{file-valid}
 use Rattle.model.proofs.Demand3.{empty-valid}
-use Rattle.plan.proofs.Sweeping.{true-of}
+use Rattle.plane.proofs.Test.{true-of}
 use Rattle.deck.specs.declared.Deck.{Deck}
-use Rattle.deck.specs.declared.Outcome.{Outcome}
-use Rattle.deck.specs.Form.{deckOf, stateOf, sound}
+use Rattle.deck.specs.Form.{deckOf, sound}
 use Rattle.calls.specs.Changes.{refusalNumber}
 use Rattle.deck.specs.Calls.{called}
 use Rattle.deck.specs.Demand3 as decks
 use Rattle.deck.proofs.Forms.{state-deck, deck-sound, sound-is}
 use Rattle.deck.proofs.Demand3.{next-valid, after-deck}
-use Rattle.deckfile.specs.declared.Written.{Written}
 use Rattle.deckfile.specs.declared.Written.the-variants.{Refused, Length}
 use Rattle.deckfile.specs.Reading.{outcomeOf, reading}
 use Rattle.deckfile.specs.Writing.{writing, written, left}

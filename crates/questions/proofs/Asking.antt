@@ -1,10 +1,10 @@
 -- What each question answers: the working form and its edges in the listing order give what the model's questions give.
 use mathlib.Core.Path.{_≡_, refl, sym, ap, ap₂, _∙_, subst, subst⁻¹}
-use mathlib.Core.Logic.{inl, inr, ⊎-elim}
-use mathlib.Core.Bool.{Bool, true, false}
-use mathlib.Core.Option.{Option, none, some}
+use mathlib.Core.Logic.{⊎-elim}
+use mathlib.Core.Bool.{false}
+use mathlib.Core.Option.{none, some}
 use mathlib.Core.List.{List, [], _∷_, _++_, map, List·Memᴰ, List·Memᴰ·head as head, List·Memᴰ·tail as tail}
-use Prim.Native.Nat.{ℕ, zero, suc, _+_, _-_, _*_, _/_, _%_, _≤_, _<_}
+use Prim.Native.Nat.{ℕ, zero, suc, _+_, _-_, _/_, _%_, _≤_, _<_}
 use native.Mathlib.Omega.{arith}
 use lib.Dec.{T, ltb}
 use lib.IntN.{ℤ}
@@ -25,7 +25,7 @@ use Rattle.model.specs.Question as question
 use Rattle.model.proofs.Set.{has-in, set-of-in}
 use Rattle.model.proofs.Tree.{mst-run-tree}
 use Rattle.model.proofs.Prune.{points-in, points-rise}
-use Rattle.model.proofs.FileSize.{listed-count, number-below}
+use Rattle.model.proofs.FileSize.{listed-count}
 use Rattle.tree.specs.Held.{held}
 use Rattle.tree.specs.Keys.{keyGraph, tab, endsAt, edgeOf, treeKeys}
 use Rattle.tree.proofs.Join.{tab-in}
@@ -40,9 +40,6 @@ use Rattle.plan.proofs.Arranging.{arranged-placed, codes-count}
 use Rattle.plan.proofs.Sweeping.{held-degree}
 use Rattle.questions.specs.declared.Answer.the-variants.{Counts, Edge, NoEdge}
 use Rattle.questions.specs.Answers.{countsAnswer, edgeAnswer, edgeOrNone, Listed}
-
-pub of-test : {b : Bool} → b ≡ true → T b
-of-test e = subst⁻¹ T e tt
 
 -- No edge is at a point that is not held.
 pub none-at : (s : State) → Sorted Lower (s .steiner) → (p : Point) → ¬ List·Memᴰ p (points s) → edgesAt p (mst (points s)) ≡ 0

@@ -1,17 +1,10 @@
 // The section of edges (document 01: runs).
 use super::number::wide;
 ghost use mathlib.Core.Path.{_≡_};
-ghost use Prim.Native.Nat.{_+_, _*_, _-_, _≤_};
+ghost use Prim.Native.Nat.{_+_, _*_, _≤_};
 ghost use lib.ListN.{length, take, drop};
 ghost use Rattle.model.specs.File.{sameBytes};
 ghost use Rattle.sections.specs.Bytes.{edgeBytes};
-
-// How many edges a tree of n points has.
-pub fn edges_of(n: usize) -> usize
-    ensures { λ r. ⌜ r ≡ n - 1 ⌝ }
-{
-    if n == 0 { 0 } else { n - 1 }
-}
 
 // Whether the bytes from place `at` on are those of the first n edges.
 pub fn same_edges(b: &[u8], at: usize, ends: &[u64], n: usize) -> bool

@@ -1,32 +1,31 @@
 -- The number of the i-th point in the file is i, and the keys' ends in rising order are the tree's runs in the listing order.
 use mathlib.Core.Path.{_≡_, refl, sym, ap, ap₂, _∙_, subst, subst⁻¹}
-use mathlib.Core.Logic.{_⊎_, inl, inr, ⊎-elim, _↔_}
-use mathlib.Core.Bool.{Bool, true, false, not}
+use mathlib.Core.Logic.{_⊎_, ⊎-elim}
 use mathlib.Core.List.{List, [], _∷_, _++_, map, List·Memᴰ, List·Memᴰ·head as head, List·Memᴰ·tail as tail, List·Memᴰ·cases-cons as cases, List·Memᴰ·not-nil as not-nil}
-use Prim.Native.Nat.{ℕ, zero, suc, _+_, _*_, _/_, _%_, _≤_, _<_}
+use Prim.Native.Nat.{ℕ, zero, suc, _+_, _≤_, _<_}
 use native.Mathlib.Decide.{ℕ-discrete}
 use native.Mathlib.Omega.{arith}
 use lib.Dec.{T, ltb, lt→ltb, ltb→lt}
 use lib.ListN.{length, length-append}
-use Rattle.spanning.specs.Order.{StrictTotal, Sorted}
+use Rattle.spanning.specs.Order.{Sorted}
 use Rattle.spanning.proofs.Kruskal.{kruskal-in}
 use Rattle.plane.specs.Test.{if}
-use Rattle.plane.specs.Point.{Point, lower, Lower, dist}
+use Rattle.plane.specs.Point.{Point, lower, Lower}
 use Rattle.plane.specs.Edge.{Edge, listedBefore, planar}
 use Rattle.plane.proofs.Test.{by-test, thenBy-cases, same-test}
 use Rattle.plane.proofs.Order.{lower-order, listed-order, tied}
-use Rattle.model.specs.Set.{tie, union, setOf}
-use Rattle.model.specs.Tree.{edges, mst}
+use Rattle.model.specs.Set.{tie, setOf}
+use Rattle.model.specs.Tree.{mst}
 use Rattle.model.specs.File.{numberOf}
 use Rattle.model.proofs.Set.{tie-eq, no-tie}
 use Rattle.model.proofs.SetMap.{union-map}
 use Rattle.model.proofs.Tree.{mst-run-tree}
 use Rattle.model.proofs.FileSize.{number-rises, number-below}
-use Rattle.tree.specs.Keys.{key, low, high, keyGraph, edgeOf, tab, allKeys, treeKeys, endsOf, endsAt}
+use Rattle.tree.specs.Keys.{keyGraph, edgeOf, tab, allKeys, treeKeys, endsOf, endsAt}
 use Rattle.tree.specs.Build.{Rises}
-use Rattle.tree.proofs.AllKeys.{KeyAt, all-keys-in, key-ends}
+use Rattle.tree.proofs.AllKeys.{all-keys-in, key-ends}
 use Rattle.tree.proofs.Join.{tab-in}
-use Rattle.tree.proofs.Sorted.{tab-sorted, ps-sorted, one-to-one, tree-keys-mst}
+use Rattle.tree.proofs.Sorted.{ps-sorted, tree-keys-mst}
 
 pub tab-length : {A : Type 0} (f : ℕ → A) (n : ℕ) → length (tab f n) ≡ n
 unfolding tab

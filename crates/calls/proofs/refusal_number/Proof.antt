@@ -7,47 +7,37 @@ use Rattle.calls.proofs.refusal_number.Tie as tie
 use Rattle.calls.proofs.refusal_number.Reads as reads
 use Rattle.calls.proofs.refusal_number.Lts as lts
 
--- src/calls.rt:21:24
 enum-told : tie.Need-enum-told
 enum-told c = search needs
 
--- src/calls.rt:22:24
 enum-known-r : tie.Need-enum-known-r
 enum-known-r c = search needs
 
--- src/calls.rt:23:28
 enum-told-2 : tie.Need-enum-told-2
 enum-told-2 c = search needs
 
--- src/calls.rt:24:20
 enum-known-r-2 : tie.Need-enum-known-r-2
 enum-known-r-2 c = search needs
 
--- src/calls.rt:25:23
 enum-known-r-3 : tie.Need-enum-known-r-3
 enum-known-r-3 c = search needs
 
--- src/calls.rt:17:1
 returns : tie.Need-returns
 unfolding refusalNumber
 returns c = sym (ap refusalNumber (c .enum-told .given .1))
 
--- src/calls.rt:17:1
 returns-2 : tie.Need-returns-2
 unfolding refusalNumber
 returns-2 c = sym (ap refusalNumber (c .before .r .given .1))
 
--- src/calls.rt:17:1
 returns-3 : tie.Need-returns-3
 unfolding refusalNumber
 returns-3 c = sym (ap refusalNumber (c .enum-told2 .given .1))
 
--- src/calls.rt:17:1
 returns-4 : tie.Need-returns-4
 unfolding refusalNumber
 returns-4 c = sym (ap refusalNumber (c .before .r2 .given .1))
 
--- src/calls.rt:17:1
 returns-5 : tie.Need-returns-5
 unfolding refusalNumber
 returns-5 c = sym (ap refusalNumber (c .before .r3 .given .1))

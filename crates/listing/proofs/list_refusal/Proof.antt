@@ -7,19 +7,15 @@ use Rattle.listing.proofs.list_refusal.Reads as reads
 use Rattle.listing.proofs.list_refusal.Lts as lts
 use Rattle.listing.proofs.refused_line.Reads as refused-line-reads
 
--- src/lib.rt:137:9
 returns : tie.Need-returns
 returns c = front-none 128 _ _ (c .if1 .taken)
 
--- src/lib.rt:139:5
 refused-line-requires : tie.Need-refused-line-requires
 refused-line-requires c κs = search needs
 
--- src/lib.rt:133:1
 same-length : tie.Need-same-length
 same-length c = search needs
 
--- src/lib.rt:133:1
 returns-2 : tie.Need-returns-2
 returns-2 c = front-put 128 _ _ _ _ (c .before .before .before .before .if1 .left) (c .before .before .refused-line .ensures)
 

@@ -11,37 +11,29 @@ use Rattle.plan.proofs.unpack.Reads as unpack-reads
 use Rattle.sets.proofs.union.Reads as union-reads
 use Rattle.tree.proofs.build.build.Reads as build-reads
 
--- src/lib.rt:43:31
 slice-aggregate-union : tie.Need-slice-aggregate-union
 slice-aggregate-union c = search needs
 
--- src/lib.rt:43:45
 slice-aggregate-union-2 : tie.Need-slice-aggregate-union-2
 slice-aggregate-union-2 c = search needs
 
--- src/lib.rt:43:65
 slice-aggregate-union-3 : tie.Need-slice-aggregate-union-3
 slice-aggregate-union-3 c = search needs
 
--- src/lib.rt:43:9
 union-requires : tie.Need-union-requires
 union-requires c κs =
     let p = c .before .before .before .pre in
     (omega (arith, p .pinCodes .few, p .pinCodes .size), (omega (arith, p .steinerCodes .few, p .steinerCodes .size), (omega (arith, p .pinCodes .few, p .room), (p .pinCodes .rise, p .steinerCodes .rise))))
 
--- src/lib.rt:46:12
 slice-aggregate-unpack : tie.Need-slice-aggregate-unpack
 slice-aggregate-unpack c = search needs
 
--- src/lib.rt:46:29
 slice-aggregate-unpack-2 : tie.Need-slice-aggregate-unpack-2
 slice-aggregate-unpack-2 c = search needs
 
--- src/lib.rt:46:38
 slice-aggregate-unpack-3 : tie.Need-slice-aggregate-unpack-3
 slice-aggregate-unpack-3 c = search needs
 
--- src/lib.rt:46:5
 unpack-requires : tie.Need-unpack-requires
 unpack-requires c κs =
     let p = c .before .before .before .before .before .before .before .before .pre in
@@ -50,19 +42,15 @@ unpack-requires c κs =
     let n = all-count _ _ _ _ p in
     (omega (arith, few, n, w .count), omega (arith, few, n, w .count), omega (arith, few, n, w .count))
 
--- src/lib.rt:48:36
 slice-aggregate-build : tie.Need-slice-aggregate-build
 slice-aggregate-build c = search needs
 
--- src/lib.rt:48:41
 slice-aggregate-build-2 : tie.Need-slice-aggregate-build-2
 slice-aggregate-build-2 c = search needs
 
--- src/lib.rt:48:55
 slice-aggregate-build-3 : tie.Need-slice-aggregate-build-3
 slice-aggregate-build-3 c = search needs
 
--- src/lib.rt:48:9
 build-requires : tie.Need-build-requires
 build-requires c κs =
     let p = c .before .before .before .before .before .before .before .before .before .before .before .before .before .before .pre in
@@ -72,7 +60,6 @@ build-requires c κs =
     let n = all-count _ _ _ _ p in
     build-allowed _ _ _ _ p _ _ _ _ _ w u _ refl (omega (arith, few, n, w .count)) (omega (arith, few, n, w .count))
 
--- src/lib.rt:38:1
 returns : tie.Need-returns
 returns c =
     let p = c .before .before .before .before .before .before .before .before .before .before .before .before .before .before .before .before .pre in

@@ -14,63 +14,48 @@ Inv-loop codes n xs₀ ys₀ i₀ xs ys i = Unpacked codes n xs₀ ys₀ xs ys i
 abbrev μ-loop : tie.MeasureT-loop
 μ-loop codes n xs₀ ys₀ i₀ xs ys i = n - i
 
--- src/lib.rt:29:5
 loop-holds : tie.Need-loop-holds Inv-loop μ-loop
 loop-holds c = unpacked-none _ _ _ _
 
--- src/lib.rt:30:17
 mul-k : tie.Need-mul-k Inv-loop μ-loop
 mul-k c = search needs
 
--- src/lib.rt:30:17
 shared-slice-read-k : tie.Need-shared-slice-read-k Inv-loop μ-loop
 shared-slice-read-k c = search needs
 
--- src/lib.rt:31:17
 cast-xs : tie.Need-cast-xs Inv-loop μ-loop
 cast-xs c = search needs
 
--- src/lib.rt:31:9
 mul-xs : tie.Need-mul-xs Inv-loop μ-loop
 mul-xs c = search needs
 
--- src/lib.rt:31:9
 slice-write-xs : tie.Need-slice-write-xs Inv-loop μ-loop
 slice-write-xs c = search needs
 
--- src/lib.rt:32:17
 cast-ys : tie.Need-cast-ys Inv-loop μ-loop
 cast-ys c = search needs
 
--- src/lib.rt:32:9
 mul-ys : tie.Need-mul-ys Inv-loop μ-loop
 mul-ys c = search needs
 
--- src/lib.rt:32:9
 slice-write-ys : tie.Need-slice-write-ys Inv-loop μ-loop
 slice-write-ys c = search needs
 
--- src/lib.rt:33:9
 add-i : tie.Need-add-i Inv-loop μ-loop
 add-i c = search needs
 
--- src/lib.rt:29:5
 loop-less : tie.Need-loop-less Inv-loop μ-loop
 loop-less c = search needs
 
--- src/lib.rt:29:5
 loop-again : tie.Need-loop-again Inv-loop μ-loop
 loop-again c = unpacked-more _ _ _ _ _ _ _ (c .before .before .loop .inv) (omega arith) (omega arith) (omega arith)
 
--- src/lib.rt:24:1
 same-length : tie.Need-same-length Inv-loop μ-loop
 same-length c = c .before .loop .inv .sizeX
 
--- src/lib.rt:24:1
 same-length-2 : tie.Need-same-length-2 Inv-loop μ-loop
 same-length-2 c = c .before .loop .inv .sizeY
 
--- src/lib.rt:24:1
 returns : tie.Need-returns Inv-loop μ-loop
 returns c = unpacked-end _ _ _ _ _ _ _ (c .before .loop .inv) (c .loop-test .left)
 

@@ -1,6 +1,5 @@
 -- `planner::start` meets its contract: no bytes, or a file.
 use mathlib.Core.Path.{ap, _∙_}
-use Rattle.deck.specs.declared.Deck.{Deck}
 use Rattle.deckfile.specs.Reading.{accepting, outcomeOf}
 use Rattle.planner.proofs.Serving.{start-none, start-file}
 use borrow.Author.Needs.{needs}
@@ -11,20 +10,16 @@ use Rattle.planner.proofs.start.Lts as lts
 use Rattle.deck.proofs.Deck.empty.Reads as empty-reads
 use Rattle.deckfile.proofs.read.Reads as read-reads
 
--- src/lib.rt:46:19
 empty-requires : tie.Need-empty-requires
 empty-requires c κs = search needs
 
--- src/lib.rt:45:9
 returns : tie.Need-returns
 unfolding outcomeOf
 returns c = ap accepting (c .empty .ensures) ∙ start-none _ (c .before .if1 .taken)
 
--- src/lib.rt:50:5
 read-requires : tie.Need-read-requires
 read-requires c κs = search needs
 
--- src/lib.rt:41:1
 returns-2 : tie.Need-returns-2
 returns-2 c = c .read .ensures ∙ start-file _ (c .before .if1 .left)
 

@@ -8,36 +8,28 @@ use Rattle.planner.proofs.store.Reads as reads
 use Rattle.planner.proofs.store.Lts as lts
 use Rattle.deckfile.proofs.write.Reads as write-reads
 
--- src/lib.rt:34:11
 write-requires : tie.Need-write-requires
 write-requires c κs = search needs
 
--- src/lib.rt:35:26
 enum-known-n : tie.Need-enum-known-n
 enum-known-n c = search needs
 
--- src/lib.rt:35:32
 cast-result : tie.Need-cast-result
 cast-result c = search needs
 
--- src/lib.rt:36:25
 enum-known-n-2 : tie.Need-enum-known-n-2
 enum-known-n-2 c = search needs
 
--- src/lib.rt:30:1
 same-length : tie.Need-same-length
 same-length c = search needs
 
--- src/lib.rt:30:1
 returns : tie.Need-returns
 unfolding numberFor
 returns c = (sym (ap numberFor (sym (c .before .before .before .before .before .write .ensures .0) ∙ c .before .n .given .1)), c .before .before .before .before .before .write .ensures .1)
 
--- src/lib.rt:30:1
 same-length-2 : tie.Need-same-length-2
 same-length-2 c = search needs
 
--- src/lib.rt:30:1
 returns-2 : tie.Need-returns-2
 unfolding numberFor
 returns-2 c = (sym (ap numberFor (sym (c .before .before .before .before .before .write .ensures .0) ∙ c .before .n2 .given .1)), c .before .before .before .before .before .write .ensures .1)

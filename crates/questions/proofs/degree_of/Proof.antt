@@ -1,10 +1,10 @@
 -- `questions::degree_of` meets its contract: a code held stands at the number of its point, one not held has no edge.
-use mathlib.Core.Path.{_≡_, sym, ap, _∙_}
+use mathlib.Core.Path.{_≡_, sym, _∙_}
 use native.Mathlib.Omega.{arith}
 use lib.ListN.{length}
 use borrow.Author.Tests.{not-true, not-false}
-use Rattle.plan.proofs.Sweeping.{held-degree}
-use Rattle.questions.proofs.Asking.{of-test, degree-none, degree-there}
+use Rattle.plane.proofs.Test.{of-true}
+use Rattle.questions.proofs.Asking.{degree-none, degree-there}
 use borrow.Author.Needs.{needs}
 use Rattle.questions.proofs.degree_of.Statement.{statement}
 use Rattle.questions.proofs.degree_of.Tie as tie
@@ -43,7 +43,7 @@ degree-of-requires c κs =
 
 returns-2 : tie.Need-returns-2
 returns-2 c =
-    let t = of-test (sym (c .before .before .before .before .before .has .ensures) ∙ not-false _ (c .before .before .before .before .if1 .left)) in
+    let t = of-true (sym (c .before .before .before .before .before .has .ensures) ∙ not-false _ (c .before .before .before .before .if1 .left)) in
     degree-there _ (c .before .before .before .before .before .before .before .before .before .pre) _ _ _ t (c .before .place .ensures) (c .degree-of .ensures)
 
 pub degree-of-spec : {M : Type 1} → statement M

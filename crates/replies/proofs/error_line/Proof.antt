@@ -7,23 +7,18 @@ use Rattle.replies.proofs.error_line.Reads as reads
 use Rattle.replies.proofs.error_line.Lts as lts
 use Rattle.ascii.proofs.word.Reads as word-reads
 
--- src/lines.rt:106:9
 returns : tie.Need-returns
 returns c = front-none 128 _ _ (c .if1 .taken)
 
--- src/lines.rt:108:18
 slice-aggregate-word : tie.Need-slice-aggregate-word
 slice-aggregate-word c = search needs
 
--- src/lines.rt:108:5
 word-requires : tie.Need-word-requires
 word-requires c κs = search needs
 
--- src/lines.rt:102:1
 same-length : tie.Need-same-length
 same-length c = search needs
 
--- src/lines.rt:102:1
 returns-2 : tie.Need-returns-2
 returns-2 c = front-put 128 _ _ _ _ (c .before .before .before .before .before .if1 .left) (c .before .before .word .ensures)
 

@@ -7,23 +7,18 @@ use Rattle.replies.proofs.octant_line.Reads as reads
 use Rattle.replies.proofs.octant_line.Lts as lts
 use Rattle.replies.proofs.number_line.Reads as number-line-reads
 
--- src/lines.rt:116:9
 returns : tie.Need-returns
 returns c = front-none 128 _ _ (c .if1 .taken)
 
--- src/lines.rt:118:22
 slice-aggregate-number-line : tie.Need-slice-aggregate-number-line
 slice-aggregate-number-line c = search needs
 
--- src/lines.rt:118:5
 number-line-requires : tie.Need-number-line-requires
 number-line-requires c κs = search needs
 
--- src/lines.rt:112:1
 same-length : tie.Need-same-length
 same-length c = search needs
 
--- src/lines.rt:112:1
 returns-2 : tie.Need-returns-2
 returns-2 c = front-put 128 _ _ _ _ (c .before .before .before .before .before .if1 .left) (c .before .before .number-line .ensures)
 

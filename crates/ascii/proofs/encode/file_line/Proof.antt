@@ -12,43 +12,33 @@ use Rattle.ascii.proofs.byte.Reads as byte-reads
 use Rattle.ascii.proofs.decimal_field.Reads as decimal-field-reads
 use Rattle.ascii.proofs.word.Reads as word-reads
 
--- src/encode.rt:51:9
 returns : tie.Need-returns
 returns c = file-small (c .before .before .before .args .file .now) _ (c .if1 .taken)
 
--- src/encode.rt:53:9
 sub-if2 : tie.Need-sub-if2
 sub-if2 c = search needs
 
--- src/encode.rt:54:9
 returns-2 : tie.Need-returns-2
 returns-2 c = file-short (c .before .before .before .before .args .file .now) _ (c .before .if1 .left) (c .if2 .taken)
 
--- src/encode.rt:56:26
 slice-aggregate-word : tie.Need-slice-aggregate-word
 slice-aggregate-word c = search needs
 
--- src/encode.rt:56:9
 word-requires : tie.Need-word-requires
 word-requires c κs = search needs
 
--- src/encode.rt:57:9
 decimal-field-requires : tie.Need-decimal-field-requires
 decimal-field-requires c κs = search needs
 
--- src/encode.rt:58:9
 byte-requires : tie.Need-byte-requires
 byte-requires c κs = search needs
 
--- src/encode.rt:59:5
 pairs-requires : tie.Need-pairs-requires
 pairs-requires c κs = search needs
 
--- src/encode.rt:47:1
 same-length : tie.Need-same-length
 same-length c = search needs
 
--- src/encode.rt:47:1
 returns-3 : tie.Need-returns-3
 returns-3 c =
     file-long (c .before .before .before .before .before .before .before .before .before .before .before .before .before .before .before .before .before .before .before .before .before .args .file .now) _ (c .before .before .before .before .before .before .before .before .before .before .before .before .before .before .before .before .before .before .if1 .left) (c .before .before .before .before .before .before .before .before .before .before .before .before .before .before .before .before .before .if2 .left)

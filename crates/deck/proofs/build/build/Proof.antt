@@ -12,23 +12,18 @@ use Rattle.deck.proofs.Deck.empty.Reads as empty-reads
 use Rattle.deck.proofs.check.deck_of.Reads as deck-of-reads
 use Rattle.deck.proofs.check.plan_of.Reads as plan-of-reads
 
--- src/build.rt:18:9
 plan-of-requires : tie.Need-plan-of-requires
 plan-of-requires c κs = search needs
 
--- src/build.rt:28:19
 empty-requires : tie.Need-empty-requires
 empty-requires c κs = search needs
 
--- src/build.rt:26:9
 returns : tie.Need-returns
 returns c = built-none _ _ _ _ _ (c .empty .ensures) (sym (c .before .before .before .plan-of .ensures .ok) ∙ not-true _ (c .before .if1 .taken))
 
--- src/build.rt:33:15
 deck-of-requires : tie.Need-deck-of-requires
 deck-of-requires c κs = points-planned _ _ (c .before .before .plan-of .ensures) (not-false _ (c .if1 .left))
 
--- src/build.rt:15:1
 returns-2 : tie.Need-returns-2
 returns-2 c =
     let k = c .before .before .before .plan-of .ensures in

@@ -17,41 +17,32 @@ Inv-loop a n i₀ i = Passed isCode a n i
 abbrev μ-loop : tie.MeasureT-loop
 μ-loop a n i₀ i = n - i
 
--- src/check.rt:35:5
 loop-holds : tie.Need-loop-holds Inv-loop μ-loop
 loop-holds c = passed-none _ _ _
 
--- src/check.rt:36:21
 mul-is-code : tie.Need-mul-is-code Inv-loop μ-loop
 mul-is-code c = search needs
 
--- src/check.rt:36:21
 shared-slice-read-is-code : tie.Need-shared-slice-read-is-code Inv-loop μ-loop
 shared-slice-read-is-code c = search needs
 
--- src/check.rt:36:13
 is-code-requires : tie.Need-is-code-requires Inv-loop μ-loop
 is-code-requires c κs = search needs
 
--- src/check.rt:37:13
 returns : tie.Need-returns Inv-loop μ-loop
 returns c =
     passed-fail _ _ _ _ _ (c .before .before .before .before .loop .inv) (omega arith) (c .before .before .before .before .before .before .pre) (c .before .is-code .ensures) (not-true _ (c .if1 .taken))
 
--- src/check.rt:39:9
 add-i : tie.Need-add-i Inv-loop μ-loop
 add-i c = search needs
 
--- src/check.rt:35:5
 loop-less : tie.Need-loop-less Inv-loop μ-loop
 loop-less c = search needs
 
--- src/check.rt:35:5
 loop-again : tie.Need-loop-again Inv-loop μ-loop
 loop-again c =
     passed-more _ _ _ _ _ (c .before .before .before .before .loop .inv) (omega arith) (c .before .before .before .before .before .before .pre) (c .before .is-code .ensures) (not-false _ (c .if1 .left))
 
--- src/check.rt:30:1
 returns-2 : tie.Need-returns-2 Inv-loop μ-loop
 returns-2 c = passed-end _ _ _ _ (c .before .loop .inv) (c .loop-test .left) (c .before .before .before .pre)
 

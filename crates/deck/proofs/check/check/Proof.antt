@@ -1,7 +1,8 @@
 -- `deck::check::check` meets its contract: the points are those of a valid state, and the edges those of its tree.
 use mathlib.Core.Path.{sym, _∙_}
 use borrow.Author.Tests.{not-true, not-false}
-use Rattle.deck.proofs.Checking.{of-true, refuted, refused}
+use Rattle.plane.proofs.Test.{of-true}
+use Rattle.deck.proofs.Checking.{refuted, refused}
 use Rattle.deck.proofs.Pointing.{points-fail, points-planned, edges-fail, edges-pass}
 use borrow.Author.Needs.{needs}
 use Rattle.deck.proofs.check.check.Statement.{statement}
@@ -13,33 +14,26 @@ use Rattle.deck.proofs.check.has_ends.Reads as has-ends-reads
 use Rattle.deck.proofs.check.plan_of.Reads as plan-of-reads
 use Rattle.deck.proofs.check.unsound.Reads as unsound-reads
 
--- src/check.rt:173:9
 plan-of-requires : tie.Need-plan-of-requires
 plan-of-requires c κs = search needs
 
--- src/check.rt:175:9
 returns : tie.Need-returns
 returns c = points-fail _ _ (c .before .before .plan-of .ensures) (not-true _ (c .if1 .taken))
 
--- src/check.rt:177:21
 deck-of-requires : tie.Need-deck-of-requires
 deck-of-requires c κs = points-planned _ _ (c .before .before .plan-of .ensures) (not-false _ (c .if1 .left))
 
--- src/check.rt:177:9
 has-ends-requires : tie.Need-has-ends-requires
 has-ends-requires c κs = search needs
 
--- src/check.rt:178:9
 unsound-requires : tie.Need-unsound-requires
 unsound-requires c κs = search needs
 
--- src/check.rt:178:9
 returns-2 : tie.Need-returns-2
 returns-2 c =
     refused _ _ _ (c .unsound .ensures)
     (edges-fail _ _ (c .before .before .before .before .before .before .plan-of .ensures) (not-false _ (c .before .before .before .before .if1 .left)) _ (c .before .before .before .deck-of .ensures) (refuted (c .before .before .has-ends .ensures) (not-true _ (c .before .if2 .taken))))
 
--- src/check.rt:170:1
 returns-3 : tie.Need-returns-3
 returns-3 c = edges-pass _ _ (c .before .before .before .before .before .plan-of .ensures) (not-false _ (c .before .before .before .if1 .left)) _ (c .before .before .deck-of .ensures) (of-true (sym (c .before .has-ends .ensures) ∙ not-false _ (c .if2 .left)))
 

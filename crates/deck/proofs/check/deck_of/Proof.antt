@@ -10,22 +10,18 @@ use Rattle.deck.proofs.check.deck_of.Reads as reads
 use Rattle.deck.proofs.check.deck_of.Lts as lts
 use Rattle.tree.proofs.list.listing.Reads as listing-reads
 
--- src/check.rt:95:25
 slice-aggregate-listing : tie.Need-slice-aggregate-listing
 slice-aggregate-listing c = search needs
 
--- src/check.rt:95:41
 slice-aggregate-listing-2 : tie.Need-slice-aggregate-listing-2
 slice-aggregate-listing-2 c = search needs
 
--- src/check.rt:95:5
 listing-requires : tie.Need-listing-requires
 listing-requires c κs =
     let w = c .before .before .before .args .w in
     let h : length (w .keys) ≡ 136 = search needs in
     (omega (arith, c .before .before .before .pre .keysFew), omega (arith, c .before .before .before .pre .keysFew))
 
--- src/check.rt:89:1
 returns : tie.Need-returns
 returns c = plan-deck _ (c .before .before .before .before .before .before .before .pre) _ _ (c .before .before .before .listing .ensures)
 

@@ -9,22 +9,18 @@ use Rattle.deck.proofs.check.has_ends.Reads as reads
 use Rattle.deck.proofs.check.has_ends.Lts as lts
 use Rattle.deck.proofs.check.is_same.Reads as is-same-reads
 
--- src/check.rt:94:13
 slice-aggregate-is-same : tie.Need-slice-aggregate-is-same
 slice-aggregate-is-same c = search needs
 
--- src/check.rt:94:17
 slice-aggregate-is-same-2 : tie.Need-slice-aggregate-is-same-2
 slice-aggregate-is-same-2 c = search needs
 
--- src/check.rt:94:5
 is-same-requires : tie.Need-is-same-requires
 is-same-requires c κs =
     let h : length (c .before .before .before .before .args .d .ends) ≡ 128 = search needs in
     let k : length (c .before .before .before .before .args .e .ends) ≡ 128 = search needs in
     omega (arith, h, k)
 
--- src/check.rt:89:1
 returns : tie.Need-returns
 returns c = search needs
 

@@ -12,58 +12,46 @@ use Rattle.deck.proofs.check.is_arranged.Lts as lts
 use Rattle.deck.proofs.check.is_ordered.Reads as is-ordered-reads
 use Rattle.sets.proofs.none_in.Reads as none-in-reads
 
--- src/check.rt:124:9
 returns : tie.Need-returns
 returns c = and-no _ _ (lt-leb _ _ (c .if1 .taken))
 
--- src/check.rt:127:9
 returns-2 : tie.Need-returns-2
 returns-2 c = and-yes _ _ _ (le-leb _ _ (c .before .if1 .left)) (and-no _ _ (lt-leb _ _ (c .if2 .taken)))
 
--- src/check.rt:130:20
 slice-aggregate-is-ordered : tie.Need-slice-aggregate-is-ordered
 slice-aggregate-is-ordered c = search needs
 
--- src/check.rt:130:9
 is-ordered-requires : tie.Need-is-ordered-requires
 is-ordered-requires c κs =
     let h : length (c .before .before .before .before .args .d .pins) ≡ 64 = search needs in
     omega (arith, c .before .before .before .if1 .left)
 
--- src/check.rt:131:9
 returns-3 : tie.Need-returns-3
 returns-3 c = and-yes _ _ _ (le-leb _ _ (c .before .before .before .before .before .if1 .left)) (and-yes _ _ _ (le-leb _ _ (c .before .before .before .before .if2 .left)) (and-no _ _ (sym (c .before .is-ordered .ensures) ∙ not-true _ (c .if3 .taken))))
 
--- src/check.rt:134:20
 slice-aggregate-is-ordered-2 : tie.Need-slice-aggregate-is-ordered-2
 slice-aggregate-is-ordered-2 c = search needs
 
--- src/check.rt:134:9
 is-ordered-requires-2 : tie.Need-is-ordered-requires-2
 is-ordered-requires-2 c κs =
     let h : length (c .before .before .before .before .before .before .before .before .args .d .steiner) ≡ 64 = search needs in
     omega (arith, c .before .before .before .before .before .before .if2 .left)
 
--- src/check.rt:135:9
 returns-4 : tie.Need-returns-4
 returns-4 c = and-yes _ _ _ (le-leb _ _ (c .before .before .before .before .before .before .before .before .before .if1 .left)) (and-yes _ _ _ (le-leb _ _ (c .before .before .before .before .before .before .before .before .if2 .left)) (and-yes _ _ _ (sym (c .before .before .before .before .before .is-ordered .ensures) ∙ not-false _ (c .before .before .before .before .if3 .left)) (and-no _ _ (sym (c .before .is-ordered2 .ensures) ∙ not-true _ (c .if4 .taken)))))
 
--- src/check.rt:137:13
 slice-aggregate-none-in : tie.Need-slice-aggregate-none-in
 slice-aggregate-none-in c = search needs
 
--- src/check.rt:137:27
 slice-aggregate-none-in-2 : tie.Need-slice-aggregate-none-in-2
 slice-aggregate-none-in-2 c = search needs
 
--- src/check.rt:137:5
 none-in-requires : tie.Need-none-in-requires
 none-in-requires c κs =
     let h : length (c .before .before .before .before .before .before .before .before .before .before .before .before .args .d .pins) ≡ 64 = search needs in
     let k : length (c .before .before .before .before .before .before .before .before .before .before .before .before .args .d .steiner) ≡ 64 = search needs in
     (omega (arith, c .before .before .before .before .before .before .before .before .before .before .before .if1 .left), omega (arith, c .before .before .before .before .before .before .before .before .before .before .if2 .left))
 
--- src/check.rt:118:1
 returns-5 : tie.Need-returns-5
 returns-5 c = and-yes _ _ _ (le-leb _ _ (c .before .before .before .before .before .before .before .before .before .before .before .before .if1 .left)) (and-yes _ _ _ (le-leb _ _ (c .before .before .before .before .before .before .before .before .before .before .before .if2 .left)) (and-yes _ _ _ (sym (c .before .before .before .before .before .before .before .before .is-ordered .ensures) ∙ not-false _ (c .before .before .before .before .before .before .before .if3 .left)) (and-yes _ _ _ (sym (c .before .before .before .before .is-ordered2 .ensures) ∙ not-false _ (c .before .before .before .if4 .left)) (c .none-in .ensures))))
 

@@ -6,11 +6,9 @@ use Rattle.deck.proofs.check.is_code.Tie as tie
 use Rattle.deck.proofs.check.is_code.Reads as reads
 use Rattle.deck.proofs.check.is_code.Lts as lts
 
--- src/check.rt:23:1
 returns : tie.Need-returns
 returns c = simp (le-leb (c .before .args .k / 65536) 60000 (c .if1 .taken))
 
--- src/check.rt:23:1
 returns-2 : tie.Need-returns-2
 returns-2 c = simp (lt-leb (c .before .args .k / 65536) 60000 (c .if1 .left))
 

@@ -11,27 +11,21 @@ use Rattle.deck.proofs.check.are_codes.Reads as are-codes-reads
 use Rattle.sets.proofs.rises.Reads as rises-reads
 use Rattle.sets.proofs.zeros_from.Reads as zeros-from-reads
 
--- src/check.rt:64:9
 are-codes-requires : tie.Need-are-codes-requires
 are-codes-requires c κs = search needs
 
--- src/check.rt:65:9
 returns : tie.Need-returns
 returns c = and-no _ _ (sym (c .before .are-codes .ensures) ∙ not-true _ (c .if1 .taken))
 
--- src/check.rt:67:9
 rises-requires : tie.Need-rises-requires
 rises-requires c κs = search needs
 
--- src/check.rt:68:9
 returns-2 : tie.Need-returns-2
 returns-2 c = and-yes _ _ _ (sym (c .before .before .before .are-codes .ensures) ∙ not-false _ (c .before .before .if1 .left)) (and-no _ _ (sym (c .before .rises .ensures) ∙ not-true _ (c .if2 .taken)))
 
--- src/check.rt:70:5
 zeros-from-requires : tie.Need-zeros-from-requires
 zeros-from-requires c κs = search needs
 
--- src/check.rt:60:1
 returns-3 : tie.Need-returns-3
 returns-3 c =
     and-yes _ _ _ (sym (c .before .before .before .before .are-codes .ensures) ∙ not-false _ (c .before .before .before .if1 .left))

@@ -15,43 +15,33 @@ Inv-loop a b i₀ i = Alike a b i
 abbrev μ-loop : tie.MeasureT-loop
 μ-loop a b i₀ i = length a - i
 
--- src/check.rt:79:5
 loop-holds : tie.Need-loop-holds Inv-loop μ-loop
 loop-holds c = alike-none _ _ (c .pre)
 
--- src/check.rt:80:12
 mul-if1 : tie.Need-mul-if1 Inv-loop μ-loop
 mul-if1 c = search needs
 
--- src/check.rt:80:12
 shared-slice-read-if1 : tie.Need-shared-slice-read-if1 Inv-loop μ-loop
 shared-slice-read-if1 c = search needs
 
--- src/check.rt:80:20
 mul-if1-2 : tie.Need-mul-if1-2 Inv-loop μ-loop
 mul-if1-2 c = search needs
 
--- src/check.rt:80:20
 shared-slice-read-if1-2 : tie.Need-shared-slice-read-if1-2 Inv-loop μ-loop
 shared-slice-read-if1-2 c = search needs
 
--- src/check.rt:81:13
 returns : tie.Need-returns Inv-loop μ-loop
 returns c = alike-fail _ _ (c .before .before .before .before .before .pre) _ (c .before .before .before .before .loop .inv) (omega arith) (c .if1 .taken)
 
--- src/check.rt:83:9
 add-i : tie.Need-add-i Inv-loop μ-loop
 add-i c = search needs
 
--- src/check.rt:79:5
 loop-less : tie.Need-loop-less Inv-loop μ-loop
 loop-less c = search needs
 
--- src/check.rt:79:5
 loop-again : tie.Need-loop-again Inv-loop μ-loop
 loop-again c = alike-more _ _ (c .before .before .before .before .before .pre) _ (c .before .before .before .before .loop .inv) (omega arith) (search needs)
 
--- src/check.rt:74:1
 returns-2 : tie.Need-returns-2 Inv-loop μ-loop
 returns-2 c = alike-end _ _ (c .before .before .pre) _ (c .before .loop .inv) (c .loop-test .left)
 

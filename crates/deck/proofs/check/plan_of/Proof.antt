@@ -1,14 +1,13 @@
 -- `deck::check::plan_of` meets its contract: each part that fails says that the points are not those of a valid state, and all together that they are.
 use mathlib.Core.Path.{_≡_, refl, sym, _∙_}
-use native.Mathlib.Omega.{arith}
 use lib.Dec.{T}
 use lib.ListN.{length}
 use borrow.Author.Tests.{not-true, not-false}
-use Rattle.plane.proofs.Test.{and-parts}
+use Rattle.plane.proofs.Test.{and-parts, of-true}
 use Rattle.model.specs.State.{valid}
 use Rattle.deck.specs.Form.{stateOf}
 use Rattle.deck.specs.Check.{arranged}
-use Rattle.deck.proofs.Checking.{of-true, arranged-codes, refuted, refused, accepted}
+use Rattle.deck.proofs.Checking.{arranged-codes, refuted, refused, accepted}
 use Rattle.deck.proofs.Pointing.{one-found, points-pass}
 use borrow.Author.Needs.{needs}
 use Rattle.deck.proofs.check.plan_of.Statement.{statement}
@@ -20,21 +19,17 @@ use Rattle.deck.proofs.check.unsound.Reads as unsound-reads
 use Rattle.plan.proofs.arrange.Reads as arrange-reads
 use Rattle.plan.proofs.prune.lowest_weak.Reads as lowest-weak-reads
 
--- src/check.rt:157:9
 is-arranged-requires : tie.Need-is-arranged-requires
 is-arranged-requires c κs = search needs
 
--- src/check.rt:158:9
 unsound-requires : tie.Need-unsound-requires
 unsound-requires c κs = search needs
 
--- src/check.rt:158:9
 returns : tie.Need-returns
 returns c =
     let d = c .before .before .before .args .d in
     refused _ d _ (c .unsound .ensures) (λ t. refuted (c .before .before .is-arranged .ensures) (not-true _ (c .before .if1 .taken)) (and-parts (arranged d) (valid (stateOf d)) t .0))
 
--- src/check.rt:162:9
 arrange-requires : tie.Need-arrange-requires
 arrange-requires c κs =
     let d = c .before .before .before .before .args .d in
@@ -42,20 +37,16 @@ arrange-requires c κs =
     let k : length (d .steiner) ≡ 64 = search needs in
     arranged-codes d h k (of-true (sym (c .before .before .before .is-arranged .ensures) ∙ not-false _ (c .before .before .if1 .left)))
 
--- src/check.rt:163:8
 lowest-weak-requires : tie.Need-lowest-weak-requires
 lowest-weak-requires c κs = search needs
 
--- src/check.rt:164:9
 unsound-requires-2 : tie.Need-unsound-requires-2
 unsound-requires-2 c κs = search needs
 
--- src/check.rt:164:9
 returns-2 : tie.Need-returns-2
 returns-2 c =
     refused _ _ _ (c .unsound2 .ensures) (one-found (c .before .before .before .before .before .before .before .before .before .args .d) _ (c .before .before .before .before .arrange .ensures .0) (c .before .before .before .before .arrange .ensures .1) (c .before .before .before .before .arrange .ensures .2) (c .before .before .before .before .arrange .ensures .3) (c .before .before .before .before .arrange .ensures .4) _ (c .before .before .before .lowest-weak .ensures) (c .before .if2 .taken))
 
--- src/check.rt:154:1
 returns-3 : tie.Need-returns-3
 returns-3 c =
     let d = c .before .before .before .before .before .before .before .before .args .d in

@@ -7,11 +7,9 @@ use Rattle.deck.proofs.check.unsound.Reads as reads
 use Rattle.deck.proofs.check.unsound.Lts as lts
 use Rattle.plan.proofs.arrange.Reads as arrange-reads
 
--- src/check.rt:113:15
 arrange-requires : tie.Need-arrange-requires
 arrange-requires c κs = none-arranged
 
--- src/check.rt:108:1
 returns : tie.Need-returns
 returns c = search needs
 

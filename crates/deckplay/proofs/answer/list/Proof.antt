@@ -1,6 +1,5 @@
 -- `deckplay::answer::list` meets its contract: the listing in an array, then its lines joined.
-use mathlib.Core.Path.{_≡_, refl, sym, ap, _∙_}
-use native.Mathlib.Omega.{arith}
+use mathlib.Core.Path.{_≡_, refl, ap}
 use lib.ListN.{length}
 use Rattle.ascii.specs.Encoding.{joinedLines}
 use Rattle.deckplay.specs.Play.{stays}

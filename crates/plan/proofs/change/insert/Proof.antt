@@ -10,29 +10,23 @@ use Rattle.plan.proofs.prune.prune.Reads as prune-reads
 use Rattle.sets.proofs.out.Reads as out-reads
 use Rattle.sets.proofs.put.Reads as put-reads
 
--- src/change.rt:23:27
 slice-aggregate-put : tie.Need-slice-aggregate-put
 slice-aggregate-put c = search needs
 
--- src/change.rt:23:9
 put-requires : tie.Need-put-requires
 put-requires c κs = search needs
 
--- src/change.rt:24:30
 slice-aggregate-out : tie.Need-slice-aggregate-out
 slice-aggregate-out c = search needs
 
--- src/change.rt:24:9
 out-requires : tie.Need-out-requires
 out-requires c κs = search needs
 
--- src/change.rt:25:5
 prune-requires : tie.Need-prune-requires
 prune-requires c κs =
     let q = c .before .before .before .before .before .before .before .before .pre in
     insert-arranged _ _ _ _ (q .0 .arranged) _ _ _ _ _ (q .1 .0) (q .1 .1) (c .before .before .before .before .put .ensures) (c .before .out .ensures) (c .before .before .before .before .put .kept .0) (c .before .out .kept .0)
 
--- src/change.rt:15:1
 returns : tie.Need-returns
 returns c =
     (c .prune .ensures .0, c .prune .ensures .1 ∙ insert-state _ _ _ _ (c .before .before .before .before .before .before .before .before .before .pre .0 .arranged) _ _ _ _ _ (c .before .before .before .before .before .put .ensures) (c .before .before .out .ensures))

@@ -9,19 +9,15 @@ use Rattle.plan.proofs.change.remove.Lts as lts
 use Rattle.plan.proofs.prune.prune.Reads as prune-reads
 use Rattle.sets.proofs.out.Reads as out-reads
 
--- src/change.rt:35:27
 slice-aggregate-out : tie.Need-slice-aggregate-out
 slice-aggregate-out c = search needs
 
--- src/change.rt:35:9
 out-requires : tie.Need-out-requires
 out-requires c κs = search needs
 
--- src/change.rt:36:5
 prune-requires : tie.Need-prune-requires
 prune-requires c κs = remove-arranged _ _ _ _ (c .before .before .before .before .before .pre .arranged) _ _ _ (c .before .out .ensures) (c .before .out .kept .0)
 
--- src/change.rt:29:1
 returns : tie.Need-returns
 returns c =
     (c .prune .ensures .0, c .prune .ensures .1 ∙ remove-state _ _ _ _ (c .before .before .before .before .before .before .pre .arranged) _ _ _ (c .before .before .out .ensures))

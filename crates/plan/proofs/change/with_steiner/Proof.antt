@@ -9,21 +9,17 @@ use Rattle.plan.proofs.change.with_steiner.Lts as lts
 use Rattle.plan.proofs.prune.prune.Reads as prune-reads
 use Rattle.sets.proofs.put.Reads as put-reads
 
--- src/change.rt:49:30
 slice-aggregate-put : tie.Need-slice-aggregate-put
 slice-aggregate-put c = search needs
 
--- src/change.rt:49:9
 put-requires : tie.Need-put-requires
 put-requires c κs = search needs
 
--- src/change.rt:50:5
 prune-requires : tie.Need-prune-requires
 prune-requires c κs =
     let q = c .before .before .before .before .before .pre in
     steiner-arranged _ _ _ _ (q .0 .arranged) _ _ _ (q .1 .0) (q .1 .1 .0) (q .1 .1 .1) (c .before .put .ensures) (c .before .put .kept .0)
 
--- src/change.rt:40:1
 returns : tie.Need-returns
 returns c =
     (c .prune .ensures .0, c .prune .ensures .1 ∙ steiner-state _ _ _ _ (c .before .before .before .before .before .before .pre .0 .arranged) _ _ _ (c .before .before .put .ensures))

@@ -8,57 +8,44 @@ use Rattle.plan.proofs.place.locate.Reads as reads
 use Rattle.plan.proofs.place.locate.Lts as lts
 use Rattle.plane.proofs.from_signed.Reads as from-signed-reads
 
--- src/place.rt:15:11
 from-signed-requires : tie.Need-from-signed-requires
 from-signed-requires c κs = search needs
 
--- src/place.rt:16:35
 enum-told : tie.Need-enum-told
 enum-told c = search needs
 
--- src/place.rt:17:28
 enum-known-u : tie.Need-enum-known-u
 enum-known-u c = search needs
 
--- src/place.rt:17:40
 from-signed-requires-2 : tie.Need-from-signed-requires-2
 from-signed-requires-2 c κs = search needs
 
--- src/place.rt:18:39
 enum-told-2 : tie.Need-enum-told-2
 enum-told-2 c = search needs
 
--- src/place.rt:19:32
 enum-known-v : tie.Need-enum-known-v
 enum-known-v c = search needs
 
--- src/place.rt:19:48
 cast-t9 : tie.Need-cast-t9
 cast-t9 c = search needs
 
--- src/place.rt:19:48
 mul-t10 : tie.Need-mul-t10
 mul-t10 c = search needs
 
--- src/place.rt:19:67
 cast-t11 : tie.Need-cast-t11
 cast-t11 c = search needs
 
--- src/place.rt:19:48
 add-t12 : tie.Need-add-t12
 add-t12 c = search needs
 
--- src/place.rt:12:1
 returns : tie.Need-returns
 returns c = x-out _ _ (read-stored _ _ (c .before .before .before .fits .x) (c .before .before .from-signed .ensures) ∙ c .enum-told .given .1)
 
--- src/place.rt:12:1
 returns-2 : tie.Need-returns-2
 returns-2 c =
     y-out _ _ _ (read-stored _ _ (c .before .before .before .before .before .before .before .fits .x) (c .before .before .before .before .before .before .from-signed .ensures) ∙ c .before .before .before .before .u .given .1)
     (read-stored _ _ (c .before .before .before .before .before .before .before .fits .y) (c .before .before .from-signed2 .ensures) ∙ c .enum-told2 .given .1)
 
--- src/place.rt:12:1
 returns-3 : tie.Need-returns-3
 returns-3 c =
     both-in _ _ _ _ (read-stored _ _ (c .before .before .before .before .before .before .before .before .fits .x) (c .before .before .before .before .before .before .before .from-signed .ensures) ∙ c .before .before .before .before .before .u .given .1)

@@ -17,47 +17,37 @@ Inv-loop codes n keys m steiner t j₀ j = Strong (take n codes) (take m keys) s
 abbrev μ-loop : tie.MeasureT-loop
 μ-loop codes n keys m steiner t j₀ j = t - j
 
--- src/prune.rt:17:5
 loop-holds : tie.Need-loop-holds Inv-loop μ-loop
 loop-holds c = strong-none _ _ _ _
 
--- src/prune.rt:18:39
 mul-place : tie.Need-mul-place Inv-loop μ-loop
 mul-place c = search needs
 
--- src/prune.rt:18:39
 shared-slice-read-place : tie.Need-shared-slice-read-place Inv-loop μ-loop
 shared-slice-read-place c = search needs
 
--- src/prune.rt:18:13
 place-requires : tie.Need-place-requires Inv-loop μ-loop
 place-requires c κs = search needs
 
--- src/prune.rt:19:12
 degree-of-requires : tie.Need-degree-of-requires Inv-loop μ-loop
 degree-of-requires c κs = search needs
 
--- src/prune.rt:20:13
 returns : tie.Need-returns Inv-loop μ-loop
 returns c =
     let l = c .before .before .before .before .before in
     strong-found _ _ _ _ _ _ _ (l .loop .inv) (omega arith) (l .before .before .before .before .pre .2) (c .before .before .place .ensures) (c .before .degree-of .ensures) (omega arith)
 
--- src/prune.rt:22:9
 add-j : tie.Need-add-j Inv-loop μ-loop
 add-j c = search needs
 
--- src/prune.rt:17:5
 loop-less : tie.Need-loop-less Inv-loop μ-loop
 loop-less c = search needs
 
--- src/prune.rt:17:5
 loop-again : tie.Need-loop-again Inv-loop μ-loop
 loop-again c =
     let l = c .before .before .before .before .before in
     strong-more _ _ _ _ _ _ _ (l .loop .inv) (omega arith) (l .before .before .before .before .pre .2) (c .before .before .place .ensures) (c .before .degree-of .ensures) (omega arith)
 
--- src/prune.rt:12:1
 returns-2 : tie.Need-returns-2 Inv-loop μ-loop
 returns-2 c = strong-end _ _ _ _ _ (c .before .loop .inv) (c .loop-test .left) (c .before .before .before .before .before .pre .2)
 

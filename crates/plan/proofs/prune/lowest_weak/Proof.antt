@@ -9,19 +9,15 @@ use Rattle.plan.proofs.prune.lowest_weak.Reads as reads
 use Rattle.plan.proofs.prune.lowest_weak.Lts as lts
 use Rattle.plan.proofs.prune.first_weak.Reads as first-weak-reads
 
--- src/prune.rt:35:16
 slice-aggregate-first-weak : tie.Need-slice-aggregate-first-weak
 slice-aggregate-first-weak c = search needs
 
--- src/prune.rt:35:35
 slice-aggregate-first-weak-2 : tie.Need-slice-aggregate-first-weak-2
 slice-aggregate-first-weak-2 c = search needs
 
--- src/prune.rt:35:51
 slice-aggregate-first-weak-3 : tie.Need-slice-aggregate-first-weak-3
 slice-aggregate-first-weak-3 c = search needs
 
--- src/prune.rt:35:5
 first-weak-requires : tie.Need-first-weak-requires
 first-weak-requires c κs =
     let p = c .before .before .before .before .before .before .pre in
@@ -30,7 +26,6 @@ first-weak-requires c κs =
     let hk : length (w .keys) ≡ 136 = search needs in
     (omega (arith, p .few), omega (arith, p .keysFew), omega (arith, p .arranged .steinerCodes .few, p .arranged .steinerCodes .size))
 
--- src/prune.rt:28:1
 returns : tie.Need-returns
 returns c = search needs
 

@@ -19,15 +19,12 @@ Inv-loop pins npins nsteiner rest₀ t₀ w₀ j₀ rest t w j = Sweeping pins n
 abbrev μ-loop : tie.MeasureT-loop
 μ-loop pins npins nsteiner rest₀ t₀ w₀ j₀ rest t w j = t
 
--- src/prune.rt:46:9
 arrange-requires : tie.Need-arrange-requires Inv-loop μ-loop
 arrange-requires c κs = c .pre
 
--- src/prune.rt:47:9
 lowest-weak-requires : tie.Need-lowest-weak-requires Inv-loop μ-loop
 lowest-weak-requires c κs = c .arrange .ensures .0
 
--- src/prune.rt:48:5
 loop-holds : tie.Need-loop-holds Inv-loop μ-loop
 loop-holds c =
     let p = c .before .before .pre in
@@ -35,46 +32,37 @@ loop-holds c =
     let h : a .nsteiner ≤ length (a .steiner) = omega (arith, p .steinerCodes .few, p .steinerCodes .size) in
     (sweeping-start _ _ _ _ _ _ h (c .before .arrange .ensures) (c .lowest-weak .ensures), p .steinerCodes .size, p .steinerCodes .few)
 
--- src/prune.rt:49:17
 mul-k : tie.Need-mul-k Inv-loop μ-loop
 mul-k c = search needs
 
--- src/prune.rt:49:17
 array-read-k : tie.Need-array-read-k Inv-loop μ-loop
 array-read-k c = search needs
 
--- src/prune.rt:50:23
 slice-aggregate-out : tie.Need-slice-aggregate-out Inv-loop μ-loop
 slice-aggregate-out c = search needs
 
--- src/prune.rt:50:9
 out-requires : tie.Need-out-requires Inv-loop μ-loop
 out-requires c κs = search needs
 
--- src/prune.rt:51:9
 arrange-requires-2 : tie.Need-arrange-requires-2 Inv-loop μ-loop
 arrange-requires-2 c κs =
     let l = c .before .before .before .before .loop in
     sweeping-arranged _ _ _ _ _ _ _ _ (l .inv .0) _ _ _ (c .before .out .ensures) (c .before .out .kept .0)
 
--- src/prune.rt:52:9
 lowest-weak-requires-2 : tie.Need-lowest-weak-requires-2 Inv-loop μ-loop
 lowest-weak-requires-2 c κs = c .arrange2 .ensures .0
 
--- src/prune.rt:48:5
 loop-less : tie.Need-loop-less Inv-loop μ-loop
 loop-less c =
     let l = c .before .before .before .before .before .before .loop in
     omega (arith, sweeping-less _ _ _ _ _ _ _ _ (l .inv .0) _ _ _ (omega arith) refl (c .before .before .before .out .ensures))
 
--- src/prune.rt:48:5
 loop-again : tie.Need-loop-again Inv-loop μ-loop
 loop-again c =
     let l = c .before .before .before .before .before .before .loop in
     let less = sweeping-less _ _ _ _ _ _ _ _ (l .inv .0) _ _ _ (omega arith) refl (c .before .before .before .out .ensures) in
     (sweeping-more _ _ _ _ _ _ _ _ (l .inv .0) _ _ _ _ _ (omega arith) refl (c .before .before .before .out .ensures) (c .before .arrange2 .ensures) (c .lowest-weak2 .ensures), c .before .before .before .out .kept .0 ∙ l .inv .1, omega (arith, less, l .inv .2))
 
--- src/prune.rt:40:1
 returns : tie.Need-returns Inv-loop μ-loop
 returns c = sweeping-end _ _ _ _ _ _ _ _ (c .before .loop .inv .0) (c .loop-test .left)
 

@@ -15,61 +15,48 @@ use Rattle.deck.proofs.Deck.run_to_end.Reads as run-to-end-reads
 use Rattle.deck.proofs.Deck.withdraw.Reads as withdraw-reads
 use Rattle.planner.proofs.replay.number_at.Reads as number-at-reads
 
--- src/replay.rt:43:16
 shared-slice-read-kind : tie.Need-shared-slice-read-kind
 shared-slice-read-kind c = search needs
 
--- src/replay.rt:44:30
 add-number-at : tie.Need-add-number-at
 add-number-at c = search needs
 
--- src/replay.rt:44:9
 number-at-requires : tie.Need-number-at-requires
 number-at-requires c κs = search needs
 
--- src/replay.rt:45:30
 add-number-at-2 : tie.Need-add-number-at-2
 add-number-at-2 c = search needs
 
--- src/replay.rt:45:9
 number-at-requires-2 : tie.Need-number-at-requires-2
 number-at-requires-2 c κs = search needs
 
--- src/replay.rt:47:13
 add-requires : tie.Need-add-requires
 add-requires c κs = search needs
 
--- src/replay.rt:48:9
 returns : tie.Need-returns
 returns c =
     ap (λ (o : Outcome). o .next) (c .before .add .ensures)
     ∙ add-there (c .before .before .before .before .before .before .before .args .d) _ (c .before .before .before .before .before .before .before .args .at) _ _ (toZ-ofZ w32 _ (record { sfits = c .before .before .before .before .number-at .ok }) ∙ c .before .before .before .before .number-at .ensures) (toZ-ofZ w32 _ (record { sfits = c .before .before .before .number-at2 .ok }) ∙ c .before .before .before .number-at2 .ensures) (c .before .before .if1 .taken)
 
--- src/replay.rt:51:13
 withdraw-requires : tie.Need-withdraw-requires
 withdraw-requires c κs = search needs
 
--- src/replay.rt:52:9
 returns-2 : tie.Need-returns-2
 returns-2 c =
     ap (λ (o : Outcome). o .next) (c .before .withdraw .ensures)
     ∙ withdraw-there (c .before .before .before .before .before .before .before .before .args .d) _ (c .before .before .before .before .before .before .before .before .args .at) _ _ (toZ-ofZ w32 _ (record { sfits = c .before .before .before .before .before .number-at .ok }) ∙ c .before .before .before .before .before .number-at .ensures) (toZ-ofZ w32 _ (record { sfits = c .before .before .before .before .number-at2 .ok }) ∙ c .before .before .before .before .number-at2 .ensures) (c .before .before .before .if1 .left) (c .before .before .if2 .taken)
 
--- src/replay.rt:55:13
 round-requires : tie.Need-round-requires
 round-requires c κs = search needs
 
--- src/replay.rt:56:9
 returns-3 : tie.Need-returns-3
 returns-3 c =
     ap (λ (o : Outcome). o .next) (c .before .round .ensures)
     ∙ round-there (c .before .before .before .before .before .before .before .before .before .args .d) _ (c .before .before .before .before .before .before .before .before .before .args .at) (c .before .before .before .before .if1 .left) (c .before .before .before .if2 .left) (c .before .before .if3 .taken)
 
--- src/replay.rt:58:9
 run-to-end-requires : tie.Need-run-to-end-requires
 run-to-end-requires c κs = search needs
 
--- src/replay.rt:39:1
 returns-4 : tie.Need-returns-4
 returns-4 c =
     ap (λ (o : Outcome). o .next) (c .before .run-to-end .ensures)

@@ -6,27 +6,21 @@ use Rattle.planner.proofs.replay.lowered.Tie as tie
 use Rattle.planner.proofs.replay.lowered.Reads as reads
 use Rattle.planner.proofs.replay.lowered.Lts as lts
 
--- src/replay.rt:23:16
 cast-result : tie.Need-cast-result
 cast-result c = search needs
 
--- src/replay.rt:23:16
 sub-result : tie.Need-sub-result
 sub-result c = first-fits _ (c .if1 .taken)
 
--- src/replay.rt:23:16
 sub-result-2 : tie.Need-sub-result-2
 sub-result-2 c = second-fits _ (c .if1 .taken)
 
--- src/replay.rt:23:9
 returns : tie.Need-returns
 returns c = low-is _ (c .if1 .taken)
 
--- src/replay.rt:25:5
 cast-result-2 : tie.Need-cast-result-2
 cast-result-2 c = search needs
 
--- src/replay.rt:19:1
 returns-2 : tie.Need-returns-2
 returns-2 c = high-is _ (search needs) (c .if1 .left)
 

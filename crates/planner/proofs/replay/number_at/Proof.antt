@@ -12,79 +12,60 @@ use Rattle.planner.proofs.replay.number_at.Lts as lts
 use Rattle.planner.proofs.replay.lowered.Reads as lowered-reads
 use Rattle.planner.proofs.replay.wide.Reads as wide-reads
 
--- src/replay.rt:33:20
 shared-slice-read-wide : tie.Need-shared-slice-read-wide
 shared-slice-read-wide c = search needs
 
--- src/replay.rt:33:15
 wide-requires : tie.Need-wide-requires
 wide-requires c κs = search needs
 
--- src/replay.rt:33:44
 add-wide : tie.Need-add-wide
 add-wide c = search needs
 
--- src/replay.rt:33:38
 shared-slice-read-wide-2 : tie.Need-shared-slice-read-wide-2
 shared-slice-read-wide-2 c = search needs
 
--- src/replay.rt:33:33
 wide-requires-2 : tie.Need-wide-requires-2
 wide-requires-2 c κs = search needs
 
--- src/replay.rt:33:33
 mul-low : tie.Need-mul-low
 mul-low c = search needs
 
--- src/replay.rt:33:15
 add-low : tie.Need-add-low
 add-low c = search needs
 
--- src/replay.rt:34:27
 add-wide-2 : tie.Need-add-wide-2
 add-wide-2 c = search needs
 
--- src/replay.rt:34:21
 shared-slice-read-wide-3 : tie.Need-shared-slice-read-wide-3
 shared-slice-read-wide-3 c = search needs
 
--- src/replay.rt:34:16
 wide-requires-3 : tie.Need-wide-requires-3
 wide-requires-3 c κs = search needs
 
--- src/replay.rt:34:49
 add-wide-3 : tie.Need-add-wide-3
 add-wide-3 c = search needs
 
--- src/replay.rt:34:43
 shared-slice-read-wide-4 : tie.Need-shared-slice-read-wide-4
 shared-slice-read-wide-4 c = search needs
 
--- src/replay.rt:34:38
 wide-requires-4 : tie.Need-wide-requires-4
 wide-requires-4 c κs = search needs
 
--- src/replay.rt:34:38
 mul-high : tie.Need-mul-high
 mul-high c = search needs
 
--- src/replay.rt:34:16
 add-high : tie.Need-add-high
 add-high c = search needs
 
--- src/replay.rt:35:19
 mul-lowered : tie.Need-mul-lowered
 mul-lowered c = search needs
 
--- src/replay.rt:35:13
 add-lowered : tie.Need-add-lowered
 add-lowered c = search needs
 
--- src/replay.rt:35:5
 lowered-requires : tie.Need-lowered-requires
 lowered-requires c κs = search needs
 
--- src/replay.rt:29:1
 returns : tie.Need-returns
 returns c =
     toZ-ofZ w32 _ (record { sfits = c .lowered .ok }) ∙ c .lowered .ensures

@@ -1,7 +1,5 @@
 -- `planner::replay::replay` meets its contract. The invariant: what is left to call leads to the definition's deck.
-use Prim.Native.Nat.{_-_, _+_, _*_, _≤_}
-use native.Mathlib.Omega.{arith}
-use lib.ListN.{length}
+use Prim.Native.Nat.{_-_}
 use borrow.Author.Needs.{needs}
 use Rattle.planner.proofs.Replaying.{Replayed, replay-none, replay-more, replay-end}
 use Rattle.planner.proofs.replay.replay.Statement.{statement}
@@ -16,31 +14,24 @@ Inv-loop calls next₀ n i₀ next i = Replayed calls next₀ n next i
 abbrev μ-loop : tie.MeasureT-loop
 μ-loop calls next₀ n i₀ next i = n - i
 
--- src/replay.rt:69:5
 loop-holds : tie.Need-loop-holds Inv-loop μ-loop
 loop-holds c = replay-none _ _ _
 
--- src/replay.rt:70:37
 mul-call-at : tie.Need-mul-call-at Inv-loop μ-loop
 mul-call-at c = search needs
 
--- src/replay.rt:70:9
 call-at-requires : tie.Need-call-at-requires Inv-loop μ-loop
 call-at-requires c κs = search needs
 
--- src/replay.rt:71:9
 add-i : tie.Need-add-i Inv-loop μ-loop
 add-i c = search needs
 
--- src/replay.rt:69:5
 loop-less : tie.Need-loop-less Inv-loop μ-loop
 loop-less c = search needs
 
--- src/replay.rt:69:5
 loop-again : tie.Need-loop-again Inv-loop μ-loop
 loop-again c = replay-more _ _ _ _ _ _ (c .before .before .loop .inv) (c .before .loop-test .taken) (c .call-at .ensures)
 
--- src/replay.rt:63:1
 returns : tie.Need-returns Inv-loop μ-loop
 returns c = replay-end _ _ _ _ _ (c .before .loop .inv) (c .loop-test .left)
 

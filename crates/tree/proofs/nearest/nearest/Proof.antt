@@ -23,88 +23,67 @@ Inv-loop xs ys n x y best₀ j₀ best j = (j ≤ n) × (best ≡ tab (λ (o : �
 abbrev μ-loop : tie.MeasureT-loop
 μ-loop xs ys n x y best₀ j₀ best j = n - j
 
--- src/nearest.rt:34:5
 loop-holds : tie.Need-loop-holds Inv-loop μ-loop
 unfolding tab leastKey
 loop-holds c = search needs
 
--- src/nearest.rt:35:54
 mul-octant-between : tie.Need-mul-octant-between Inv-loop μ-loop
 mul-octant-between c = search needs
 
--- src/nearest.rt:35:54
 shared-slice-read-octant-between : tie.Need-shared-slice-read-octant-between Inv-loop μ-loop
 shared-slice-read-octant-between c = search needs
 
--- src/nearest.rt:35:61
 mul-octant-between-2 : tie.Need-mul-octant-between-2 Inv-loop μ-loop
 mul-octant-between-2 c = search needs
 
--- src/nearest.rt:35:61
 shared-slice-read-octant-between-2 : tie.Need-shared-slice-read-octant-between-2 Inv-loop μ-loop
 shared-slice-read-octant-between-2 c = search needs
 
--- src/nearest.rt:35:17
 octant-between-requires : tie.Need-octant-between-requires Inv-loop μ-loop
 octant-between-requires c κs = search needs
 
--- src/nearest.rt:35:17
 cast-o : tie.Need-cast-o Inv-loop μ-loop
 cast-o c = search needs
 
--- src/nearest.rt:36:37
 mul-distance : tie.Need-mul-distance Inv-loop μ-loop
 mul-distance c = search needs
 
--- src/nearest.rt:36:37
 shared-slice-read-distance : tie.Need-shared-slice-read-distance Inv-loop μ-loop
 shared-slice-read-distance c = search needs
 
--- src/nearest.rt:36:44
 mul-distance-2 : tie.Need-mul-distance-2 Inv-loop μ-loop
 mul-distance-2 c = search needs
 
--- src/nearest.rt:36:44
 shared-slice-read-distance-2 : tie.Need-shared-slice-read-distance-2 Inv-loop μ-loop
 shared-slice-read-distance-2 c = search needs
 
--- src/nearest.rt:36:21
 distance-requires : tie.Need-distance-requires Inv-loop μ-loop
 distance-requires c κs = search needs
 
--- src/nearest.rt:36:13
 key-requires : tie.Need-key-requires Inv-loop μ-loop
 key-requires c κs = search needs
 
--- src/nearest.rt:38:32
 mul-least : tie.Need-mul-least Inv-loop μ-loop
 mul-least c = search needs
 
--- src/nearest.rt:38:32
 array-read-least : tie.Need-array-read-least Inv-loop μ-loop
 array-read-least c = search needs
 
--- src/nearest.rt:38:23
 least-requires : tie.Need-least-requires Inv-loop μ-loop
 least-requires c κs = search needs
 
--- src/nearest.rt:38:13
 mul-best : tie.Need-mul-best Inv-loop μ-loop
 mul-best c = search needs
 
--- src/nearest.rt:38:13
 array-write-best : tie.Need-array-write-best Inv-loop μ-loop
 array-write-best c = search needs
 
--- src/nearest.rt:40:9
 add-j : tie.Need-add-j Inv-loop μ-loop
 add-j c = search needs
 
--- src/nearest.rt:34:5
 loop-less : tie.Need-loop-less Inv-loop μ-loop
 loop-less c = search needs
 
--- src/nearest.rt:34:5
 loop-again : tie.Need-loop-again Inv-loop μ-loop
 loop-again c =
     let at = c .before .before .before .before .before .before .before .before .before in
@@ -121,7 +100,6 @@ loop-again c =
           (c .if1 .came),
     )
 
--- src/nearest.rt:28:1
 returns : tie.Need-returns Inv-loop μ-loop
 unfolding octantKeys
 returns c =
