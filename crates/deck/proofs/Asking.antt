@@ -46,5 +46,6 @@ module _ (d : Deck) (r : Checked) (k : Checks (sound d) d r) where
   ends-listed e =
       record {
         rest = replicate (128 - length (numbers (stateOf d))) 0;
-        is = ends-are d (checked-sound d r k e .0) ∙ ap (λ (s : State). numbers s ++ replicate (128 - length (numbers (stateOf d))) 0) (sym (checked-sound d r k e .2));
+        is = ends-are d (checked-sound d r k e .0)
+            ∙ ap (λ (s : State). numbers s ++ replicate (128 - length (numbers (stateOf d))) 0) (sym (checked-sound d r k e .2));
       }

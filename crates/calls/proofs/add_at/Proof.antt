@@ -22,7 +22,8 @@ returns c =
     let at-has = at-if .before in
     let at-start = at-has .before .before .before in
     let p = at-start .pre .0 in
-    refused-is _ p _ 8 (add-there _ _ (in-range _ (at-start .pre .1)) (sym (pin-there _ p _) ∙ sym (at-has .has .ensures) ∙ at-if .if1 .taken)) _ (c .refuse .ensures)
+    let there = sym (pin-there _ p _) ∙ sym (at-has .has .ensures) ∙ at-if .if1 .taken in
+    refused-is _ p _ 8 (add-there _ _ (in-range _ (at-start .pre .1)) there) _ (c .refuse .ensures)
 
 refuse-requires-2 : tie.Need-refuse-requires-2
 refuse-requires-2 c κs = search needs

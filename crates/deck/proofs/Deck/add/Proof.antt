@@ -34,7 +34,8 @@ returns-2 c =
     let at-if = at-call .before in
     let at-check = at-if .before .before in
     let at-start = at-check .before in
-    called-by _ _ (at-check .check .ensures) _ _ (not-false _ (at-if .if1 .left)) _ (by-point _ call.add _ _ (read-point _ _ (at-start .fits .x) (at-start .fits .y)) _ (at-call .add .ensures)) (c .outcome-of .ensures)
+    called-by _ _ (at-check .check .ensures) _ _ (not-false _ (at-if .if1 .left)) _
+    (by-point _ call.add _ _ (read-point _ _ (at-start .fits .x) (at-start .fits .y)) _ (at-call .add .ensures)) (c .outcome-of .ensures)
 
 pub add-spec : {M : Type 1} → statement M
 add-spec =

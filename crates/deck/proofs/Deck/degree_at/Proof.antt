@@ -31,7 +31,8 @@ returns-2 c =
     let at-start = at-check .before in
     let p : Point = record { x = at-start .args .x; y = at-start .args .y } in
     asked-by _ _ (at-check .check .ensures) (not-false _ (at-if .if1 .left)) (degreeAnswer p) _
-    (c .degree-at .ensures ∙ ap (λ (q : Point). degreeAnswer q (work.stateOf (at-check .check .result .plan))) (read-point _ _ (at-start .fits .x) (at-start .fits .y)))
+    (c .degree-at .ensures
+    ∙ ap (λ (q : Point). degreeAnswer q (work.stateOf (at-check .check .result .plan))) (read-point _ _ (at-start .fits .x) (at-start .fits .y)))
 
 pub degree-at-spec : {M : Type 1} → statement M
 degree-at-spec = tie.close (tie.spec check-requires returns degree-at-requires returns-2)
