@@ -8,8 +8,8 @@ use lib.Dec.{ltb, nltb→le}
 use lib.ListN.{length, take, drop, set, length-set, length-drop, drop-of-length-le}
 use lib.Seq.{take-all, drop-cons, drop-set-lt, getD-set-same}
 use borrow.Author.Tests.{lt-ltb, le-ltb}
-use Rattle.plane.specs.Test.{if}
-use Rattle.plane.proofs.Test.{by-test}
+use Rattle.arrays.specs.Test.{if}
+use Rattle.arrays.proofs.Test.{by-test}
 use Rattle.model.specs.Listing.{digitsFrom, decimal}
 use Rattle.ascii.specs.Text.{Put}
 use Rattle.ascii.proofs.Puts.{put-same}

@@ -8,7 +8,7 @@ use native.Mathlib.Omega.{arith}
 use lib.ListN.{length, take, getD}
 use lib.Seq.{take-suc, take-length}
 use borrow.Author.Tests.{lt-ltb, le-ltb, eq-eqb, ne-eqb}
-use Rattle.plane.specs.Test.{if}
+use Rattle.arrays.specs.Test.{if}
 use Rattle.tree.specs.Front.{Front}
 use Rattle.ascii.specs.Encoding.{spelled, hexDigit, hexPair, fileText, spread, bodyLength}
 use Rattle.ascii.specs.Text.{Put, fitting}

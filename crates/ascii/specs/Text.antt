@@ -4,7 +4,7 @@ use mathlib.Core.List.{List, [], _++_}
 use Prim.Native.Nat.{ℕ, _+_}
 use lib.Dec.{leb}
 use lib.ListN.{length, take, drop}
-use Rattle.plane.specs.Test.{if}
+use Rattle.arrays.specs.Test.{if}
 
 -- The bytes stand from place `at` on, nothing else changed, and r is the place behind them.
 pub record Put (bytes before after : List ℕ) (at r : ℕ) : Type 0 where

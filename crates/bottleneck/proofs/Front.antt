@@ -7,7 +7,7 @@ use native.Mathlib.Numerals.{add-one}
 use native.Mathlib.Omega.{arith}
 use lib.ListN.{length, take, getD}
 use lib.Seq.{take-suc}
-use Rattle.spanning.specs.Order.{Sorted}
+use Rattle.arrays.specs.Order.{Sorted}
 
 -- An element below m is one of the first m.
 pub front-at : (l : List ℕ) (i m : ℕ) → i < m → m ≤ length l → List·Memᴰ (getD l i 0) (take m l)

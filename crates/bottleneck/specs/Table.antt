@@ -6,9 +6,9 @@ use Prim.Native.Nat.{ℕ, _+_, _*_, _≤_, _<_}
 use lib.Dec.{T, ltb, eqb}
 use lib.ListN.{length, take, getD}
 use Rattle.spanning.specs.Graph.{Conn, In}
-use Rattle.spanning.specs.Order.{Sorted}
+use Rattle.arrays.specs.Order.{Sorted}
 use Rattle.spanning.specs.Bottleneck.{Bottleneck}
-use Rattle.plane.specs.Test.{if}
+use Rattle.arrays.specs.Test.{if}
 use Rattle.tree.specs.Keys.{keyGraph, weight}
 
 -- The weight w where the label is the one wanted, else the old entry.

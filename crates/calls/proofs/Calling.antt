@@ -9,17 +9,17 @@ use lib.ListN.{length, take}
 use borrow.Author.Tests.{le-ltb, lt-ltb}
 use Rattle.plane.specs.Point.{Point, inRange, lower}
 use Rattle.plane.proofs.Order.{lower-order}
-use Rattle.model.specs.Set.{has}
+use Rattle.arrays.specs.Set.{has}
 use Rattle.model.specs.Refusal.{check, firstFailed}
 use Rattle.model.specs.State.{State, Valid, maxPins, insert, remove}
 use Rattle.model.specs.Call as call
-use Rattle.model.proofs.Set.{has-in}
+use Rattle.arrays.proofs.Set.{has-in}
 use Rattle.plan.specs.declared.Plan.{Plan}
 use Rattle.plan.specs.Code.{pointOf, isCode}
 use Rattle.plan.specs.Work.{Planned, stateOf}
 use Rattle.plan.proofs.Arranging.{codes-count}
 use Rattle.plan.proofs.Codes.{points-has, range-code}
-use Rattle.plane.proofs.Test.{true-of, false-of}
+use Rattle.arrays.proofs.Test.{true-of, false-of}
 use Rattle.calls.specs.declared.Changed.{Changed}
 use Rattle.calls.specs.declared.Reply.the-variants.{Done}
 use Rattle.calls.specs.Changes.{replyOf, refusing, ChangedBy}

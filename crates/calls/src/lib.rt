@@ -69,7 +69,7 @@ fn add_at(w: Plan, k: u64) -> Changed
 {
     let pins = w.pins;
     let npins = w.npins;
-    let there = sets::has(&pins, npins, k);
+    let there = arrays::sorted::has(&pins, npins, k);
     let full = 64 <= npins;
     if there {
         return refuse(w, 8);
@@ -90,7 +90,7 @@ fn withdraw_at(w: Plan, k: u64) -> Changed
     ensures { λ r. ⌜ ChangedBy w (call.withdraw (pointOf k)) r ⌝ }
 {
     let pins = w.pins;
-    if !sets::has(&pins, w.npins, k) {
+    if !arrays::sorted::has(&pins, w.npins, k) {
         return refuse(w, 9);
     }
     let next = plan::change::remove(w, k);

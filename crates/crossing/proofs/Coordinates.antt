@@ -10,12 +10,12 @@ use lib.Seq.{take-suc, getD-take, length-take-le}
 use lib.Signed.{ltZ}
 use Rattle.plane.specs.Point.{Point}
 use Rattle.plane.specs.Coordinate.{coordinate}
-use Rattle.plane.proofs.Order.{nat-order}
+use Rattle.arrays.proofs.Order.{nat-order}
 use Rattle.plane.proofs.Stored.{coordinate-less}
-use Rattle.model.specs.Set.{setOf}
-use Rattle.model.proofs.Set.{set-of-in}
-use Rattle.model.proofs.SetMap.{union-map}
-use Rattle.sets.proofs.Rising.{get-in}
+use Rattle.arrays.specs.Set.{setOf}
+use Rattle.arrays.proofs.Set.{set-of-in}
+use Rattle.arrays.proofs.SetMap.{union-map}
+use Rattle.arrays.proofs.sorted.Rise.{get-in}
 use Rattle.tree.specs.Held.{held}
 use Rattle.tree.specs.Keys.{tab}
 use Rattle.tree.proofs.Step.{Words}

@@ -10,13 +10,13 @@ use lib.ListN.{length, take, drop, getD, length-append, length-take}
 use lib.Seq.{getD-take, length-take-le}
 use Rattle.plane.specs.Point.{Point}
 use Rattle.plane.specs.Coordinate.{coordinate}
-use Rattle.plane.proofs.Order.{nat-order}
-use Rattle.model.specs.Set.{union, setOf}
+use Rattle.arrays.proofs.Order.{nat-order}
+use Rattle.arrays.specs.Set.{union, setOf}
 use Rattle.model.specs.Round.{crossings, notHeld, candidates, bestAbove, best}
-use Rattle.model.proofs.Set.{set-of-sorted}
-use Rattle.sets.specs.Array.{Written}
-use Rattle.sets.proofs.Results.{written-part, union-most}
-use Rattle.sets.proofs.Rising.{get-rises}
+use Rattle.arrays.proofs.Set.{set-of-sorted}
+use Rattle.arrays.specs.Array.{Written}
+use Rattle.arrays.proofs.sorted.Results.{written-part, union-most}
+use Rattle.arrays.proofs.sorted.Rise.{get-rises}
 use Rattle.tree.specs.Held.{held}
 use Rattle.tree.specs.Keys.{tab}
 use Rattle.tree.proofs.Sorted.{ps-sorted}

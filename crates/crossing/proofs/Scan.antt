@@ -11,18 +11,18 @@ use lib.Dec.{T, ltb, ltb→lt, lt→ltb}
 use lib.IntN.{ℤ, pos, subℕ}
 use lib.Signed.{ltZ}
 use borrow.Author.Tests.{lt-ltb, le-ltb}
-use Rattle.spanning.specs.Order.{Sorted}
+use Rattle.arrays.specs.Order.{Sorted}
 use Rattle.plane.specs.Point.{Point, lower, Lower}
 use Rattle.plane.specs.Stored.{pointAt}
 use Rattle.plane.proofs.Order.{lower-order}
 use Rattle.plane.proofs.Stored.{biased-coordinate}
-use Rattle.plane.proofs.Test.{same-test}
+use Rattle.arrays.proofs.Test.{same-test}
 use Rattle.plane.proofs.Whole.{whole-ext, sub-value}
-use Rattle.model.specs.Set.{put, has}
+use Rattle.arrays.specs.Set.{put, has}
 use Rattle.model.specs.Tree.{treeLength}
 use Rattle.model.specs.Round.{crossings, notHeld, candidates, saving, bestAbove, best}
 use Rattle.model.proofs.Candidate.{save-less, less-save}
-use Rattle.model.proofs.Set.{has-in, put-same}
+use Rattle.arrays.proofs.Set.{has-in, put-same}
 use Rattle.regions.specs.Codes.{far}
 use Rattle.score.specs.Prepared.{sparedBy}
 use Rattle.crossing.specs.declared.found.Greatest.{Greatest}

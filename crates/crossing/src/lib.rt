@@ -16,9 +16,9 @@ ghost use mathlib.Core.Path.{_≡_};
 ghost use Prim.Native.Nat.{_≤_, _<_};
 ghost use lib.Dec.{ltb};
 ghost use lib.ListN.{length, take};
-ghost use Rattle.model.specs.Set.{setOf};
+ghost use Rattle.arrays.specs.Set.{setOf};
 ghost use Rattle.model.specs.Round as round;
-ghost use Rattle.sets.specs.Array.{Written};
+ghost use Rattle.arrays.specs.Array.{Written};
 ghost use Rattle.crossing.specs.Search.{TreeGiven, pointsOf, answerOf};
 
 // The different values among the first n, least first, at the front of `to`. Returns how many there are.
@@ -30,7 +30,7 @@ pub fn lines(values: &[u16], n: usize, to: &mut [u64]) -> usize
     let mut left = n;
     while 0 < left {
         left -= 1;
-        count = sets::put(to, count, values[left] as u64);
+        count = arrays::sorted::put(to, count, values[left] as u64);
     }
     count
 }

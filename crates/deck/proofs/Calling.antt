@@ -2,7 +2,7 @@
 use mathlib.Core.Path.{_≡_, sym, ap, _∙_, subst⁻¹}
 use mathlib.Core.Bool.{Bool, true, false}
 use lib.Dec.{T}
-use Rattle.plane.specs.Test.{if}
+use Rattle.arrays.specs.Test.{if}
 use Rattle.model.specs.State.{State, Valid}
 use Rattle.model.specs.Call as call
 use Rattle.plan.specs.Work as work
@@ -14,7 +14,7 @@ use Rattle.deck.specs.declared.check.Checked.{Checked}
 use Rattle.deck.specs.Check.{Checks}
 use Rattle.deck.specs.Form.{deckOf, stateOf, Sound, sound}
 use Rattle.deck.specs.Calls.{answer, refusal, called, outcomeOf}
-use Rattle.plane.proofs.Test.{of-true}
+use Rattle.arrays.proofs.Test.{of-true}
 use Rattle.deck.proofs.Forms.{sound-is}
 
 -- What the check of a deck gives where it passed: the deck is sound, and its working form stands for its state.

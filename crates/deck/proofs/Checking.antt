@@ -9,16 +9,17 @@ use lib.Dec.{T, ltb, leb}
 use borrow.Author.Tests.{leb-true, le-leb}
 use lib.ListN.{length, take, drop, replicate, length-map, length-drop}
 use Rattle.plane.specs.Point.{Point, inRange, lower}
-use Rattle.plane.proofs.Test.{and-parts, and-both, true-of, of-true, false-of}
-use Rattle.plane.proofs.Order.{nat-order, lower-order}
-use Rattle.model.specs.Set.{rising, all, has}
-use Rattle.model.specs.File.{sameBytes}
-use Rattle.model.proofs.Set.{all-in, has-not, rising-sorted}
+use Rattle.arrays.proofs.Test.{and-parts, and-both, true-of, of-true, false-of}
+use Rattle.arrays.proofs.Order.{nat-order}
+use Rattle.plane.proofs.Order.{lower-order}
+use Rattle.arrays.specs.Set.{rising, all, has}
+use Rattle.arrays.specs.Same.{sameList}
+use Rattle.arrays.proofs.Set.{all-in, has-not, rising-sorted}
 use Rattle.model.proofs.Prune.{few-steiner}
 use Rattle.model.proofs.Candidate.{map-in}
-use Rattle.model.proofs.FileParts.{same-refl}
-use Rattle.sets.specs.Array.{noneIn, allZero}
-use Rattle.sets.proofs.Scanning.{all-zero}
+use Rattle.arrays.proofs.same.Alike.{same-refl}
+use Rattle.arrays.specs.Array.{noneIn, allZero}
+use Rattle.arrays.proofs.sorted.Search.{all-zero}
 use Rattle.plan.specs.Code.{code, pointOf, isCode}
 use Rattle.plan.specs.Work as work
 use Rattle.plan.proofs.Codes.{code-is, map-codes, points-rising}
@@ -149,8 +150,8 @@ arranged-codes d h k t =
 pub arranged-few : (d : Deck) → T (arranged d) → d .npins ≤ 64
 arranged-few d t = leb-true _ _ (true-of _ (and-parts (leb (d .npins) 64) (leb (d .nsteiner) 62 && (ordered (d .pins) (d .npins) && (ordered (d .steiner) (d .nsteiner) && noneIn (take (d .nsteiner) (d .steiner)) (take (d .npins) (d .pins))))) t .0))
 
-pub same-of : {l m : List ℕ} → l ≡ m → T (sameBytes l m)
-same-of {l} e = subst (λ (z : List ℕ). T (sameBytes l z)) e (same-refl l)
+pub same-of : {l m : List ℕ} → l ≡ m → T (sameList l m)
+same-of {l} e = subst (λ (z : List ℕ). T (sameList l z)) e (same-refl l)
 
 -- A test that answered no is no proof.
 pub refuted : {a b : Bool} → a ≡ b → a ≡ false → ¬ T b

@@ -13,7 +13,7 @@ use Rattle.model.specs.Demand3 as model
 use Rattle.model.proofs.Round.{round-valid}
 use Rattle.model.proofs.Step.{step-valid, after-valid}
 use Rattle.model.proofs.Demand3.{start-valid, valid-kept}
-use Rattle.plane.proofs.Test.{true-of}
+use Rattle.arrays.proofs.Test.{true-of}
 use Rattle.deck.specs.declared.Deck.{Deck}
 use Rattle.deck.specs.declared.Outcome.{Outcome}
 use Rattle.calls.specs.declared.Reply.the-variants.{Finished}

@@ -8,12 +8,12 @@ use native.Mathlib.Omega.{arith}
 use lib.Dec.{T, eqb, eqb→eq, eqb-refl}
 use lib.ListN.{length, take, drop, replicate, length-map, length-append, length-replicate}
 use lib.Seq.{take-at, drop-at}
-use Rattle.plane.proofs.Test.{and-parts, and-both}
+use Rattle.arrays.proofs.Test.{and-parts, and-both}
 use Rattle.model.specs.State.{State, points, Placed, Valid, valid}
 use Rattle.model.specs.Question.{listed}
-use Rattle.model.specs.File.{sameBytes}
+use Rattle.arrays.specs.Same.{sameList}
 use Rattle.model.proofs.Validity.{valid-is}
-use Rattle.model.proofs.FileParts.{same-refl, same-eq}
+use Rattle.arrays.proofs.same.Alike.{same-refl, same-eq}
 use Rattle.tree.specs.Keys.{endsAt}
 use Rattle.plan.specs.Code.{code, pointOf}
 use Rattle.plan.proofs.Codes.{map-codes}
@@ -54,10 +54,10 @@ sound-unique d e s t q = s .same ∙ ap deckOf q ∙ sym (t .same)
 
 same-deck : (d e : Deck) → T (sameDeck d e) → d ≡ e
 same-deck d e t =
-    let a = and-parts (sameBytes (d .pins) (e .pins)) _ t in
+    let a = and-parts (sameList (d .pins) (e .pins)) _ t in
     let b = and-parts (eqb (d .npins) (e .npins)) _ (a .1) in
-    let c = and-parts (sameBytes (d .steiner) (e .steiner)) _ (b .1) in
-    let f = and-parts (eqb (d .nsteiner) (e .nsteiner)) (sameBytes (d .ends) (e .ends)) (c .1) in
+    let c = and-parts (sameList (d .steiner) (e .steiner)) _ (b .1) in
+    let f = and-parts (eqb (d .nsteiner) (e .nsteiner)) (sameList (d .ends) (e .ends)) (c .1) in
     λ i. record {
       pins = same-eq (d .pins) (e .pins) (a .0) i;
       npins = eqb→eq (d .npins) (e .npins) (b .0) i;
@@ -68,10 +68,10 @@ same-deck d e t =
 
 self-same : (d : Deck) → T (sameDeck d d)
 self-same d =
-    and-both (sameBytes (d .pins) (d .pins)) _ (same-refl (d .pins))
+    and-both (sameList (d .pins) (d .pins)) _ (same-refl (d .pins))
     (and-both (eqb (d .npins) (d .npins)) _ (eqb-refl (d .npins))
-    (and-both (sameBytes (d .steiner) (d .steiner)) _ (same-refl (d .steiner))
-    (and-both (eqb (d .nsteiner) (d .nsteiner)) (sameBytes (d .ends) (d .ends)) (eqb-refl (d .nsteiner)) (same-refl (d .ends)))))
+    (and-both (sameList (d .steiner) (d .steiner)) _ (same-refl (d .steiner))
+    (and-both (eqb (d .nsteiner) (d .nsteiner)) (sameList (d .ends) (d .ends)) (eqb-refl (d .nsteiner)) (same-refl (d .ends)))))
 
 -- The test decides soundness.
 pub sound-is : (d : Deck) → T (sound d) ↔ Sound d

@@ -7,7 +7,7 @@ use lib.Dec.{ltb}
 use lib.ListN.{length, take, replicate, take-append-drop}
 use lib.Seq.{length-take-le}
 use Rattle.plane.specs.Edge.{listedBefore}
-use Rattle.model.specs.Set.{setOf}
+use Rattle.arrays.specs.Set.{setOf}
 use Rattle.model.specs.Tree.{mst}
 use Rattle.model.specs.State.{points}
 use Rattle.model.specs.Question.{listed}

@@ -9,15 +9,15 @@ use native.Mathlib.Omega.{arith}
 use lib.Dec.{T}
 use lib.ListN.{length, take}
 use lib.Seq.{length-take-le}
-use Rattle.plane.specs.Test.{if}
+use Rattle.arrays.specs.Test.{if}
 use Rattle.plane.specs.Point.{Point}
-use Rattle.plane.proofs.Test.{and-parts, and-both, of-true}
+use Rattle.arrays.proofs.Test.{and-parts, and-both, of-true}
 use Rattle.model.specs.Tree.{mst, edgesAt}
 use Rattle.model.specs.State.{State, empty, points, Placed, valid, lowestWeak}
-use Rattle.model.specs.File.{sameBytes}
+use Rattle.arrays.specs.Same.{sameList}
 use Rattle.model.proofs.Prune.{LowestWeakView, all-strong, weak, lowest-weak-view}
 use Rattle.model.proofs.Validity.{valid-is}
-use Rattle.model.proofs.FileParts.{same-eq}
+use Rattle.arrays.proofs.same.Alike.{same-eq}
 use Rattle.plan.specs.Weak.{firstWeak}
 use Rattle.plan.specs.declared.Plan.{Plan}
 use Rattle.plan.specs.Work as work
@@ -109,11 +109,11 @@ module _ (d : Deck) (r : Checked) (c : Checks (pointed d) d r) where
     pub points-state : work.stateOf (r .plan) ≡ stateOf d
     points-state = λ i. work.stateAt (c .samePins test i) (c .sameCount test i) (c .sameSteiner test i) (c .sameLeft test i)
 
-    pub edges-fail : (a : Deck) → a ≡ deckOf (work.stateOf (r .plan)) → ¬ T (sameBytes (d .ends) (a .ends)) → ¬ T (sound d)
+    pub edges-fail : (a : Deck) → a ≡ deckOf (work.stateOf (r .plan)) → ¬ T (sameList (d .ends) (a .ends)) → ¬ T (sound d)
     edges-fail a is n t =
         n (same-of ((λ i. sound-is d .0 t .same i .ends) ∙ sym (λ i. deckOf (points-state i) .ends) ∙ sym (λ i. is i .ends)))
 
-    pub edges-pass : (a : Deck) → a ≡ deckOf (work.stateOf (r .plan)) → T (sameBytes (d .ends) (a .ends)) → Checks (sound d) d r
+    pub edges-pass : (a : Deck) → a ≡ deckOf (work.stateOf (r .plan)) → T (sameList (d .ends) (a .ends)) → Checks (sound d) d r
     edges-pass a is t =
         accepted (sound d) d r e (sound-is d .1 whole) points-planned (c .samePins test) (c .sameCount test) (c .sameSteiner test) (c .sameLeft test)
       where

@@ -1,6 +1,6 @@
 -- What the calls on a deck answer, by the model.
 use Prim.Native.Nat.{ℕ}
-use Rattle.plane.specs.Test.{if}
+use Rattle.arrays.specs.Test.{if}
 use Rattle.model.specs.Call as call
 use Rattle.plan.specs.Work as work
 use Rattle.calls.specs.declared.Changed.{Changed}

@@ -5,10 +5,10 @@ use mathlib.Core.List.{List}
 use Prim.Native.Nat.{ℕ}
 use lib.Dec.{T, ltb, leb}
 use lib.ListN.{take, drop, replicate}
-use Rattle.plane.specs.Test.{if}
-use Rattle.model.specs.Set.{rising, all}
+use Rattle.arrays.specs.Test.{if}
+use Rattle.arrays.specs.Set.{rising, all}
 use Rattle.model.specs.State.{empty, valid}
-use Rattle.sets.specs.Array.{noneIn, allZero}
+use Rattle.arrays.specs.Array.{noneIn, allZero}
 use Rattle.plan.specs.Code.{isCode}
 use Rattle.plan.specs.Work as work
 use Rattle.deck.specs.declared.Deck.{Deck}

@@ -7,7 +7,7 @@ use lib.Dec.{T, eqb}
 use lib.ListN.{length, take, replicate}
 use Rattle.model.specs.State.{State, points, Valid, valid}
 use Rattle.model.specs.Question.{listed}
-use Rattle.model.specs.File.{sameBytes}
+use Rattle.arrays.specs.Same.{sameList}
 use Rattle.tree.specs.Keys.{endsAt}
 use Rattle.plan.specs.Code.{code}
 use Rattle.plan.specs.Work.{stateAt}
@@ -40,9 +40,9 @@ pub record Sound (d : Deck) : Type 0 where
 -- Whether two decks are the same in every place.
 abbrev pub sameDeck : Deck → Deck → Bool
 sameDeck d e =
-    sameBytes (d .pins) (e .pins)
+    sameList (d .pins) (e .pins)
     && (eqb (d .npins) (e .npins)
-    && (sameBytes (d .steiner) (e .steiner) && (eqb (d .nsteiner) (e .nsteiner) && sameBytes (d .ends) (e .ends))))
+    && (sameList (d .steiner) (e .steiner) && (eqb (d .nsteiner) (e .nsteiner) && sameList (d .ends) (e .ends))))
 
 -- Soundness as a test (check 11).
 unfoldable pub sound : Deck → Bool

@@ -6,9 +6,9 @@ ghost use mathlib.Core.Bool.{Bool, _&&_};
 ghost use Prim.Native.Nat.{_≤_};
 ghost use lib.Dec.{ltb, leb, eqb};
 ghost use lib.ListN.{length, take, drop};
-ghost use Rattle.model.specs.Set.{rising, all, has};
-ghost use Rattle.model.specs.File.{sameBytes};
-ghost use Rattle.sets.specs.Array.{allZero};
+ghost use Rattle.arrays.specs.Set.{rising, all, has};
+ghost use Rattle.arrays.specs.Same.{sameList};
+ghost use Rattle.arrays.specs.Array.{allZero};
 ghost use Rattle.plan.specs.Code.{isCode};
 ghost use Rattle.plan.specs.Work as work;
 ghost use Rattle.deck.specs.Form.{deckOf, sound};
@@ -53,34 +53,19 @@ fn is_ordered(a: &[u64], n: usize) -> bool
     if !are_codes(a, n) {
         return false;
     }
-    if !sets::rises(a, n) {
+    if !arrays::sorted::rises(a, n) {
         return false;
     }
-    sets::zeros_from(a, n)
-}
-
-// Whether two slices of one length hold the same numbers.
-fn is_same(a: &[u64], b: &[u64]) -> bool
-    requires { ⌜ length (now a) ≡ length (now b) ⌝ }
-    ensures { λ r. ⌜ r ≡ sameBytes (now (a .entry)) (now (b .entry)) ⌝ }
-{
-    let mut i = 0;
-    while i < a.len() {
-        if a[i] != b[i] {
-            return false;
-        }
-        i += 1;
-    }
-    true
+    arrays::sorted::zeros_from(a, n)
 }
 
 // Whether two decks have the same ends.
 fn has_ends(d: Deck, e: Deck) -> bool
-    ensures { λ r. ⌜ r ≡ sameBytes (d .ends) (e .ends) ⌝ }
+    ensures { λ r. ⌜ r ≡ sameList (d .ends) (e .ends) ⌝ }
 {
     let a = d.ends;
     let b = e.ends;
-    is_same(&a, &b)
+    arrays::same::same_numbers(&a, &b)
 }
 
 // The deck of a working form.
@@ -132,7 +117,7 @@ fn is_arranged(d: Deck) -> bool
     if !is_ordered(&steiner, nsteiner) {
         return false;
     }
-    sets::none_in(&pins, npins, &steiner, nsteiner)
+    arrays::sorted::none_in(&pins, npins, &steiner, nsteiner)
 }
 
 // The working form of a deck's points, where they are those of a valid state; its edges are not looked at.

@@ -11,7 +11,7 @@ use Rattle.plane.proofs.Order.{listed-order}
 use Rattle.model.specs.State.{State, points, Valid}
 use Rattle.model.specs.Question.{listed, treeOf}
 use Rattle.model.specs.File.{numberOf, runBytes, runSection}
-use Rattle.model.proofs.Set.{set-of-in}
+use Rattle.arrays.proofs.Set.{set-of-in}
 use Rattle.model.proofs.Tree.{mst-run-tree, tree-edges}
 use Rattle.model.proofs.Prune.{points-rise}
 use Rattle.model.proofs.Bounds.{points-count, points-few}

@@ -7,8 +7,8 @@ use native.Mathlib.Omega.{arith}
 use lib.Dec.{T, leb, leb→le, eqb, eqb→eq}
 use lib.ListN.{length}
 use borrow.Author.Tests.{le-leb, lt-leb, not-true, not-false}
-use Rattle.plane.specs.Test.{if}
-use Rattle.plane.proofs.Test.{and-parts}
+use Rattle.arrays.specs.Test.{if}
+use Rattle.arrays.proofs.Test.{and-parts}
 use Rattle.model.specs.Refusal.{check, firstFailed}
 use Rattle.model.specs.State.{maxPins, placed}
 use Rattle.model.specs.File.{readBy, readFile, offset, size, headed, laidOut, whole, shown, showsDeck}

@@ -8,8 +8,8 @@ use native.Mathlib.Omega.{arith}
 use lib.Dec.{T, not-T, leb, leb→le, eqb, eqb→eq}
 use lib.ListN.{length, take, drop}
 use lib.Seq.{take-at}
-use Rattle.plane.specs.Test.{if}
-use Rattle.plane.proofs.Test.{and-parts}
+use Rattle.arrays.specs.Test.{if}
+use Rattle.arrays.proofs.Test.{and-parts}
 use Rattle.model.specs.State.{State, empty, Valid}
 use Rattle.model.specs.File.{Read, deck, refusal, readFile, size, plain, sectionOf, runSection, fileOf}
 use Rattle.model.proofs.Bytes.{section-length}

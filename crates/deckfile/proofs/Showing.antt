@@ -6,13 +6,14 @@ use Prim.Native.Nat.{ℕ, _+_, _-_, _*_, _/_, _<_}
 use native.Mathlib.Omega.{arith}
 use lib.Dec.{T, eqb, eqb→eq}
 use lib.ListN.{length, take, drop, replicate, length-map, length-take, length-drop}
-use Rattle.plane.specs.Test.{if}
-use Rattle.plane.proofs.Test.{and-parts, and-both, same-test, false-of}
+use Rattle.arrays.specs.Test.{if}
+use Rattle.arrays.proofs.Test.{and-parts, and-both, same-test, false-of}
 use Rattle.model.specs.State.{State, empty, Placed, placed, valid}
-use Rattle.model.specs.File.{offset, size, section, shown, plain, sameBytes, runSection}
+use Rattle.arrays.specs.Same.{sameList}
+use Rattle.model.specs.File.{offset, size, section, shown, plain, runSection}
 use Rattle.model.proofs.Validity.{placed-is, valid-is}
 use Rattle.model.proofs.FileSize.{steiner-few}
-use Rattle.model.proofs.FileParts.{same-eq}
+use Rattle.arrays.proofs.same.Alike.{same-eq}
 use Rattle.plan.specs.Code.{code}
 use Rattle.plan.proofs.Changing.{drop-zeros}
 use Rattle.deck.specs.declared.Deck.{Deck}
@@ -115,7 +116,7 @@ module _ (b : List ℕ) (d : Sections b) where
     pick bare ok same = if (bare || (ok && same)) (λ _. accepting (deckOf s)) (λ _. refusing 6)
 
     same-edges : Bool
-    same-edges = sameBytes (section b 2) (runSection s)
+    same-edges = sameList (section b 2) (runSection s)
 
     by-tests : {x y z : Bool} → plain b ≡ x → valid s ≡ y → same-edges ≡ z → pick x y z ≡ showing b
     unfolding showing pick same-edges
@@ -170,16 +171,16 @@ module _ (b : List ℕ) (d : Sections b) where
       state-back : r .ok ≡ true → stateOf (r .deck) ≡ s
       state-back e = ap stateOf (built-deck e) ∙ state-deck s is-placed
 
-      pub show-other : r .ok ≡ true → plain b ≡ false → sameBytes (section b 2) (runSection (stateOf (r .deck))) ≡ false → refusing 6 ≡ showing b
+      pub show-other : r .ok ≡ true → plain b ≡ false → sameList (section b 2) (runSection (stateOf (r .deck))) ≡ false → refusing 6 ≡ showing b
       unfolding pick same-edges
       show-other e f g =
-          by-tests f (built-as true e) (ap (λ (x : State). sameBytes (section b 2) (runSection x)) (sym (state-back e)) ∙ g)
+          by-tests f (built-as true e) (ap (λ (x : State). sameList (section b 2) (runSection x)) (sym (state-back e)) ∙ g)
 
-      pub show-same : r .ok ≡ true → plain b ≡ false → sameBytes (section b 2) (runSection (stateOf (r .deck))) ≡ true → accepting (r .deck) ≡ showing b
+      pub show-same : r .ok ≡ true → plain b ≡ false → sameList (section b 2) (runSection (stateOf (r .deck))) ≡ true → accepting (r .deck) ≡ showing b
       unfolding pick same-edges
       show-same e f g =
           ap accepting (built-deck e)
-          ∙ by-tests f (built-as true e) (ap (λ (x : State). sameBytes (section b 2) (runSection x)) (sym (state-back e)) ∙ g)
+          ∙ by-tests f (built-as true e) (ap (λ (x : State). sameList (section b 2) (runSection x)) (sym (state-back e)) ∙ g)
 
 -- The third section and the edges of a sound deck.
 module _ (b : List ℕ) (d : Sections b) (k : Deck) (s : Sound k) where
@@ -187,13 +188,13 @@ module _ (b : List ℕ) (d : Sections b) (k : Deck) (s : Sound k) where
   third-length = omega (arith, length-take (size b 2) (drop (offset b 2) b), length-drop (offset b 2) b, d .offset₂, d .total)
 
   pub edges-other : (v n : ℕ) → v ≡ size b 2 → n ≡ k .npins + k .nsteiner - 1 → ¬ (v ≡ 2 * n)
-      → false ≡ sameBytes (section b 2) (runSection (stateOf k))
+      → false ≡ sameList (section b 2) (runSection (stateOf k))
   edges-other v n e f g =
-      sym (false-of (sameBytes (section b 2) (runSection (stateOf k)))
+      sym (false-of (sameList (section b 2) (runSection (stateOf k)))
       (λ t. g (let q : length (section b 2) ≡ length (runSection (stateOf k)) = ap length (same-eq (section b 2) (runSection (stateOf k)) t) in
       omega (arith, third-length, edges-long k s))))
 
   pub edges-same : (v n at : ℕ) → v ≡ size b 2 → n ≡ k .npins + k .nsteiner - 1 → v ≡ 2 * n → at ≡ offset b 2
-      → sameBytes (take (2 * n) (drop at b)) (edgeBytes (take n (k .ends))) ≡ sameBytes (section b 2) (runSection (stateOf k))
+      → sameList (take (2 * n) (drop at b)) (edgeBytes (take n (k .ends))) ≡ sameList (section b 2) (runSection (stateOf k))
   edges-same v n at e f g h =
-      ap₂ sameBytes (ap₂ (λ (z y : ℕ). take z (drop y b)) (sym g ∙ e) h) (ap (λ (z : ℕ). edgeBytes (take z (k .ends))) f ∙ edges-are k s)
+      ap₂ sameList (ap₂ (λ (z y : ℕ). take z (drop y b)) (sym g ∙ e) h) (ap (λ (z : ℕ). edgeBytes (take z (k .ends))) f ∙ edges-are k s)

@@ -7,9 +7,9 @@ use native.Mathlib.Omega.{arith}
 use lib.Dec.{T, leb, leb→le}
 use lib.ListN.{length, take, drop}
 use borrow.Author.Tests.{le-leb, lt-leb}
-use Rattle.plane.specs.Test.{if}
+use Rattle.arrays.specs.Test.{if}
 use Rattle.plane.specs.Stored.{pointAt}
-use Rattle.plane.proofs.Test.{and-parts, true-of}
+use Rattle.arrays.proofs.Test.{and-parts, true-of}
 use Rattle.model.specs.File.{pointBytes, sectionOf, header, fileOf}
 use Rattle.model.proofs.Bytes.{section-length}
 use Rattle.model.proofs.FileSize.{file-length, listed-count}

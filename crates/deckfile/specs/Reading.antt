@@ -2,7 +2,7 @@
 use mathlib.Core.Bool.{true, false}
 use mathlib.Core.List.{List}
 use Prim.Native.Nat.{ℕ}
-use Rattle.plane.specs.Test.{if}
+use Rattle.arrays.specs.Test.{if}
 use Rattle.model.specs.State.{State, empty, valid}
 use Rattle.model.specs.File.{Read, deck, refusal, readFile, shown, showsDeck}
 use Rattle.deck.specs.declared.Deck.{Deck}

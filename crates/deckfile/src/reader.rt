@@ -13,7 +13,8 @@ ghost use mathlib.Core.Path.{_≡_};
 ghost use Prim.Native.Nat.{_≤_};
 ghost use lib.Dec.{T};
 ghost use Rattle.model.specs.State.{placed};
-ghost use Rattle.model.specs.File.{size, section, shown, sameBytes, runSection};
+ghost use Rattle.arrays.specs.Same.{sameList};
+ghost use Rattle.model.specs.File.{size, section, shown, runSection};
 ghost use Rattle.deck.specs.Form.{Sound, stateOf};
 ghost use Rattle.sections.specs.Layout.{Sections, FewPins};
 ghost use Rattle.deckfile.specs.Reading.{refusing, accepting, builtOf, showing};
@@ -59,7 +60,7 @@ fn points_deck(b: &[u8]) -> Built
 fn has_edges(b: &[u8], d: Deck) -> bool
     requires { ⌜ Sections (now b) ⌝ }
     requires { ⌜ Sound d ⌝ }
-    ensures { λ r. ⌜ r ≡ sameBytes (section (now (b .entry)) 2) (runSection (stateOf d)) ⌝ }
+    ensures { λ r. ⌜ r ≡ sameList (section (now (b .entry)) 2) (runSection (stateOf d)) ⌝ }
 {
     let n = edges_of(d.npins + d.nsteiner);
     if number4(b, 26) != 2 * n {

@@ -4,7 +4,7 @@ use mathlib.Core.List.{List, [], _∷_, _++_}
 use Prim.Native.Nat.{ℕ, _≤_}
 use lib.Dec.{ltb, eqb}
 use lib.ListN.{length, take}
-use Rattle.plane.specs.Test.{if}
+use Rattle.arrays.specs.Test.{if}
 use Rattle.model.specs.State.{empty}
 use Rattle.deck.specs.declared.Deck.{Deck}
 use Rattle.deck.specs.Form.{deckOf}

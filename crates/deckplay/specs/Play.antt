@@ -6,7 +6,7 @@ use lib.Dec.{leb, eqb}
 use lib.IntN.{ℤ}
 use lib.ListN.{length}
 use Rattle.io.specs.Counts as io
-use Rattle.plane.specs.Test.{if}
+use Rattle.arrays.specs.Test.{if}
 use Rattle.plane.specs.Octant.{octant}
 use Rattle.model.specs.Call as call
 use Rattle.model.specs.File.{fileOf}

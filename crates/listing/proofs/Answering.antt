@@ -5,7 +5,7 @@ use Prim.Native.Nat.{ℕ}
 use native.Mathlib.Omega.{arith}
 use lib.Dec.{T}
 use lib.ListN.{length}
-use Rattle.plane.specs.Test.{if}
+use Rattle.arrays.specs.Test.{if}
 use Rattle.model.specs.Listing.{listing, refusedLine}
 use Rattle.deck.specs.declared.Deck.{Deck}
 use Rattle.questions.specs.declared.Answer.{Answer}

@@ -10,21 +10,22 @@ use lib.ListN.{length, take, getD, replicate, length-map}
 use lib.Seq.{length-take-le, getD-take}
 use Rattle.plane.specs.Point.{Point, lower}
 use Rattle.plane.specs.Edge.{Edge, listedBefore, planar}
-use Rattle.plane.proofs.Test.{and-parts, by-test}
-use Rattle.plane.proofs.Order.{nat-order, lower-order, listed-order}
-use Rattle.model.specs.Set.{tie, union}
+use Rattle.arrays.proofs.Test.{and-parts, by-test}
+use Rattle.arrays.proofs.Order.{nat-order}
+use Rattle.plane.proofs.Order.{lower-order, listed-order}
+use Rattle.arrays.specs.Set.{tie, union}
 use Rattle.model.specs.Tree.{mst}
 use Rattle.model.specs.State.{points}
 use Rattle.model.specs.Question as question
 use Rattle.model.specs.File.{numberOf}
 use Rattle.model.specs.Listing.{listing, tapLines, runLines}
-use Rattle.model.proofs.Set.{tie-eq, no-tie, union-in, set-of-in}
+use Rattle.arrays.proofs.Set.{tie-eq, no-tie, union-in, set-of-in}
 use Rattle.model.proofs.Tree.{mst-run-tree, tree-edges}
 use Rattle.model.proofs.Prune.{points-rise}
 use Rattle.model.proofs.Bounds.{points-few}
 use Rattle.model.proofs.FileSize.{listed-count, number-below}
-use Rattle.sets.specs.Array.{Written}
-use Rattle.sets.proofs.Results.{written-part}
+use Rattle.arrays.specs.Array.{Written}
+use Rattle.arrays.proofs.sorted.Results.{written-part}
 use Rattle.tree.specs.Keys.{endsAt}
 use Rattle.plan.specs.Code.{pointOf, isCode}
 use Rattle.plan.proofs.Arranging.{codes-count}

@@ -3,7 +3,7 @@ use mathlib.Core.Path.{_≡_}
 use mathlib.Core.List.{List}
 use Prim.Native.Nat.{ℕ}
 use lib.Dec.{T}
-use Rattle.plane.specs.Test.{if}
+use Rattle.arrays.specs.Test.{if}
 use Rattle.model.specs.Question.{lengthOfState}
 use Rattle.model.specs.Listing.{listing, refusedLine}
 use Rattle.deck.specs.declared.Deck.{Deck}

@@ -88,7 +88,7 @@ fn write_runs(d: Deck, out: &mut [u8], at: usize) -> usize
     let pins = d.pins;
     let steiner = d.steiner;
     let mut codes = [0u64; 128];
-    let n = sets::union(&pins, d.npins, &steiner, d.nsteiner, &mut codes);
+    let n = arrays::sorted::union(&pins, d.npins, &steiner, d.nsteiner, &mut codes);
     let ends = d.ends;
     run_lines(out, at, &codes, n, &ends, edges_of(n))
 }

@@ -6,19 +6,19 @@ use Prim.Native.Nat.{ℕ, suc, _+_, _≤_}
 use native.Mathlib.Omega.{arith}
 use lib.Dec.{T}
 use lib.ListN.{length}
-use Rattle.spanning.specs.Order.{Sorted}
-use Rattle.spanning.proofs.Sorted.{sorted-distinct}
+use Rattle.arrays.specs.Order.{Sorted}
+use Rattle.arrays.proofs.Members.{sorted-distinct}
 use Rattle.spanning.proofs.Totals.{total-most}
 use Rattle.spanning.proofs.Count.{tree-count, tree-none}
 use Rattle.plane.specs.Point.{Point, inRange, lower, Lower}
 use Rattle.plane.specs.Edge.{edgeLength, planar}
 use Rattle.plane.proofs.Order.{lower-order}
 use Rattle.plane.proofs.Range.{dist-range}
-use Rattle.model.specs.Set.{put}
+use Rattle.arrays.specs.Set.{put}
 use Rattle.model.specs.Tree.{mst, treeLength}
 use Rattle.model.specs.State.{State, points, Valid}
 use Rattle.model.specs.Demand3.{mostPoints, longestTree}
-use Rattle.model.proofs.Set.{put-in, put-sorted, put-length, union-length}
+use Rattle.arrays.proofs.Set.{put-in, put-sorted, put-length, union-length}
 use Rattle.model.proofs.Tree.{mst-run-tree}
 use Rattle.model.proofs.Prune.{points-in, points-rise, few-steiner}
 use Rattle.model.specs.Choice.{Candidate}

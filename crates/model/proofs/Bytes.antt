@@ -13,7 +13,7 @@ use lib.ListN.{length, drop, getD}
 use lib.Seq.{getD-append-add, drop-cons}
 use Rattle.plane.specs.Point.{Point, coordinateInRange, inRange}
 use Rattle.plane.specs.Coordinate.{signed16, word16}
-use Rattle.plane.proofs.Test.{and-parts}
+use Rattle.arrays.proofs.Test.{and-parts}
 use Rattle.plane.proofs.Range.{range-values}
 use Rattle.plane.proofs.Stored.{moved, signed-value}
 use Rattle.plane.proofs.Whole.{plus, minus, one-sided, whole-ext}

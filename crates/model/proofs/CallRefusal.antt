@@ -9,13 +9,13 @@ use lib.Dec.{T, not-T, ltb, ltb→lt, lt→ltb, nltb→le}
 use lib.ListN.{length}
 use Rattle.plane.specs.Point.{Point, inRange, lower}
 use Rattle.plane.proofs.Order.{lower-order}
-use Rattle.model.specs.Set.{has}
+use Rattle.arrays.specs.Set.{has}
 use Rattle.model.specs.Refusal.{FirstFailed, here, later}
 use Rattle.model.specs.State.{State}
 use Rattle.model.specs.Call.{add, addChecks, withdrawChecks}
 use Rattle.model.specs.CallRefusal.{RefusedBy, AddRefusals, WithdrawRefusals}
 use Rattle.model.proofs.Refusal.{add-refused, add-taken, withdraw-refused, withdraw-taken}
-use Rattle.model.proofs.Set.{has-in, has-not}
+use Rattle.arrays.proofs.Set.{has-in, has-not}
 
 module _ (s : State) (p : Point) where
   -- The three checks of adding: which of them failed first.

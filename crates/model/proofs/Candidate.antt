@@ -9,15 +9,15 @@ use native.Mathlib.Omega.{arith}
 use lib.Dec.{T, not-T}
 use lib.IntN.{ℤ, subℕ}
 use lib.Signed.{ltZ}
-use Rattle.spanning.specs.Order.{Sorted}
+use Rattle.arrays.specs.Order.{Sorted}
 use Rattle.plane.specs.Point.{Point, lower, Lower}
 use Rattle.plane.proofs.Whole.{sub-value, less-value, value-less}
 use Rattle.plane.proofs.Order.{lower-order, whole-order}
-use Rattle.plane.proofs.Test.{by-test, thenBy-first, thenBy-next}
-use Rattle.model.specs.Set.{has, setOf}
+use Rattle.arrays.proofs.Test.{by-test, thenBy-first, thenBy-next}
+use Rattle.arrays.specs.Set.{has, setOf}
 use Rattle.model.specs.Round.{column, crossings, notHeld, candidates}
 use Rattle.model.specs.Choice.{Candidate}
-use Rattle.model.proofs.Set.{has-in, has-not, set-of-in, set-of-sorted, sorted-append}
+use Rattle.arrays.proofs.Set.{has-in, has-not, set-of-in, set-of-sorted, sorted-append}
 
 pub map-in : {A B : Type 0} (f : A → B) (l : List A) (b : B) → List·Memᴰ b (map f l) ↔ ((a : A) × List·Memᴰ a l × (b ≡ f a))
 map-in f [] b = (λ i. absurd (not-nil i), λ r. absurd (not-nil (r .1)))

@@ -10,12 +10,12 @@ use native.Mathlib.Decide.{decLt}
 use lib.Dec.{T, T-not}
 use lib.IntN.{ℤ, pos}
 use lib.Signed.{ltZ}
-use Rattle.spanning.specs.Order.{Sorted}
+use Rattle.arrays.specs.Order.{Sorted}
 use Rattle.plane.specs.Point.{Point, lower, Lower}
 use Rattle.plane.proofs.Whole.{sub-value, less-value, value-less}
 use Rattle.plane.proofs.Order.{lower-order, whole-order}
-use Rattle.plane.proofs.Test.{by-test}
-use Rattle.model.specs.Set.{put}
+use Rattle.arrays.proofs.Test.{by-test}
+use Rattle.arrays.specs.Set.{put}
 use Rattle.model.specs.Tree.{treeLength}
 use Rattle.model.specs.Round.{candidates, saving, bestAbove, best}
 use Rattle.model.specs.Choice.{Candidate, saved, Chosen}

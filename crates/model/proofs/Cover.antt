@@ -7,7 +7,7 @@ use Prim.Native.Nat.{ℕ, _+_, _≤_}
 use native.Mathlib.Nat.{le-trans}
 use native.Mathlib.Omega.{arith}
 use Rattle.spanning.specs.Graph.{Conn, stop, In, Tree, total}
-use Rattle.spanning.specs.Order.{StrictTotal, Sorted}
+use Rattle.arrays.specs.Order.{StrictTotal, Sorted}
 use Rattle.spanning.specs.Kruskal.{kruskal}
 use Rattle.spanning.proofs.Conn.{conn-cast, conn-edge, conn-sym, conn-mono, conn-bind}
 use Rattle.spanning.proofs.Cover.{cover}

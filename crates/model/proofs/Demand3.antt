@@ -3,7 +3,7 @@ use mathlib.Core.List.{List·Memᴰ·not-nil as not-nil}
 use Prim.Native.Nat.{_≤_}
 use native.Mathlib.Omega.{arith}
 use lib.ListN.{length}
-use Rattle.spanning.specs.Order.{Sorted}
+use Rattle.arrays.specs.Order.{Sorted}
 use Rattle.plane.specs.Point.{Lower}
 use Rattle.model.specs.Tree.{treeLength}
 use Rattle.model.specs.State.{State, empty, points, Valid}

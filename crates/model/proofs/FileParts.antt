@@ -4,31 +4,20 @@ use mathlib.Core.Path.{_≡_, refl, sym, ap, ap₂, _∙_, subst}
 use mathlib.Core.List.{List, [], _∷_, _++_, append-nil, List·Memᴰ, Memᴰ·append-left, Memᴰ·append-right}
 use Prim.Native.Nat.{ℕ, _+_, _%_, _≤_, _<_}
 use native.Mathlib.Omega.{arith}
-use lib.Dec.{T, leb, leb→le, eqb, eqb→eq, eqb-refl}
+use lib.Dec.{T, leb, leb→le, eqb, eqb→eq}
 use lib.ListN.{length, take, drop, length-append, length-take, length-drop, take-append-drop}
 use lib.Seq.{take-append-seam, drop-append-seam, drop-drop, take-all}
-use Rattle.plane.proofs.Test.{and-parts, and-both}
+use Rattle.arrays.proofs.Test.{and-parts}
+use Rattle.arrays.proofs.same.Alike.{same-eq}
 use Rattle.model.specs.State.{State}
-use Rattle.model.specs.File.{magic, headerSize, longest, bytes2, bytes4, header, number2, number4, offset, size, section, sameBytes}
+use Rattle.arrays.specs.Same.{sameList}
+use Rattle.model.specs.File.{magic, headerSize, longest, bytes2, bytes4, header, number2, number4, offset, size, section}
 use Rattle.model.proofs.Bytes.{Bytes, number4-bytes4, split2, split4}
 use Rattle.model.proofs.FileValid.{Accepted}
 
 -- The file of three sections.
 unfoldable pub joined : List ℕ → List ℕ → List ℕ → List ℕ
 joined P Q R = header (length P) (length Q) (length R) ++ (P ++ (Q ++ R))
-
--- Whether two lists of bytes are the same.
-pub same-refl : (l : List ℕ) → T (sameBytes l l)
-unfolding sameBytes
-same-refl [] = tt
-same-refl (a ∷ l) = and-both (eqb a a) (sameBytes l l) (eqb-refl a) (same-refl l)
-
-pub same-eq : (l m : List ℕ) → T (sameBytes l m) → l ≡ m
-unfolding sameBytes
-same-eq [] [] t = refl
-same-eq [] (b ∷ m) t = absurd t
-same-eq (a ∷ l) [] t = absurd t
-same-eq (a ∷ l) (b ∷ m) t = let r = and-parts (eqb a b) (sameBytes l m) t in ap₂ (λ x k. x ∷ k) (eqb→eq a b (r .0)) (same-eq l m (r .1))
 
 -- What a file of three sections says in its header, and where the sections are.
 pub record Laid (b P Q R : List ℕ) : Type 0 where
@@ -107,7 +96,7 @@ pub header-of : (b : List ℕ) (s : State) → Accepted b s → Header b
 header-of b s a =
     let h₁ = and-parts (leb headerSize (length b)) _ (a .header) in
     let h₂ = and-parts (leb (length b) longest) _ (h₁ .1) in
-    let h₃ = and-parts (sameBytes (take 4 b) magic) _ (h₂ .1) in
+    let h₃ = and-parts (sameList (take 4 b) magic) _ (h₂ .1) in
     let l₁ = and-parts (eqb (offset b 0) headerSize) _ (a .layout) in
     let l₂ = and-parts (eqb (offset b 1) (offset b 0 + size b 0)) _ (l₁ .1) in
     let l₃ = and-parts (eqb (offset b 2) (offset b 1 + size b 1)) _ (l₂ .1) in

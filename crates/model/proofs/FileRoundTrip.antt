@@ -10,15 +10,17 @@ use lib.Dec.{T, T-not, leb, le→leb, eqb, eqb→eq}
 use lib.Ieee.Fits.{eq→eqb}
 use lib.ListN.{length, take}
 use Rattle.plane.specs.Point.{Point}
-use Rattle.plane.proofs.Test.{and-parts, and-both}
+use Rattle.arrays.proofs.Test.{and-parts, and-both}
 use Rattle.model.specs.State.{State, points, Valid}
 use Rattle.model.specs.Question.{listed}
-use Rattle.model.specs.File.{magic, headerSize, longest, header, offset, size, section, sameBytes, plain, sectionOf, pointsOf, runSection, fileOf, deck, readFile}
+use Rattle.arrays.specs.Same.{sameList}
+use Rattle.model.specs.File.{magic, headerSize, longest, header, offset, size, section, plain, sectionOf, pointsOf, runSection, fileOf, deck, readFile}
 use Rattle.model.proofs.Prune.{points-rise}
 use Rattle.model.proofs.Bounds.{points-count, edges-fewer}
 use Rattle.model.proofs.Bytes.{points-section, section-points, section-length}
 use Rattle.model.proofs.FileSize.{file-size, steiner-few, edges-few, listed-count, runs-length}
-use Rattle.model.proofs.FileParts.{joined, same-refl, same-eq, Laid, joined-laid, Header, header-of, part-bytes, Lengths, lengths, sections-joined}
+use Rattle.arrays.proofs.same.Alike.{same-refl, same-eq}
+use Rattle.model.proofs.FileParts.{joined, Laid, joined-laid, Header, header-of, part-bytes, Lengths, lengths, sections-joined}
 use Rattle.model.proofs.FileValid.{Accepted, accepted, accept, file-valid}
 
 -- A file laid out of the sections of a valid state shows it.
@@ -28,7 +30,7 @@ laid-accepted b s v short h =
       header =
           and-both (leb headerSize (length b)) _ (le→leb headerSize (length b) (omega (arith, h .total)))
           (and-both (leb (length b) longest) _ (le→leb (length b) longest short)
-          (and-both (sameBytes (take 4 b) magic) _ (subst⁻¹ (λ (l : List ℕ). T (sameBytes l magic)) (h .start) (same-refl magic)) (eq→eqb (h .count))));
+          (and-both (sameList (take 4 b) magic) _ (subst⁻¹ (λ (l : List ℕ). T (sameList l magic)) (h .start) (same-refl magic)) (eq→eqb (h .count))));
       layout =
           and-both (eqb (offset b 0) headerSize) _ (eq→eqb (h .offset₀))
           (and-both (eqb (offset b 1) (offset b 0 + size b 0)) _ (eq→eqb {a = offset b 1} {b = offset b 0 + size b 0} (omega (arith, h)))
@@ -40,7 +42,7 @@ laid-accepted b s v short h =
           (eq→eqb {a = size b 2 % 2} {b = 0} (omega (arith, h, runs-length (points s) (listed s)))));
       few = v .few;
       points = v .placed;
-      shows = inr (v, subst⁻¹ (λ (l : List ℕ). T (sameBytes l (runSection s))) (h .section₂) (same-refl (runSection s)));
+      shows = inr (v, subst⁻¹ (λ (l : List ℕ). T (sameList l (runSection s))) (h .section₂) (same-refl (runSection s)));
       same =
           ap₂ (λ (p q : List Point). record { pins = p; steiner = q }) (ap pointsOf (h .section₀) ∙ points-section (s .pins) (v .placed .pinsRange))
           (ap pointsOf (h .section₁) ∙ points-section (s .steiner) (v .placed .steinerRange));

@@ -8,19 +8,19 @@ use Prim.Native.Nat.{ℕ, suc, _+_, _*_, _≤_, _<_}
 use native.Mathlib.Omega.{arith}
 use lib.Dec.{T}
 use lib.ListN.{length, length-append}
-use Rattle.spanning.specs.Order.{StrictTotal, Sorted}
-use Rattle.spanning.proofs.Sorted.{Distinct, sorted-distinct}
-use Rattle.plane.specs.Test.{if}
+use Rattle.arrays.specs.Order.{StrictTotal, Sorted}
+use Rattle.arrays.proofs.Members.{Distinct, sorted-distinct}
+use Rattle.arrays.specs.Test.{if}
 use Rattle.plane.specs.Point.{Point, lower, Lower}
 use Rattle.plane.specs.Edge.{Edge, listedBefore, planar}
 use Rattle.plane.proofs.Order.{lower-order, listed-order, before-order}
-use Rattle.plane.proofs.Test.{by-test}
-use Rattle.model.specs.Set.{tie, union, setOf}
+use Rattle.arrays.proofs.Test.{by-test}
+use Rattle.arrays.specs.Set.{tie, union, setOf}
 use Rattle.model.specs.Tree.{RunTree}
 use Rattle.model.specs.State.{State, points, Placed, Valid}
 use Rattle.model.specs.Question.{listed, treeOf, pinCount, steinerCount, edgeCount}
 use Rattle.model.specs.File.{bytes2, bytes4, magic, headerSize, header, sectionOf, numberOf, runBytes, runSection, fileOf}
-use Rattle.model.proofs.Set.{put-length, set-of-in, tie-eq, no-tie}
+use Rattle.arrays.proofs.Set.{put-length, set-of-in, tie-eq, no-tie}
 use Rattle.model.proofs.Tree.{mst-run-tree}
 use Rattle.model.proofs.Prune.{points-rise, few-steiner}
 use Rattle.model.proofs.Bounds.{points-few, edges-fewer}

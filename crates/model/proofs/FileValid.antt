@@ -8,10 +8,11 @@ use Prim.Native.Nat.{ℕ, zero, suc, _≤_}
 use native.Mathlib.Omega.{arith}
 use lib.Dec.{T, leb, leb→le, le→leb, eqb, eqb→eq}
 use lib.ListN.{length, take, drop}
-use Rattle.plane.proofs.Test.{and-parts, and-both}
+use Rattle.arrays.proofs.Test.{and-parts, and-both}
 use Rattle.model.specs.Refusal.{Pass}
 use Rattle.model.specs.State.{State, maxPins, Placed, Valid, placed, valid}
-use Rattle.model.specs.File.{deck, fileChecks, readFile, shown, headed, laidOut, whole, plain, section, offset, size, pointsOf, sameBytes, runSection}
+use Rattle.arrays.specs.Same.{sameList}
+use Rattle.model.specs.File.{deck, fileChecks, readFile, shown, headed, laidOut, whole, plain, section, offset, size, pointsOf, runSection}
 use Rattle.model.proofs.Refusal.{file-taken}
 use Rattle.model.proofs.Validity.{placed-is, valid-is}
 
@@ -31,7 +32,7 @@ pub record Accepted (b : List ℕ) (s : State) : Type 0 where
   pub wholes : T (whole b)
   pub few : length (s .pins) ≤ maxPins
   pub points : Placed s
-  pub shows : T (plain b) ⊎ (Valid s × T (sameBytes (section b 2) (runSection s)))
+  pub shows : T (plain b) ⊎ (Valid s × T (sameList (section b 2) (runSection s)))
   pub same : shown b ≡ s
 
 pub accepted : (b : List ℕ) (s : State) → readFile b ≡ deck s → Accepted b s
@@ -46,8 +47,8 @@ accepted b s e =
       few = leb→le (length (shown b .pins)) maxPins (p .1 .1 .1 .0);
       points = placed-is (shown b) .0 (p .1 .1 .1 .1 .0);
       shows = ⊎-elim inl
-          (λ t. let v = and-parts (valid (shown b)) (sameBytes (section b 2) (runSection (shown b))) t in inr (valid-is (shown b) .0 (v .0), v .1))
-          (either (plain b) (valid (shown b) && sameBytes (section b 2) (runSection (shown b))) (p .1 .1 .1 .1 .1 .0));
+          (λ t. let v = and-parts (valid (shown b)) (sameList (section b 2) (runSection (shown b))) t in inr (valid-is (shown b) .0 (v .0), v .1))
+          (either (plain b) (valid (shown b) && sameList (section b 2) (runSection (shown b))) (p .1 .1 .1 .1 .1 .0));
       same = refl;
     })
 
@@ -66,9 +67,9 @@ accept b s a = file-taken b s .1 (by (subst⁻¹ (Accepted b) (a .same) a), a .s
             (
               placed-is (shown b) .1 (r .points),
               (
-                either-of (plain b) (valid (shown b) && sameBytes (section b 2) (runSection (shown b)))
+                either-of (plain b) (valid (shown b) && sameList (section b 2) (runSection (shown b)))
                     (⊎-elim inl
-                    (λ v. inr (and-both (valid (shown b)) (sameBytes (section b 2) (runSection (shown b))) (valid-is (shown b) .1 (v .0)) (v .1)))
+                    (λ v. inr (and-both (valid (shown b)) (sameList (section b 2) (runSection (shown b))) (valid-is (shown b) .1 (v .0)) (v .1)))
                     (r .shows)),
                 tt,
               ),

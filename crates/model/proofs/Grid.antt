@@ -11,18 +11,18 @@ use lib.Dec.{T}
 use lib.ListN.{length}
 use lib.IntN.{ℤ}
 use Rattle.spanning.specs.Graph.{Conn, In, Tree, total}
-use Rattle.spanning.specs.Order.{Sorted}
+use Rattle.arrays.specs.Order.{Sorted}
 use Rattle.spanning.specs.Kruskal.{kruskal}
-use Rattle.spanning.proofs.Sorted.{Distinct, sorted-distinct}
+use Rattle.arrays.proofs.Members.{Distinct, sorted-distinct}
 use Rattle.spanning.proofs.Count.{forest-ends}
 use Rattle.spanning.proofs.Degree.{tree-degree-pos}
 use Rattle.plane.specs.Point.{Point, lower, Lower, dist, pointDec}
 use Rattle.plane.specs.Edge.{Edge, planar}
 use Rattle.plane.proofs.Order.{lower-order}
 use Rattle.plane.proofs.Median.{sumGap, median}
-use Rattle.model.specs.Set.{put, has, union}
+use Rattle.arrays.specs.Set.{put, has, union}
 use Rattle.model.specs.Tree.{pairs, edges, mst, lengthOf, treeLength, edgesAt}
-use Rattle.model.proofs.Set.{put-in, put-sorted, put-same, has-in, has-not}
+use Rattle.arrays.proofs.Set.{put-in, put-sorted, put-same, has-in, has-not}
 use Rattle.model.proofs.Cover.{Connects, mst-cover}
 use Rattle.model.proofs.Replace.{swap, swap-same, swap-other, replaced, star, sumDist, replaced-conn, replaced-ends, replaced-length, star-count, star-edge}
 use Rattle.model.specs.Choice.{Candidate}

@@ -17,8 +17,6 @@ pub mod Refusal
 pub mod Removal
 pub mod Replace
 pub mod Round
-pub mod Set
-pub mod SetMap
 pub mod Step
 pub mod Sweep
 pub mod Tree

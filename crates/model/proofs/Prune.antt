@@ -9,17 +9,17 @@ use native.Mathlib.Nat.{le-refl, le-trans}
 use native.Mathlib.Omega.{arith}
 use lib.Dec.{leb, leb→le, nleb→lt}
 use lib.ListN.{length}
-use Rattle.spanning.specs.Order.{Sorted}
-use Rattle.spanning.proofs.Sorted.{Distinct, sorted-distinct, sorted-ext}
+use Rattle.arrays.specs.Order.{Sorted}
+use Rattle.arrays.proofs.Members.{Distinct, sorted-distinct, sorted-ext}
 use Rattle.spanning.proofs.Degree.{branches-some}
 use Rattle.plane.specs.Point.{Point, lower, Lower}
 use Rattle.plane.specs.Edge.{Edge, planar}
 use Rattle.plane.proofs.Order.{lower-order}
-use Rattle.plane.proofs.Test.{by-test}
-use Rattle.model.specs.Set.{out}
+use Rattle.arrays.proofs.Test.{by-test}
+use Rattle.arrays.specs.Set.{out}
 use Rattle.model.specs.Tree.{mst, treeLength, edgesAt}
 use Rattle.model.specs.State.{State, points, strong, Placed, Valid, lowestWeak, without, pruneFrom, prune, maxPins}
-use Rattle.model.proofs.Set.{out-in, out-sorted, out-length, union-in, union-sorted}
+use Rattle.arrays.proofs.Set.{out-in, out-sorted, out-length, union-in, union-sorted}
 use Rattle.model.proofs.Tree.{mst-run-tree}
 use Rattle.model.proofs.Removal.{removal}
 

@@ -9,20 +9,20 @@ use native.Mathlib.Nat.{le-refl}
 use native.Mathlib.Omega.{arith}
 use lib.Dec.{T}
 use Rattle.spanning.specs.Graph.{Tree}
-use Rattle.spanning.specs.Order.{Sorted}
-use Rattle.spanning.proofs.Sorted.{sorted-ext}
+use Rattle.arrays.specs.Order.{Sorted}
+use Rattle.arrays.proofs.Members.{sorted-ext}
 use Rattle.plane.specs.Point.{Point, coordinateInRange, inRange, lower, Lower}
 use Rattle.plane.specs.Edge.{planar}
 use Rattle.plane.proofs.Order.{lower-order}
-use Rattle.plane.proofs.Test.{and-parts, and-both}
-use Rattle.model.specs.Set.{put}
+use Rattle.arrays.proofs.Test.{and-parts, and-both}
+use Rattle.arrays.specs.Set.{put}
 use Rattle.model.specs.Tree.{mst, lengthOf, treeLength}
 use Rattle.model.specs.State.{State, points, Placed, Valid, prune}
 use Rattle.model.specs.Round.{RoundAnswer, finished, tap, RoundResult, withSteiner, round, Ended, roundsFrom, finish}
 use Rattle.model.specs.Choice.{Candidate}
 use Rattle.model.specs.Question.{lengthOfState}
 use Rattle.model.specs.Demand3.{RoundsTo, ended, added, NoShorter}
-use Rattle.model.proofs.Set.{put-in, put-sorted}
+use Rattle.arrays.proofs.Set.{put-in, put-sorted}
 use Rattle.model.proofs.Tree.{mst-run-tree, tree-members}
 use Rattle.model.proofs.Prune.{points-in, points-rise, prune-leaves, prune-valid}
 use Rattle.model.proofs.Choice.{Choice, none-saves, some-chosen, best-choice, saved-shorter, unsaved-longer}

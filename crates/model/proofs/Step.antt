@@ -9,10 +9,10 @@ use lib.Dec.{T, ltb→lt}
 use lib.ListN.{length}
 use Rattle.plane.specs.Point.{Point, inRange, lower}
 use Rattle.plane.proofs.Order.{lower-order}
-use Rattle.model.specs.Set.{put, out}
+use Rattle.arrays.specs.Set.{put, out}
 use Rattle.model.specs.State.{State, Valid, insert, remove, maxPins}
 use Rattle.model.specs.Call.{addChecks, withdrawChecks, insertRefusal, removeRefusal, Call, add, withdraw, oneRound, runToEnd, unless, step, after}
-use Rattle.model.proofs.Set.{put-in, put-sorted, put-length, out-in, out-sorted, out-length, has-in, has-not}
+use Rattle.arrays.proofs.Set.{put-in, put-sorted, put-length, out-in, out-sorted, out-length, has-in, has-not}
 use Rattle.model.proofs.Prune.{prune-valid}
 use Rattle.model.proofs.Refusal.{all-passed}
 use Rattle.model.proofs.Round.{round-valid, finish-rounds, rounds-valid}

@@ -9,15 +9,15 @@ use native.Mathlib.Nat.{le-refl}
 use native.Mathlib.Omega.{arith}
 use lib.Dec.{leb→le}
 use lib.ListN.{length}
-use Rattle.spanning.specs.Order.{Sorted}
+use Rattle.arrays.specs.Order.{Sorted}
 use Rattle.plane.specs.Point.{Point, lower, Lower}
 use Rattle.plane.specs.Edge.{Edge}
 use Rattle.plane.proofs.Order.{lower-order}
-use Rattle.plane.proofs.Test.{by-test}
+use Rattle.arrays.proofs.Test.{by-test}
 use Rattle.model.specs.Tree.{mst, edgesAt, TheTree}
 use Rattle.model.specs.State.{State, points, strong, lowestWeak, without, pruneFrom, prune}
 use Rattle.model.specs.Choice.{LowestWeak, SweptTo, kept, taken}
-use Rattle.model.proofs.Set.{out-sorted, out-length}
+use Rattle.arrays.proofs.Set.{out-sorted, out-length}
 use Rattle.model.proofs.Tree.{mst-the-tree, the-tree-unique}
 use Rattle.model.proofs.Choice.{same-lowest}
 use Rattle.model.proofs.Prune.{points-rise, LowestWeakView, all-strong, weak, lowest-weak-view, none-there, prune-step, prune-stop}

@@ -7,19 +7,19 @@ use Prim.Native.Nat.{_-_}
 use native.Mathlib.Omega.{arith}
 use lib.ListN.{length}
 use Rattle.spanning.specs.Graph.{Conn, stop, In, Tree}
-use Rattle.spanning.specs.Order.{Sorted}
+use Rattle.arrays.specs.Order.{Sorted}
 use Rattle.spanning.proofs.Conn.{conn-edge, conn-sym}
 use Rattle.spanning.proofs.Least.{Spanning, least, least-first, unique-least}
 use Rattle.spanning.proofs.Kruskal.{kruskal-in, kruskal-sorted}
-use Rattle.spanning.proofs.Sorted.{sorted-ext, sorted-distinct}
+use Rattle.arrays.proofs.Members.{sorted-ext, sorted-distinct}
 use Rattle.spanning.proofs.Count.{tree-count, tree-none}
 use Rattle.spanning.proofs.Tree.{Links, tree-spanning, spanning-tree, kruskal-tree}
 use Rattle.plane.specs.Point.{Point, lower, Lower}
 use Rattle.plane.specs.Edge.{Edge, Rising, edgeLength, before, Before, planar}
 use Rattle.plane.proofs.Order.{lower-order, before-order, before-length}
-use Rattle.model.specs.Set.{setOf}
+use Rattle.arrays.specs.Set.{setOf}
 use Rattle.model.specs.Tree.{pairs, edges, mst, RunTree, TheTree}
-use Rattle.model.proofs.Set.{set-of-in, set-of-sorted}
+use Rattle.arrays.proofs.Set.{set-of-in, set-of-sorted}
 
 abbrev edge : Point → Point → Edge
 edge p q = record { lo = p; hi = q }

@@ -6,15 +6,15 @@ use mathlib.Core.List.{List, List·Memᴰ}
 use Prim.Native.Nat.{_≤_}
 use lib.Dec.{T, leb, leb→le, le→leb}
 use lib.ListN.{length}
-use Rattle.spanning.specs.Order.{Sorted}
+use Rattle.arrays.specs.Order.{Sorted}
 use Rattle.plane.specs.Point.{Point, inRange, lower, Lower}
 use Rattle.plane.specs.Edge.{Edge}
 use Rattle.plane.proofs.Order.{lower-order}
-use Rattle.plane.proofs.Test.{and-parts, and-both}
-use Rattle.model.specs.Set.{has, rising, all}
+use Rattle.arrays.proofs.Test.{and-parts, and-both}
+use Rattle.arrays.specs.Set.{has, rising, all}
 use Rattle.model.specs.Tree.{mst, edgesAt}
 use Rattle.model.specs.State.{State, points, strong, maxPins, Placed, Valid, placed, valid}
-use Rattle.model.proofs.Set.{all-in, has-not, rising-sorted}
+use Rattle.arrays.proofs.Set.{all-in, has-not, rising-sorted}
 
 -- Two tests, each of which decides a statement, decide both.
 both-is : (a b : Bool) {A B : Type 0} → T a ↔ A → T b ↔ B → T (a && b) ↔ (A × B)

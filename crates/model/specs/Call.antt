@@ -6,7 +6,7 @@ use Prim.Native.Nat.{ℕ}
 use lib.Dec.{ltb}
 use lib.ListN.{length}
 use Rattle.plane.specs.Point.{Point, inRange, lower}
-use Rattle.model.specs.Set.{has}
+use Rattle.arrays.specs.Set.{has}
 use Rattle.model.specs.Refusal.{Check, check, firstFailed}
 use Rattle.model.specs.State.{State, insert, remove, maxPins}
 use Rattle.model.specs.Round.{RoundAnswer, round, finish}

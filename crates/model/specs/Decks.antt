@@ -9,14 +9,15 @@ use Rattle.plane.specs.Point.{Point, lower, gap, dist, pointDec}
 use Rattle.plane.specs.Edge.{Edge, before, listedBefore, planar}
 use Rattle.plane.specs.Coordinate.{signed16, word16}
 use Rattle.plane.specs.OctantTable.{octants}
-use Rattle.model.specs.Set.{put, out, has, union, rising, all}
+use Rattle.arrays.specs.Set.{put, out, has, union, rising, all}
 use Rattle.model.specs.Refusal.{firstFailed}
 use Rattle.model.specs.Tree.{pairs, edges, mst, treeLength}
 use Rattle.model.specs.State.{State, points, placed, valid, lowestWeak, pruneFrom, prune, insert, remove}
 use Rattle.model.specs.Round.{column, crossings, notHeld, candidates, saving, bestAbove, best, round, roundsFrom, finish}
 use Rattle.model.specs.Call.{Call, Reply, insertRefusal, removeRefusal, step}
 use Rattle.model.specs.Question.{lengthOfState, listed}
-use Rattle.model.specs.File.{Read, deck, sectionOf, numberOf, runBytes, fileOf, sameBytes, pointsOf, readBy, readFile}
+use Rattle.arrays.specs.Same.{sameList}
+use Rattle.model.specs.File.{Read, deck, sectionOf, numberOf, runBytes, fileOf, pointsOf, readBy, readFile}
 
 -- What a list of calls shows: each reply, the tree's length at the start and after each call, and the last state with its runs in listing order.
 pub record Trace : Type 0 where
@@ -36,7 +37,7 @@ play s (c ∷ cs) =
 
 -- What reading a list of bytes gives.
 unfoldable pub reads : List ℕ → Read
-unfolding play rising all placed valid signed16 word16 sectionOf numberOf runBytes sameBytes pointsOf readBy readFile
+unfolding play rising all placed valid signed16 word16 sectionOf numberOf runBytes sameList pointsOf readBy readFile
 reads b = readFile b
 
 -- A row of calls: pins to begin with, calls, and what they must show.

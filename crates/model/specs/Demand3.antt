@@ -7,7 +7,7 @@ use lib.ListN.{length}
 use Rattle.spanning.specs.Graph.{Tree}
 use Rattle.plane.specs.Point.{Point, lower}
 use Rattle.plane.specs.Edge.{Edge, planar}
-use Rattle.model.specs.Set.{put}
+use Rattle.arrays.specs.Set.{put}
 use Rattle.model.specs.Tree.{lengthOf, treeLength}
 use Rattle.model.specs.State.{State, empty, points, Valid}
 use Rattle.model.specs.Round.{finished, tap, candidates, round, finish}

@@ -5,11 +5,12 @@ use mathlib.Core.List.{List, [], _∷_, _++_}
 use Prim.Native.Nat.{ℕ, suc, _+_, _*_, _/_, _%_}
 use lib.Dec.{leb, eqb}
 use lib.ListN.{length, take, drop, getD}
-use Rattle.plane.specs.Test.{if}
+use Rattle.arrays.specs.Test.{if}
 use Rattle.plane.specs.Point.{Point, lower}
 use Rattle.plane.specs.Edge.{Edge}
 use Rattle.plane.specs.Coordinate.{signed16, word16}
-use Rattle.model.specs.Set.{tie}
+use Rattle.arrays.specs.Same.{sameList}
+use Rattle.arrays.specs.Set.{tie}
 use Rattle.model.specs.Refusal.{Check, check, firstFailed}
 use Rattle.model.specs.State.{State, points, placed, valid, maxPins}
 use Rattle.model.specs.Question.{listed}
@@ -84,13 +85,6 @@ number2 b i = getD b i 0 + 256 * getD b (i + 1) 0
 abbrev pub number4 : List ℕ → ℕ → ℕ
 number4 b i = number2 b i + 65536 * number2 b (i + 2)
 
--- Whether two lists of bytes are the same.
-unfoldable pub sameBytes : List ℕ → List ℕ → Bool
-sameBytes [] [] = true
-sameBytes [] (b ∷ m) = false
-sameBytes (a ∷ l) [] = false
-sameBytes (a ∷ l) (b ∷ m) = eqb a b && sameBytes l m
-
 -- The points of a section, four bytes each.
 unfoldable pub pointsOf : List ℕ → List Point
 pointsOf [] = []
@@ -112,7 +106,7 @@ section b k = take (size b k) (drop (offset b k) b)
 -- 1: "under 30 or over 784 bytes, other first four bytes, or a section count other than 3"
 abbrev pub headed : List ℕ → Bool
 headed b =
-    leb headerSize (length b) && (leb (length b) longest && (sameBytes (take 4 b) magic && eqb (number2 b 4) 3))
+    leb headerSize (length b) && (leb (length b) longest && (sameList (take 4 b) magic && eqb (number2 b 4) 3))
 
 -- 2: "The first section starts at byte 30, each other where the one before ends, and the last ends with the file."
 abbrev pub laidOut : List ℕ → Bool
@@ -136,7 +130,7 @@ plain b = eqb (size b 1) 0 && eqb (size b 2) 0
 -- 6: "not plain, and its runs break the order or number rules above, or it shows no sound deck". The runs of a sound deck are
 -- those of its tree in the listing order, so they are the runs section of the state.
 abbrev pub showsDeck : List ℕ → State → Bool
-showsDeck b s = plain b || (valid s && sameBytes (section b 2) (runSection s))
+showsDeck b s = plain b || (valid s && sameList (section b 2) (runSection s))
 
 -- The checks of a file, in their order; each definition above says what its check asks.
 abbrev pub fileChecks : List ℕ → List Check

@@ -10,7 +10,6 @@ pub mod Listing
 pub mod Question
 pub mod Refusal
 pub mod Round
-pub mod Set
 pub mod State
 pub mod Table
 pub mod TableFiles

@@ -5,7 +5,7 @@ use Prim.Native.Nat.{ℕ}
 use lib.ListN.{length, getElem?}
 use Rattle.plane.specs.Point.{Point}
 use Rattle.plane.specs.Edge.{Edge, listedBefore}
-use Rattle.model.specs.Set.{setOf}
+use Rattle.arrays.specs.Set.{setOf}
 use Rattle.model.specs.Tree.{mst, treeLength, edgesAt}
 use Rattle.model.specs.State.{State, points}
 

@@ -5,7 +5,7 @@ use mathlib.Core.Option.{Option, none, some}
 use mathlib.Core.List.{List, [], _∷_}
 use Prim.Native.Nat.{ℕ}
 use lib.Dec.{T}
-use Rattle.plane.specs.Test.{if}
+use Rattle.arrays.specs.Test.{if}
 
 -- The number of a refusal, and the test that must pass. The test is worked out only where all tests before it pass.
 pub record Check : Type 0 where

@@ -4,9 +4,9 @@ use mathlib.Core.List.{List, [], _∷_, _++_, map}
 use Prim.Native.Nat.{ℕ, zero, suc, _-_}
 use lib.IntN.{ℤ, pos, subℕ}
 use lib.Signed.{ltZ}
-use Rattle.plane.specs.Test.{if}
+use Rattle.arrays.specs.Test.{if}
 use Rattle.plane.specs.Point.{Point, lower}
-use Rattle.model.specs.Set.{put, has, setOf}
+use Rattle.arrays.specs.Set.{put, has, setOf}
 use Rattle.model.specs.Tree.{treeLength}
 use Rattle.model.specs.State.{State, points, prune}
 

@@ -5,11 +5,11 @@ use mathlib.Core.List.{List, [], _∷_, List·Memᴰ}
 use Prim.Native.Nat.{ℕ, zero, suc, _≤_}
 use lib.Dec.{T, leb}
 use lib.ListN.{length}
-use Rattle.spanning.specs.Order.{Sorted}
-use Rattle.plane.specs.Test.{if}
+use Rattle.arrays.specs.Order.{Sorted}
+use Rattle.arrays.specs.Test.{if}
 use Rattle.plane.specs.Point.{Point, inRange, lower, Lower}
 use Rattle.plane.specs.Edge.{Edge}
-use Rattle.model.specs.Set.{put, out, has, union, rising, all}
+use Rattle.arrays.specs.Set.{put, out, has, union, rising, all}
 use Rattle.model.specs.Tree.{mst, edgesAt}
 
 -- The pins and the Steiner points of a deck.

@@ -3,11 +3,11 @@ use mathlib.Core.Path.{_≡_}
 use mathlib.Core.List.{List, [], _∷_, _++_, map, List·Memᴰ}
 use Prim.Native.Nat.{ℕ, _≤_}
 use Rattle.spanning.specs.Graph.{Tree, total, degree}
-use Rattle.spanning.specs.Order.{Sorted, First}
+use Rattle.arrays.specs.Order.{Sorted, First}
 use Rattle.spanning.specs.Kruskal.{kruskal}
 use Rattle.plane.specs.Point.{Point}
 use Rattle.plane.specs.Edge.{Edge, Rising, edgeLength, before, Before, planar}
-use Rattle.model.specs.Set.{setOf}
+use Rattle.arrays.specs.Set.{setOf}
 
 -- Each point with every later one.
 unfoldable pub pairs : List Point → List Edge

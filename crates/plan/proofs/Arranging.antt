@@ -9,18 +9,19 @@ use native.Mathlib.Omega.{arith}
 use lib.Dec.{T, leb, leb→le, ltb, lt→ltb}
 use lib.ListN.{length, take, getD, length-map, List·getD-map}
 use lib.Seq.{ext-getD, getD-take, length-take-le}
-use Rattle.spanning.specs.Order.{Sorted}
+use Rattle.arrays.specs.Order.{Sorted}
 use Rattle.plane.specs.Stored.{pointAt}
 use Rattle.plane.specs.Point.{Point, inRange, lower, Lower}
-use Rattle.plane.proofs.Test.{and-parts}
-use Rattle.plane.proofs.Order.{nat-order, lower-order}
-use Rattle.model.specs.Set.{union, rising}
+use Rattle.arrays.proofs.Test.{and-parts}
+use Rattle.arrays.proofs.Order.{nat-order}
+use Rattle.plane.proofs.Order.{lower-order}
+use Rattle.arrays.specs.Set.{union, rising}
 use Rattle.model.specs.State.{points, Placed}
-use Rattle.model.proofs.Set.{union-in, union-sorted, rising-sorted, union-length}
+use Rattle.arrays.proofs.Set.{union-in, union-sorted, rising-sorted, union-length}
 use Rattle.model.proofs.Candidate.{map-in}
-use Rattle.sets.specs.Array.{Written}
-use Rattle.sets.proofs.Results.{written-part}
-use Rattle.sets.proofs.Rising.{get-in, get-rises}
+use Rattle.arrays.specs.Array.{Written}
+use Rattle.arrays.proofs.sorted.Results.{written-part}
+use Rattle.arrays.proofs.sorted.Rise.{get-in, get-rises}
 use Rattle.tree.specs.Front.{Front}
 use Rattle.tree.specs.Held.{held}
 use Rattle.tree.specs.Keys.{tab, treeKeys}

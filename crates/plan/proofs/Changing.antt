@@ -9,17 +9,17 @@ use native.Mathlib.Omega.{arith}
 use lib.Dec.{T, ltb}
 use lib.ListN.{length, take, drop, replicate}
 use lib.Seq.{length-take-le, drop-drop}
-use Rattle.plane.proofs.Order.{nat-order}
-use Rattle.model.specs.Set.{put, out, rising}
+use Rattle.arrays.proofs.Order.{nat-order}
+use Rattle.arrays.specs.Set.{put, out, rising}
 use Rattle.model.specs.State.{insert, remove, prune}
 use Rattle.model.specs.Round.{withSteiner}
-use Rattle.model.proofs.Set.{put-in, put-sorted, out-in, rising-sorted}
-use Rattle.sets.specs.Array.{Written, Removed}
-use Rattle.sets.proofs.Results.{written-part, written-behind, removed-part, put-most, put-least, out-most}
+use Rattle.arrays.proofs.Set.{put-in, put-sorted, out-in, rising-sorted}
+use Rattle.arrays.specs.Array.{Written, Removed}
+use Rattle.arrays.proofs.sorted.Results.{written-part, written-behind, removed-part, put-most, put-least, out-most}
 use Rattle.plan.specs.Code.{pointOf, isCode}
 use Rattle.plan.specs.Work.{Codes, Arranged, stateAt}
 use Rattle.plan.proofs.Codes.{points-put, points-out}
-use Rattle.plane.proofs.Test.{true-of}
+use Rattle.arrays.proofs.Test.{true-of}
 use Rattle.plan.proofs.Sweeping.{codes-out}
 
 pub drop-zeros : (m n : ℕ) → drop m (replicate {A = ℕ} n 0) ≡ replicate (n - m) 0

@@ -11,12 +11,12 @@ use lib.IntN.{ℤ}
 use Rattle.plane.specs.Point.{Point, coordinateInRange, inRange, lower, Lower}
 use Rattle.plane.specs.Coordinate.{coordinate, biased}
 use Rattle.plane.specs.Stored.{pointAt}
-use Rattle.plane.proofs.Test.{and-parts, and-both, same-test, thenBy-first, thenBy-next, thenBy-cases}
-use Rattle.plane.proofs.Order.{nat-order}
+use Rattle.arrays.proofs.Test.{and-parts, and-both, same-test, thenBy-first, thenBy-next, thenBy-cases}
+use Rattle.arrays.proofs.Order.{nat-order}
 use Rattle.plane.proofs.Stored.{coordinate-biased, biased-bound, coordinate-range, biased-coordinate, lower-stored}
-use Rattle.plane.specs.Test.{thenBy}
-use Rattle.model.specs.Set.{put, out, has, union, rising}
-use Rattle.model.proofs.SetMap.{put-map, out-map, has-map, union-map, rising-map}
+use Rattle.arrays.specs.Test.{thenBy}
+use Rattle.arrays.specs.Set.{put, out, has, union, rising}
+use Rattle.arrays.proofs.SetMap.{put-map, out-map, has-map, union-map, rising-map}
 use Rattle.plan.specs.Code.{code, pointOf, isCode}
 
 -- The two stored coordinates of a point in range.

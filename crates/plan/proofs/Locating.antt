@@ -8,7 +8,7 @@ use lib.IntN.{ℤ}
 use mir.Syntax.{w32}
 use mir.Val.{SFits, toZ, ofZ}
 use mir.ValLaws.{toZ-ofZ}
-use Rattle.plane.specs.Test.{if}
+use Rattle.arrays.specs.Test.{if}
 use Rattle.plane.specs.Point.{Point, coordinateInRange, inRange}
 use Rattle.plane.specs.Coordinate.{biased}
 use Rattle.plane.specs.declared.Coordinate.{Coordinate}

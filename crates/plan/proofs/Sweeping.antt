@@ -10,18 +10,18 @@ use lib.Dec.{T, leb, ltb}
 use lib.ListN.{length, take, getD, replicate, length-map, List·getD-map, replicate-append-replicate}
 use lib.Seq.{getD-take, length-take-le}
 use Rattle.spanning.specs.Graph.{degree}
-use Rattle.plane.specs.Test.{if}
+use Rattle.arrays.specs.Test.{if}
 use Rattle.plane.specs.Point.{Point}
 use Rattle.plane.specs.Edge.{Edge}
-use Rattle.plane.proofs.Test.{true-of}
-use Rattle.plane.proofs.Order.{nat-order}
-use Rattle.model.specs.Set.{out, has, union, rising}
+use Rattle.arrays.proofs.Test.{true-of}
+use Rattle.arrays.proofs.Order.{nat-order}
+use Rattle.arrays.specs.Set.{out, has, union, rising}
 use Rattle.model.specs.Tree.{mst, edgesAt}
 use Rattle.model.specs.State.{State, points, lowestWeak, without, pruneFrom, prune}
 use Rattle.model.proofs.Prune.{prune-step, prune-stop}
-use Rattle.model.proofs.Set.{out-in, out-sorted, out-length, has-in, union-in, rising-sorted}
-use Rattle.sets.specs.Array.{Removed, placeOf}
-use Rattle.sets.proofs.Results.{removed-part, removed-behind, out-most, place-has, place-at}
+use Rattle.arrays.proofs.Set.{out-in, out-sorted, out-length, has-in, union-in, rising-sorted}
+use Rattle.arrays.specs.Array.{Removed, placeOf}
+use Rattle.arrays.proofs.sorted.Results.{removed-part, removed-behind, out-most, place-has, place-at}
 use Rattle.tree.specs.Held.{held}
 use Rattle.tree.specs.Keys.{keyGraph}
 use Rattle.tree.proofs.Sorted.{tree-keys-degree}
@@ -31,7 +31,7 @@ use Rattle.plan.specs.Weak.{firstWeak}
 use Rattle.plan.specs.declared.Plan.{Plan}
 use Rattle.plan.specs.Work.{Codes, Arranged, Planned, stateAt, stateOf}
 use Rattle.plan.proofs.Codes.{points-out, points-union}
-use Rattle.sets.proofs.Rising.{get-in}
+use Rattle.arrays.proofs.sorted.Rise.{get-in}
 
 -- What the search finds, as the definition does: none, or the point at a place.
 pub data Found (l : List ℕ) : Option Point → ℕ → Type 0 where

@@ -11,10 +11,10 @@ use lib.Dec.{T, T-not, leb, leb→le, le→leb, nleb→lt, ltb}
 use lib.ListN.{length, take, drop, getD, drop-of-length-le}
 use lib.Seq.{drop-cons, getD-take, length-take-le}
 use Rattle.spanning.specs.Graph.{degree}
-use Rattle.plane.specs.Test.{if}
-use Rattle.plane.proofs.Test.{by-test}
+use Rattle.arrays.specs.Test.{if}
+use Rattle.arrays.proofs.Test.{by-test}
 use Rattle.tree.specs.Keys.{keyGraph}
-use Rattle.sets.specs.Array.{placeOf}
+use Rattle.arrays.specs.Array.{placeOf}
 use Rattle.plan.specs.Weak.{firstWeak}
 
 -- The points before place j have three edges or more, j of them.

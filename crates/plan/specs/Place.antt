@@ -1,5 +1,5 @@
 -- A place on the plane as a caller names it.
-use Rattle.plane.specs.Test.{if}
+use Rattle.arrays.specs.Test.{if}
 use Rattle.plane.specs.Point.{Point, inRange}
 use Rattle.plan.specs.Code.{code}
 use Rattle.plan.specs.declared.place.Place.{Place}

@@ -3,8 +3,8 @@ use mathlib.Core.List.{List, [], _∷_}
 use Prim.Native.Nat.{ℕ, suc}
 use lib.Dec.{leb}
 use Rattle.spanning.specs.Graph.{degree}
-use Rattle.plane.specs.Test.{if}
-use Rattle.sets.specs.Array.{placeOf}
+use Rattle.arrays.specs.Test.{if}
+use Rattle.arrays.specs.Array.{placeOf}
 use Rattle.tree.specs.Keys.{keyGraph}
 
 -- Where it stands in a list of codes, among the points whose codes are `all` and whose tree has the keys; the length where there is none.

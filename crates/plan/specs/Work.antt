@@ -5,7 +5,7 @@ use mathlib.Core.List.{List, [], _∷_, map, List·Memᴰ}
 use Prim.Native.Nat.{ℕ, _-_, _≤_}
 use lib.Dec.{T, ltb}
 use lib.ListN.{length, take, drop, replicate}
-use Rattle.model.specs.Set.{union, rising}
+use Rattle.arrays.specs.Set.{union, rising}
 use Rattle.model.specs.State.{State, points}
 use Rattle.tree.specs.Keys.{tab, treeKeys}
 use Rattle.tree.specs.Held.{held}

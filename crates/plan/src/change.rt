@@ -20,8 +20,8 @@ pub fn insert(w: Plan, k: u64) -> Plan
 {
     let mut pins = w.pins;
     let mut steiner = w.steiner;
-    let npins = sets::put(&mut pins, w.npins, k);
-    let nsteiner = sets::out(&mut steiner, w.nsteiner, k);
+    let npins = arrays::sorted::put(&mut pins, w.npins, k);
+    let nsteiner = arrays::sorted::out(&mut steiner, w.nsteiner, k);
     prune(pins, npins, steiner, nsteiner)
 }
 
@@ -32,7 +32,7 @@ pub fn remove(w: Plan, k: u64) -> Plan
 {
     let mut pins = w.pins;
     let steiner = w.steiner;
-    let npins = sets::out(&mut pins, w.npins, k);
+    let npins = arrays::sorted::out(&mut pins, w.npins, k);
     prune(pins, npins, steiner, w.nsteiner)
 }
 
@@ -46,6 +46,6 @@ pub fn with_steiner(w: Plan, k: u64) -> Plan
 {
     let pins = w.pins;
     let mut steiner = w.steiner;
-    let nsteiner = sets::put(&mut steiner, w.nsteiner, k);
+    let nsteiner = arrays::sorted::put(&mut steiner, w.nsteiner, k);
     prune(pins, w.npins, steiner, nsteiner)
 }

@@ -44,7 +44,7 @@ pub fn arrange(pins: [u64; 64], npins: usize, steiner: [u64; 64], nsteiner: usiz
     ensures { λ r. ⌜ Planned r × (r .pins ≡ pins) × (r .npins ≡ npins) × (r .steiner ≡ steiner) × (r .nsteiner ≡ nsteiner) ⌝ }
 {
     let mut codes = [0u64; 128];
-    let npoints = sets::union(&pins, npins, &steiner, nsteiner, &mut codes);
+    let npoints = arrays::sorted::union(&pins, npins, &steiner, nsteiner, &mut codes);
     let mut xs = [0u16; 128];
     let mut ys = [0u16; 128];
     unpack(&codes, npoints, &mut xs, &mut ys);

@@ -15,7 +15,7 @@ fn first_weak(codes: &[u64], n: usize, keys: &[u64], m: usize, steiner: &[u64], 
 {
     let mut j = 0;
     while j < t {
-        let i = sets::place(codes, n, steiner[j]);
+        let i = arrays::sorted::place(codes, n, steiner[j]);
         if tree::list::degree_of(keys, m, i) <= 2 {
             return j;
         }
@@ -47,7 +47,7 @@ pub fn prune(pins: [u64; 64], npins: usize, steiner: [u64; 64], nsteiner: usize)
     let mut j = lowest_weak(w);
     while j < t {
         let k = rest[j];
-        t = sets::out(&mut rest, t, k);
+        t = arrays::sorted::out(&mut rest, t, k);
         w = arrange(pins, npins, rest, t);
         j = lowest_weak(w);
     }

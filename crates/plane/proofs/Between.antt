@@ -14,7 +14,8 @@ use Rattle.plane.specs.Coordinate.{coordinate}
 use Rattle.plane.specs.Octant.{conditions, firstTrue, octant}
 use Rattle.plane.specs.Stored.{one, pointAt}
 use Rattle.plane.proofs.Whole.{plus, minus, whole-ext, difference-value}
-use Rattle.plane.proofs.Order.{lower-order, tied}
+use Rattle.arrays.proofs.Order.{tied}
+use Rattle.plane.proofs.Order.{lower-order}
 use Rattle.plane.proofs.Sector.{Sector, SectorOf, from-sector}
 use Rattle.plane.proofs.Octant.{octant-is}
 use Rattle.plane.proofs.Stored.{coordinate-value, lower-true}

@@ -11,5 +11,4 @@ pub mod SameOctant
 pub mod Sector
 pub mod Signed
 pub mod Stored
-pub mod Test
 pub mod Whole

@@ -12,7 +12,7 @@ use lib.Dec.{T, ltb, leb}
 use lib.ListN.{length, getD}
 use lib.IntN.{ℤ, pos, negsuc}
 use borrow.Author.Tests.{lt-ltb, le-ltb, le-leb, lt-leb}
-use Rattle.plane.specs.Test.{if}
+use Rattle.arrays.specs.Test.{if}
 use Rattle.plane.specs.Octant.{conditions, inOctant, firstTrue, octant}
 use Rattle.plane.proofs.Whole.{plus, minus, whole-ext}
 use Rattle.plane.proofs.Sector.{Sector, SectorOf, to-sector, from-sector}

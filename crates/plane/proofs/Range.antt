@@ -4,7 +4,7 @@ use native.Mathlib.Omega.{arith}
 use lib.Dec.{T, leb→le}
 use lib.IntN.{ℤ, natAbs}
 use Rattle.plane.specs.Point.{Point, limit, coordinateInRange, inRange, gap, dist}
-use Rattle.plane.proofs.Test.{and-parts}
+use Rattle.arrays.proofs.Test.{and-parts}
 use Rattle.plane.proofs.Whole.{plus, minus, abs-value, gap-le}
 
 -- A coordinate in range by natural numbers.

@@ -11,9 +11,9 @@ use lib.Dec.{T}
 use lib.ListN.{length, getD}
 use lib.IntN.{ℤ, pos, negsuc, negℤ}
 use lib.Signed.{ltZ, leZ}
-use Rattle.plane.specs.Test.{if}
+use Rattle.arrays.specs.Test.{if}
 use Rattle.plane.specs.Octant.{conditions, inOctant, firstTrue, octant}
-use Rattle.plane.proofs.Test.{and-parts, and-both}
+use Rattle.arrays.proofs.Test.{and-parts, and-both}
 use Rattle.plane.proofs.Whole.{plus, minus, whole-ext, neg-plus, neg-minus, less-value, value-less, atmost-value, value-atmost}
 
 -- Document 01's conditions on natural numbers.

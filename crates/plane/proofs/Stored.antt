@@ -13,11 +13,11 @@ use lib.Signed.{ltZ}
 use borrow.Author.Tests.{lt-ltb, le-ltb, ltb-false}
 use Rattle.plane.specs.declared.Coordinate.{Coordinate}
 use Rattle.plane.specs.declared.Coordinate.the-variants.{Stored, OutOfRange}
-use Rattle.plane.specs.Test.{if, thenBy}
+use Rattle.arrays.specs.Test.{if, thenBy}
 use Rattle.plane.specs.Point.{limit, coordinateInRange, lower, gap}
 use Rattle.plane.specs.Coordinate.{coordinate, biased, signed16, word16}
 use Rattle.plane.specs.Stored.{pointAt, storedOf}
-use Rattle.plane.proofs.Test.{by-test, thenBy-cases, same-test}
+use Rattle.arrays.proofs.Test.{by-test, thenBy-cases, same-test}
 use Rattle.plane.proofs.Range.{range-values}
 use Rattle.plane.proofs.Whole.{plus, minus, one-sided, abs-value, sub-value, add-value, whole-ext, less-value, value-less, gap-ge, gap-le}
 

@@ -4,7 +4,7 @@ use mathlib.Core.Bool.{Bool}
 use Prim.Native.Nat.{ℕ, _<_}
 use lib.Dec.{T, ltb}
 use Rattle.spanning.specs.Graph.{Graph}
-use Rattle.plane.specs.Test.{if, thenBy}
+use Rattle.arrays.specs.Test.{if, thenBy}
 use Rattle.plane.specs.Point.{Point, lower, Lower, dist, pointDec}
 
 -- An edge (document 01: a run) as its lower and its higher end. `Rising` says that they are so; "a run joins two different points".

@@ -5,4 +5,3 @@ pub mod Octant
 pub mod OctantTable
 pub mod Point
 pub mod Stored
-pub mod Test

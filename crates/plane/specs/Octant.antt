@@ -6,7 +6,7 @@ use lib.Dec.{T}
 use lib.ListN.{getD}
 use lib.IntN.{ℤ, pos, negℤ}
 use lib.Signed.{ltZ, leZ}
-use Rattle.plane.specs.Test.{if}
+use Rattle.arrays.specs.Test.{if}
 
 -- Document 01's table: the condition of each octant, 0 to 7, on the differences dx and dy.
 unfoldable pub conditions : ℤ → ℤ → List Bool

@@ -5,7 +5,7 @@ use Prim.Native.Nat.{ℕ, _+_}
 use lib.Dec.{T, leb, eqb, eqb→eq, eqb-refl}
 use lib.IntN.{ℤ, pos, negsuc, natAbs, _-ℤ_}
 use lib.Signed.{ltZ}
-use Rattle.plane.specs.Test.{thenBy}
+use Rattle.arrays.specs.Test.{thenBy}
 
 -- A point (document 01: a pair x, y of whole centimetres), here any pair of whole numbers.
 pub record Point : Type 0 where

@@ -4,7 +4,7 @@ use Prim.Native.Nat.{ℕ}
 use lib.IntN.{ℤ}
 use Rattle.plane.specs.declared.Coordinate.{Coordinate}
 use Rattle.plane.specs.declared.Coordinate.the-variants.{Stored, OutOfRange}
-use Rattle.plane.specs.Test.{if}
+use Rattle.arrays.specs.Test.{if}
 use Rattle.plane.specs.Point.{Point, coordinateInRange}
 use Rattle.plane.specs.Coordinate.{coordinate, biased}
 

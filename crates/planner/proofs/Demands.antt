@@ -9,8 +9,8 @@ use native.Mathlib.Omega.{arith}
 use lib.Dec.{leb}
 use lib.ListN.{length, drop}
 use borrow.Author.Tests.{le-leb}
-use Rattle.plane.specs.Test.{if}
-use Rattle.plane.proofs.Test.{false-of, true-of}
+use Rattle.arrays.specs.Test.{if}
+use Rattle.arrays.proofs.Test.{false-of, true-of}
 use Rattle.model.specs.State.{State, Valid}
 use Rattle.model.specs.Round.{RoundAnswer, finished, tap, round}
 use Rattle.model.specs.Call as call

@@ -6,7 +6,7 @@ use Prim.Native.Nat.{ℕ, _≤_}
 use native.Mathlib.Omega.{arith}
 use lib.Dec.{leb}
 use lib.ListN.{length, drop}
-use Rattle.plane.specs.Test.{if}
+use Rattle.arrays.specs.Test.{if}
 use Rattle.model.specs.State.{State, empty, Valid}
 use Rattle.model.specs.Call as call
 use Rattle.model.specs.File.{Read, deck, refusal, fileChecks, readFile, fileOf}
@@ -14,7 +14,7 @@ use Rattle.model.proofs.Step.{step-valid, after-valid}
 use Rattle.model.proofs.Refusal.{Numbered, failed-number, file-refused}
 use Rattle.model.proofs.FileValid.{file-valid}
 use Rattle.model.proofs.Demand3.{empty-valid}
-use Rattle.plane.proofs.Test.{true-of}
+use Rattle.arrays.proofs.Test.{true-of}
 use Rattle.deck.specs.declared.Deck.{Deck}
 use Rattle.deck.specs.Form.{deckOf, sound}
 use Rattle.calls.specs.Changes.{refusalNumber}

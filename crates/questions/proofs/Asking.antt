@@ -9,7 +9,7 @@ use native.Mathlib.Omega.{arith}
 use lib.Dec.{T, ltb}
 use lib.IntN.{ℤ}
 use lib.ListN.{length, take, getD, getElem?, length-map, length-append}
-use Rattle.spanning.specs.Order.{Sorted}
+use Rattle.arrays.specs.Order.{Sorted}
 use Rattle.spanning.specs.Graph.{degree}
 use Rattle.spanning.proofs.Degree.{degree-zero}
 use Rattle.plane.specs.Point.{Point, inRange, lower, Lower, dist}
@@ -17,12 +17,12 @@ use Rattle.plane.specs.Coordinate.{coordinate}
 use Rattle.plane.specs.Stored.{pointAt}
 use Rattle.plane.specs.Edge.{Edge as PlaneEdge, planar, listedBefore}
 use Rattle.plane.proofs.Order.{lower-order, listed-order}
-use Rattle.model.specs.Set.{has}
+use Rattle.arrays.specs.Set.{has}
 use Rattle.model.specs.Tree.{mst, edgesAt}
 use Rattle.model.specs.State.{State, points, Valid}
 use Rattle.model.specs.File.{numberOf}
 use Rattle.model.specs.Question as question
-use Rattle.model.proofs.Set.{has-in, set-of-in}
+use Rattle.arrays.proofs.Set.{has-in, set-of-in}
 use Rattle.model.proofs.Tree.{mst-run-tree}
 use Rattle.model.proofs.Prune.{points-in, points-rise}
 use Rattle.model.proofs.FileSize.{listed-count}
@@ -31,7 +31,7 @@ use Rattle.tree.specs.Keys.{keyGraph, tab, endsAt, edgeOf, treeKeys}
 use Rattle.tree.proofs.Join.{tab-in}
 use Rattle.tree.proofs.Numbers.{number-at}
 use Rattle.tree.proofs.Sorted.{tree-keys-mst, ps-sorted}
-use Rattle.sets.specs.Array.{placeOf}
+use Rattle.arrays.specs.Array.{placeOf}
 use Rattle.plan.specs.Code.{pointOf}
 use Rattle.plan.specs.declared.Plan.{Plan}
 use Rattle.plan.specs.Work.{Planned, stateOf}

@@ -47,10 +47,10 @@ fn degree_of(w: Plan, k: u64) -> usize
 {
     let codes = w.codes;
     let keys = w.keys;
-    if !sets::has(&codes, w.npoints, k) {
+    if !arrays::sorted::has(&codes, w.npoints, k) {
         return 0;
     }
-    tree::list::degree_of(&keys, w.nkeys, sets::place(&codes, w.npoints, k))
+    tree::list::degree_of(&keys, w.nkeys, arrays::sorted::place(&codes, w.npoints, k))
 }
 
 // The length of the tree.

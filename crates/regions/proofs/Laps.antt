@@ -8,7 +8,7 @@ use native.Mathlib.Decide.{decLt}
 use native.Mathlib.Omega.{arith}
 use lib.Dec.{ltb}
 use lib.ListN.{length, getD, set}
-use Rattle.plane.proofs.Test.{by-test}
+use Rattle.arrays.proofs.Test.{by-test}
 use Rattle.regions.specs.Codes.{farCode}
 use Rattle.regions.specs.Nearest.{codeOf, steepCode, flatCode, LapGiven, Lapped, TurnGiven}
 use Rattle.regions.proofs.Filling.{Filled, fill-none, fill-more}

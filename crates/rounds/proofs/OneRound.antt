@@ -10,10 +10,10 @@ use lib.Dec.{T}
 use lib.ListN.{length}
 use lib.IntN.{ℤ}
 use Rattle.plane.specs.Point.{Point, lower, coordinateInRange}
-use Rattle.plane.proofs.Test.{and-parts}
+use Rattle.arrays.proofs.Test.{and-parts}
 use Rattle.plane.proofs.Stored.{coordinate-biased}
 use Rattle.plane.specs.Coordinate.{coordinate, biased}
-use Rattle.model.specs.Set.{put}
+use Rattle.arrays.specs.Set.{put}
 use Rattle.model.specs.State.{State, Valid, points, prune}
 use Rattle.model.specs.Tree.{treeLength}
 use Rattle.model.specs.Round.{RoundResult, finished, tap, withSteiner, best, round}

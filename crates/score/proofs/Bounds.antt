@@ -8,12 +8,12 @@ use native.Mathlib.Decide.{decLt}
 use native.Mathlib.Omega.{arith}
 use lib.Dec.{T, ltb}
 use Rattle.spanning.specs.Graph.{Conn, stop, fwd, bwd, In}
-use Rattle.spanning.specs.Order.{Sorted}
+use Rattle.arrays.specs.Order.{Sorted}
 use Rattle.spanning.specs.Bottleneck.{Within}
 use Rattle.spanning.proofs.Conn.{conn-edge, conn-sym, conn-trans, conn-mono}
-use Rattle.plane.proofs.Order.{nat-order}
-use Rattle.model.specs.Set.{put}
-use Rattle.model.proofs.Set.{put-in, put-sorted}
+use Rattle.arrays.proofs.Order.{nat-order}
+use Rattle.arrays.specs.Set.{put}
+use Rattle.arrays.proofs.Set.{put-in, put-sorted}
 use Rattle.tree.specs.Keys.{weight, low, high, keyGraph}
 use Rattle.regions.specs.Codes.{code, codeLength, codePoint, far}
 use Rattle.score.specs.Gain.{bound}

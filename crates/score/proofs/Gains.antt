@@ -10,11 +10,11 @@ use lib.Dec.{T, ltb, ltb→lt}
 use Rattle.spanning.specs.Graph.{Conn, stop, fwd, bwd, In, total}
 use Rattle.spanning.specs.Kruskal.{kruskal}
 use Rattle.spanning.specs.Bottleneck.{Within}
-use Rattle.spanning.proofs.Sorted.{mem-shift}
+use Rattle.arrays.proofs.Members.{mem-shift}
 use Rattle.spanning.proofs.OneMore.{one-more, one-more-bridge}
-use Rattle.plane.proofs.Order.{nat-order}
-use Rattle.model.specs.Set.{put}
-use Rattle.model.proofs.Set.{put-in, put-sorted}
+use Rattle.arrays.proofs.Order.{nat-order}
+use Rattle.arrays.specs.Set.{put}
+use Rattle.arrays.proofs.Set.{put-in, put-sorted}
 use Rattle.tree.specs.Keys.{weight, low, high, keyGraph}
 use Rattle.tree.proofs.Keys.{weight-le}
 use Rattle.regions.specs.Codes.{code, codeLength, codePoint, far}

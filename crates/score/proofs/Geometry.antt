@@ -11,10 +11,10 @@ use Rattle.spanning.proofs.OneMore.{tree-bottleneck}
 use Rattle.plane.specs.Point.{Point, lower, gap, dist}
 use Rattle.plane.specs.Coordinate.{coordinate}
 use Rattle.plane.specs.Stored.{pointAt}
-use Rattle.plane.proofs.Order.{nat-order}
+use Rattle.arrays.proofs.Order.{nat-order}
 use Rattle.plane.proofs.Metric.{gap-sym, gap-triangle}
 use Rattle.plane.proofs.Stored.{gap-rising, gap-falling}
-use Rattle.model.specs.Set.{put}
+use Rattle.arrays.specs.Set.{put}
 use Rattle.model.specs.Tree.{treeLength}
 use Rattle.tree.specs.Held.{held}
 use Rattle.tree.specs.Keys.{weight, keyGraph, tab, allKeys, treeKeys}

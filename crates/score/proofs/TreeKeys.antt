@@ -6,7 +6,7 @@ use native.Mathlib.Omega.{arith}
 use lib.Dec.{T, ltb}
 use lib.ListN.{length, take, getD}
 use Rattle.spanning.specs.Graph.{Conn, In, total}
-use Rattle.spanning.specs.Order.{Sorted}
+use Rattle.arrays.specs.Order.{Sorted}
 use Rattle.spanning.proofs.Kruskal.{kruskal-in, kruskal-sorted, kruskal-connects}
 use Rattle.plane.specs.Point.{Point, dist}
 use Rattle.model.specs.Tree.{treeLength}

@@ -8,16 +8,16 @@ use native.Mathlib.Decide.{decLt}
 use native.Mathlib.Omega.{arith}
 use lib.Dec.{T, ltb}
 use Rattle.spanning.specs.Graph.{Conn, stop, total}
-use Rattle.spanning.specs.Order.{Sorted}
+use Rattle.arrays.specs.Order.{Sorted}
 use Rattle.spanning.specs.Bottleneck.{Within}
 use Rattle.spanning.proofs.Conn.{conn-edge, conn-sym, conn-trans, conn-mono}
-use Rattle.spanning.proofs.Sorted.{sorted-ext}
+use Rattle.arrays.proofs.Members.{sorted-ext}
 use Rattle.spanning.proofs.OneMore.{one-more-closed}
 use Rattle.plane.specs.Point.{Point, dist}
-use Rattle.plane.proofs.Order.{nat-order}
+use Rattle.arrays.proofs.Order.{nat-order}
 use Rattle.plane.proofs.Metric.{dist-sym}
-use Rattle.model.specs.Set.{put, union}
-use Rattle.model.proofs.Set.{put-in, put-sorted, union-in, union-sorted}
+use Rattle.arrays.specs.Set.{put, union}
+use Rattle.arrays.proofs.Set.{put-in, put-sorted, union-in, union-sorted}
 use Rattle.tree.specs.Keys.{key, weight, low, high, keyGraph, rays, allKeys, treeKeys, joinedKeys}
 use Rattle.tree.proofs.Keys.{key-weight, key-low, key-high}
 use Rattle.tree.proofs.AllKeys.{rays-in, KeyAt, all-keys-in, all-keys-sorted, key-ends, all-keys-join}

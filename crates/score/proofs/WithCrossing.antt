@@ -11,9 +11,9 @@ use Rattle.spanning.specs.Graph.{total}
 use Rattle.plane.specs.Point.{Point, lower, dist}
 use Rattle.plane.proofs.Order.{lower-order}
 use Rattle.plane.proofs.Metric.{dist-sym, dist-self}
-use Rattle.model.specs.Set.{put, has}
+use Rattle.arrays.specs.Set.{put, has}
 use Rattle.model.specs.Tree.{treeLength}
-use Rattle.model.proofs.Set.{has-in, put-same}
+use Rattle.arrays.proofs.Set.{has-in, put-same}
 use Rattle.tree.specs.Build.{Rises}
 use Rattle.tree.specs.Keys.{weight, tab, allKeys, treeKeys, joinedKeys}
 use Rattle.tree.proofs.Join.{tab-in}

@@ -12,31 +12,31 @@ use Rattle.words.specs.declared.numbers.Number.{Number}
 use Rattle.words.specs.declared.numbers.Number.the-variants.{NoNumber, Is}
 use Rattle.words.specs.declared.numbers.Size.{Size}
 use Rattle.words.specs.declared.numbers.Size.the-variants.{NoSize, Of}
-use Rattle.script.specs.Names.{bytes}
-use Rattle.words.specs.Words.{same}
+use Rattle.arrays.specs.Text.{bytes}
+use Rattle.arrays.specs.Same.{sameList}
 use Rattle.words.specs.Numbers.{numberOf, sizeOf}
 use Rattle.words.specs.Hex.{isHex}
 use Rattle.script.specs.Commands.{sized, withOne, placed, withTwo}
 use Rattle.script.proofs.Naming.{read-two}
 
 module _ (w x : List ℕ) where
-  pub one-dash : same w (bytes "read") ≡ true → same x (bytes "-") ≡ true → Read ≡ withOne w x
+  pub one-dash : sameList w (bytes "read") ≡ true → sameList x (bytes "-") ≡ true → Read ≡ withOne w x
   unfolding withOne
   one-dash a b = rw (a, b) refl
 
-  pub one-hex : same w (bytes "read") ≡ true → same x (bytes "-") ≡ false → isHex x ≡ true → Read ≡ withOne w x
+  pub one-hex : sameList w (bytes "read") ≡ true → sameList x (bytes "-") ≡ false → isHex x ≡ true → Read ≡ withOne w x
   unfolding withOne
   one-hex a b c = rw (a, b, c) refl
 
-  pub one-other : same w (bytes "read") ≡ true → same x (bytes "-") ≡ false → isHex x ≡ false → Error ≡ withOne w x
+  pub one-other : sameList w (bytes "read") ≡ true → sameList x (bytes "-") ≡ false → isHex x ≡ false → Error ≡ withOne w x
   unfolding withOne
   one-other a b c = rw (a, b, c) refl
 
-  pub one-none : same w (bytes "read") ≡ false → (r : Size) → r ≡ sizeOf x → r ≡ NoSize → Error ≡ withOne w x
+  pub one-none : sameList w (bytes "read") ≡ false → (r : Size) → r ≡ sizeOf x → r ≡ NoSize → Error ≡ withOne w x
   unfolding withOne
   one-none a r e f = rw (a, sym e ∙ f) refl
 
-  pub one-size : same w (bytes "read") ≡ false → (r : Size) (n : ℕ) (y : Command) → r ≡ sizeOf x → r ≡ Of n → y ≡ sized w n → y ≡ withOne w x
+  pub one-size : sameList w (bytes "read") ≡ false → (r : Size) (n : ℕ) (y : Command) → r ≡ sizeOf x → r ≡ Of n → y ≡ sized w n → y ≡ withOne w x
   unfolding withOne
   one-size a r n y e f g = rw (a, sym e ∙ f) g
 

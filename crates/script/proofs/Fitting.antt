@@ -9,7 +9,7 @@ use lib.Dec.{ltb}
 use lib.ListN.{length, take, drop, length-append}
 use lib.Seq.{take-all, take-at}
 use borrow.Author.Tests.{ltb-false}
-use Rattle.plane.specs.Test.{if}
+use Rattle.arrays.specs.Test.{if}
 use Rattle.script.specs.declared.Command.the-variants.{Blank, Error, Read}
 use Rattle.words.specs.Words.{isSpace, ended, split, wordsOf}
 use Rattle.words.specs.Hex.{isHex, pairs, Filled}

@@ -5,7 +5,7 @@ use Prim.Native.Nat.{ℕ}
 use lib.Dec.{ltb, eqb}
 use lib.ListN.{length}
 use lib.IntN.{ℤ}
-use Rattle.plane.specs.Test.{if}
+use Rattle.arrays.specs.Test.{if}
 use Rattle.script.specs.declared.Command.{Command}
 use Rattle.script.specs.declared.Command.the-variants.{Blank, Error, Read, Write, Add, Withdraw, Round, Finish, Length, Counts, Run, Degree, Octant}
 use Rattle.script.specs.declared.Command.the-variants as command
@@ -13,26 +13,27 @@ use Rattle.words.specs.declared.numbers.Number.{Number}
 use Rattle.words.specs.declared.numbers.Number.the-variants.{NoNumber, Is}
 use Rattle.words.specs.declared.numbers.Size.{Size}
 use Rattle.words.specs.declared.numbers.Size.the-variants.{NoSize, Of}
-use Rattle.script.specs.Names.{bytes}
-use Rattle.words.specs.Words.{wordsOf, same}
+use Rattle.arrays.specs.Text.{bytes}
+use Rattle.arrays.specs.Same.{sameList}
+use Rattle.words.specs.Words.{wordsOf}
 use Rattle.words.specs.Numbers.{numberOf, sizeOf}
 use Rattle.words.specs.Hex.{isHex, pairs}
 
 -- One word: `write`, `round`, `finish`, `length`, `counts`, `list`. The capacity of `write` is then that of the longest file.
 unfoldable pub alone : List ℕ → Command
 alone w =
-    if (same w (bytes "write")) (λ _. Write 784)
-    (λ _. if (same w (bytes "round")) (λ _. Round)
-    (λ _. if (same w (bytes "finish")) (λ _. Finish)
-    (λ _. if (same w (bytes "length")) (λ _. Length)
-    (λ _. if (same w (bytes "counts")) (λ _. Counts)
-    (λ _. if (same w (bytes "list")) (λ _. command.List) (λ _. Error))))))
+    if (sameList w (bytes "write")) (λ _. Write 784)
+    (λ _. if (sameList w (bytes "round")) (λ _. Round)
+    (λ _. if (sameList w (bytes "finish")) (λ _. Finish)
+    (λ _. if (sameList w (bytes "length")) (λ _. Length)
+    (λ _. if (sameList w (bytes "counts")) (λ _. Counts)
+    (λ _. if (sameList w (bytes "list")) (λ _. command.List) (λ _. Error))))))
 
 -- A word and a size: `write CAPACITY`, `run I`.
 unfoldable pub sized : List ℕ → ℕ → Command
 sized w n =
-    if (same w (bytes "write")) (λ _. Write n)
-    (λ _. if (same w (bytes "run")) (λ _. Run n) (λ _. Error))
+    if (sameList w (bytes "write")) (λ _. Write n)
+    (λ _. if (sameList w (bytes "run")) (λ _. Run n) (λ _. Error))
 
 -- What is said of a size, an error where there is none.
 abbrev pub ofSize : (ℕ → Command) → Size → Command
@@ -42,17 +43,17 @@ ofSize f (Of n) = f n
 -- A word and an argument: `read HEX`, where `-` stands for no bytes, and the commands with a size.
 unfoldable pub withOne : List ℕ → List ℕ → Command
 withOne w x =
-    if (same w (bytes "read"))
-    (λ _. if (same x (bytes "-") || isHex x) (λ _. Read) (λ _. Error))
+    if (sameList w (bytes "read"))
+    (λ _. if (sameList x (bytes "-") || isHex x) (λ _. Read) (λ _. Error))
     (λ _. ofSize (sized w) (sizeOf x))
 
 -- A word and two numbers: `add X Y`, `withdraw X Y`, `degree X Y`, `octant DX DY`.
 unfoldable pub placed : List ℕ → ℤ → ℤ → Command
 placed w i j =
-    if (same w (bytes "add")) (λ _. Add i j)
-    (λ _. if (same w (bytes "withdraw")) (λ _. Withdraw i j)
-    (λ _. if (same w (bytes "degree")) (λ _. Degree i j)
-    (λ _. if (same w (bytes "octant")) (λ _. Octant i j) (λ _. Error))))
+    if (sameList w (bytes "add")) (λ _. Add i j)
+    (λ _. if (sameList w (bytes "withdraw")) (λ _. Withdraw i j)
+    (λ _. if (sameList w (bytes "degree")) (λ _. Degree i j)
+    (λ _. if (sameList w (bytes "octant")) (λ _. Octant i j) (λ _. Error))))
 
 -- What is said of two numbers, an error where one is missing.
 abbrev pub ofNumbers : (ℤ → ℤ → Command) → Number → Number → Command

@@ -7,15 +7,16 @@ use lib.ListN.{replicate}
 use lib.IntN.{pos, negsuc}
 use Rattle.script.specs.declared.Command.{Command}
 use Rattle.script.specs.declared.Command.the-variants.{Blank, Error, Read, Write, Add, Withdraw, Round, Finish, Run, Octant}
-use Rattle.script.specs.Names.{bytes}
-use Rattle.words.specs.Words.{isSpace, split, same}
+use Rattle.arrays.specs.Text.{bytes}
+use Rattle.arrays.specs.Same.{sameList}
+use Rattle.words.specs.Words.{isSpace, split}
 use Rattle.words.specs.Numbers.{areDigits, valueFrom, numberOf, sizeOf}
 use Rattle.words.specs.Hex.{digitOf, isHex, pairs}
 use Rattle.script.specs.Commands.{alone, sized, withOne, placed, withTwo, asked, commandOf, fileOf}
 
 -- The commands of lines.
 unfoldable pub commands : List String → List Command
-unfolding isSpace split same areDigits valueFrom numberOf sizeOf digitOf isHex alone sized withOne placed withTwo asked commandOf
+unfolding isSpace split sameList areDigits valueFrom numberOf sizeOf digitOf isHex alone sized withOne placed withTwo asked commandOf
 commands [] = []
 commands (s ∷ l) = commandOf (bytes s) ∷ commands l
 

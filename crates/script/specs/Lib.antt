@@ -1,3 +1,2 @@
 pub mod Commands
 pub mod Examples
-pub mod Names

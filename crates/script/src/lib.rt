@@ -1,5 +1,6 @@
 // One line of a script of calls: the command that it asks for, and the bytes of a file in it. A line that asks for nothing and a
 // line that is no command have their own variants, so every line has an answer.
+use arrays::same::same_bytes;
 use words::hex::decode;
 use words::hex::is_hex;
 use words::next;
@@ -7,7 +8,6 @@ use words::numbers::Number;
 use words::numbers::Size;
 use words::numbers::number_of;
 use words::numbers::size_of;
-use words::same;
 ghost use mathlib.Core.Path.{_≡_};
 ghost use Rattle.script.specs.Commands.{commandOf, asked, alone, withOne, withTwo, sized, placed, fileOf};
 ghost use Rattle.words.specs.Hex.{Filled};
@@ -86,22 +86,22 @@ fn by_words(line: &[u8]) -> Command
 fn by_name(name: &[u8]) -> Command
     ensures { λ r. ⌜ r ≡ alone (now (name .entry)) ⌝ }
 {
-    if same(name, b"write") {
+    if same_bytes(name, b"write") {
         return Command::Write(784);
     }
-    if same(name, b"round") {
+    if same_bytes(name, b"round") {
         return Command::Round;
     }
-    if same(name, b"finish") {
+    if same_bytes(name, b"finish") {
         return Command::Finish;
     }
-    if same(name, b"length") {
+    if same_bytes(name, b"length") {
         return Command::Length;
     }
-    if same(name, b"counts") {
+    if same_bytes(name, b"counts") {
         return Command::Counts;
     }
-    if same(name, b"list") {
+    if same_bytes(name, b"list") {
         return Command::List;
     }
     Command::Error
@@ -111,8 +111,8 @@ fn by_name(name: &[u8]) -> Command
 fn with_one(name: &[u8], x: &[u8]) -> Command
     ensures { λ r. ⌜ r ≡ withOne (now (name .entry)) (now (x .entry)) ⌝ }
 {
-    if same(name, b"read") {
-        if same(x, b"-") {
+    if same_bytes(name, b"read") {
+        if same_bytes(x, b"-") {
             return Command::Read;
         }
         if is_hex(x) {
@@ -130,10 +130,10 @@ fn with_one(name: &[u8], x: &[u8]) -> Command
 fn with_size(name: &[u8], n: u32) -> Command
     ensures { λ r. ⌜ r ≡ sized (now (name .entry)) n ⌝ }
 {
-    if same(name, b"write") {
+    if same_bytes(name, b"write") {
         return Command::Write(n);
     }
-    if same(name, b"run") {
+    if same_bytes(name, b"run") {
         return Command::Run(n);
     }
     Command::Error
@@ -156,16 +156,16 @@ fn with_two(name: &[u8], x: &[u8], y: &[u8]) -> Command
 fn with_place(name: &[u8], i: i32, j: i32) -> Command
     ensures { λ r. ⌜ r ≡ placed (now (name .entry)) i j ⌝ }
 {
-    if same(name, b"add") {
+    if same_bytes(name, b"add") {
         return Command::Add(i, j);
     }
-    if same(name, b"withdraw") {
+    if same_bytes(name, b"withdraw") {
         return Command::Withdraw(i, j);
     }
-    if same(name, b"degree") {
+    if same_bytes(name, b"degree") {
         return Command::Degree(i, j);
     }
-    if same(name, b"octant") {
+    if same_bytes(name, b"octant") {
         return Command::Octant(i, j);
     }
     Command::Error

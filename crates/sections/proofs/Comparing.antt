@@ -1,4 +1,4 @@
--- Bytes compared one after the other: those of a text at the front, and those of edges, two at a time.
+-- Bytes of edges compared one after the other, two at a time.
 use mathlib.Core.Path.{_≡_, refl, sym, ap, _∙_, subst}
 use mathlib.Core.Bool.{true, false}
 use mathlib.Core.List.{List, [], _∷_}
@@ -6,28 +6,9 @@ use Prim.Native.Nat.{ℕ, zero, suc, _+_, _*_, _/_, _%_, _≤_, _<_}
 use native.Mathlib.Omega.{arith}
 use lib.ListN.{length, take, drop, getD, length-take, length-drop}
 use lib.Seq.{length-take-le, getD-take, getD-drop}
-use Rattle.model.specs.File.{sameBytes}
-use Rattle.sets.proofs.Scans.{Alike, alike-none, alike-more, alike-fail, alike-end}
+use Rattle.arrays.specs.Same.{sameList}
+use Rattle.arrays.proofs.same.Alike.{Alike, alike-none, alike-more, alike-fail, alike-end}
 use Rattle.sections.specs.Bytes.{each, edgeBytes}
-
--- The first i bytes are those of the text.
-module _ (b text : List ℕ) (h : length text ≤ length b) where
-  front : length (take (length text) b) ≡ length text
-  front = length-take-le (length text) b h
-
-  pub begun-none : Alike (take (length text) b) text 0
-  begun-none = alike-none (take (length text) b) text front
-
-  pub begun-more : (i : ℕ) → Alike (take (length text) b) text i → i < length text → getD b i 0 ≡ getD text i 0 → Alike (take (length text) b) text (i + 1)
-  begun-more i p l e =
-      alike-more (take (length text) b) text front i p (omega (arith, front)) (getD-take (length text) b i 0 l ∙ e)
-
-  pub begun-fail : (i : ℕ) → Alike (take (length text) b) text i → i < length text → ¬ (getD b i 0 ≡ getD text i 0) → false ≡ sameBytes (take (length text) b) text
-  begun-fail i p l n =
-      alike-fail (take (length text) b) text front i p (omega (arith, front)) (λ e. n (sym (getD-take (length text) b i 0 l) ∙ e))
-
-  pub begun-end : (i : ℕ) → Alike (take (length text) b) text i → length text ≤ i → true ≡ sameBytes (take (length text) b) text
-  begun-end i p l = alike-end (take (length text) b) text front i p (omega (arith, front))
 
 -- The bytes of edges.
 pub edges-length : (l : List ℕ) → length (edgeBytes l) ≡ 2 * length l
@@ -107,14 +88,14 @@ module _ (b : List ℕ) (at : ℕ) (ends : List ℕ) (n : ℕ) (h : at + 2 * n �
       (alike-more P Q same-long (2 * i + 1) (half i p l e) (omega (arith, long)) (here (2 * i + 1) (omega arith) ∙ ap (λ (z : ℕ). getD b z 0) g ∙ f ∙ sym (two i l)))
 
   pub edges-fail-first : (i : ℕ) → Alike (take (2 * n) (drop at b)) (edgeBytes (take n ends)) (2 * i) → i < n
-      → ¬ (getD b (at + 2 * i) 0 ≡ getD ends i 0 / 128 % 256) → false ≡ sameBytes (take (2 * n) (drop at b)) (edgeBytes (take n ends))
+      → ¬ (getD b (at + 2 * i) 0 ≡ getD ends i 0 / 128 % 256) → false ≡ sameList (take (2 * n) (drop at b)) (edgeBytes (take n ends))
   unfolding P Q
   edges-fail-first i p l e =
       alike-fail P Q same-long (2 * i) p (omega (arith, long)) (λ q. e (sym (here (2 * i) (omega arith)) ∙ q ∙ one i l))
 
   pub edges-fail-second : (i : ℕ) → Alike (take (2 * n) (drop at b)) (edgeBytes (take n ends)) (2 * i) → i < n
       → getD b (at + 2 * i) 0 ≡ getD ends i 0 / 128 % 256 → ¬ (getD b (at + 2 * i + 1) 0 ≡ getD ends i 0 % 128)
-      → false ≡ sameBytes (take (2 * n) (drop at b)) (edgeBytes (take n ends))
+      → false ≡ sameList (take (2 * n) (drop at b)) (edgeBytes (take n ends))
   unfolding P Q
   edges-fail-second i p l e f =
       let g : at + (2 * i + 1) ≡ at + 2 * i + 1 = omega arith in
@@ -122,6 +103,6 @@ module _ (b : List ℕ) (at : ℕ) (ends : List ℕ) (n : ℕ) (h : at + 2 * n �
       (λ q. f (ap (λ (z : ℕ). getD b z 0) (sym g) ∙ sym (here (2 * i + 1) (omega arith)) ∙ q ∙ two i l))
 
   pub edges-end : (i : ℕ) → Alike (take (2 * n) (drop at b)) (edgeBytes (take n ends)) (2 * i) → n ≤ i
-      → true ≡ sameBytes (take (2 * n) (drop at b)) (edgeBytes (take n ends))
+      → true ≡ sameList (take (2 * n) (drop at b)) (edgeBytes (take n ends))
   unfolding P Q
   edges-end i p l = alike-end P Q same-long (2 * i) p (omega (arith, long))

@@ -7,7 +7,7 @@ use native.Mathlib.Numerals.{unary-clauses}
 use native.Mathlib.Omega.{arith}
 use lib.ListN.{length, take, drop, getD, set, length-map, length-take, length-drop, length-set}
 use lib.Seq.{take-all, getD-take, getD-drop}
-use Rattle.plane.specs.Test.{if}
+use Rattle.arrays.specs.Test.{if}
 use Rattle.plane.specs.Point.{Point, coordinateInRange}
 use Rattle.plane.specs.Coordinate.{signed16}
 use Rattle.plane.specs.declared.Coordinate.{Coordinate}

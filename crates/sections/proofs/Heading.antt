@@ -6,8 +6,9 @@ use Prim.Native.Nat.{ℕ, _+_, _%_, _≤_, _<_}
 use lib.Dec.{leb, eqb}
 use lib.ListN.{length, take}
 use borrow.Author.Tests.{le-leb, lt-leb, eq-eqb, ne-eqb}
-use Rattle.model.specs.File.{magic, number2, offset, size, sameBytes, headed, laidOut, whole, plain}
-use Rattle.sets.proofs.Scans.{and-no, and-yes}
+use Rattle.arrays.specs.Same.{sameList}
+use Rattle.model.specs.File.{magic, number2, offset, size, headed, laidOut, whole, plain}
+use Rattle.arrays.proofs.Test.{and-no, and-yes}
 
 -- A test of two numbers that are those of the file.
 differ : {u v x y : ℕ} → u ≡ x → v ≡ y → ¬ (u ≡ v) → eqb x y ≡ false
@@ -28,15 +29,15 @@ module _ (b : List ℕ) where
     pub head-long : 784 < length b → false ≡ headed b
     head-long k = and-yes (leb 30 (length b)) _ _ (le-leb 30 (length b) h) (and-no (leb (length b) 784) _ (lt-leb (length b) 784 k))
 
-    pub head-other : length b ≤ 784 → sameBytes (take 4 b) magic ≡ false → false ≡ headed b
+    pub head-other : length b ≤ 784 → sameList (take 4 b) magic ≡ false → false ≡ headed b
     head-other k e =
         and-yes (leb 30 (length b)) _ _ (le-leb 30 (length b) h)
-        (and-yes (leb (length b) 784) _ _ (le-leb (length b) 784 k) (and-no (sameBytes (take 4 b) magic) _ e))
+        (and-yes (leb (length b) 784) _ _ (le-leb (length b) 784 k) (and-no (sameList (take 4 b) magic) _ e))
 
-    pub head-count : length b ≤ 784 → sameBytes (take 4 b) magic ≡ true → (n : ℕ) → n ≡ number2 b 4 → eqb n 3 ≡ headed b
+    pub head-count : length b ≤ 784 → sameList (take 4 b) magic ≡ true → (n : ℕ) → n ≡ number2 b 4 → eqb n 3 ≡ headed b
     head-count k e n f =
         and-yes (leb 30 (length b)) _ _ (le-leb 30 (length b) h)
-        (and-yes (leb (length b) 784) _ _ (le-leb (length b) 784 k) (and-yes (sameBytes (take 4 b) magic) _ _ e (test f refl)))
+        (and-yes (leb (length b) 784) _ _ (le-leb (length b) 784 k) (and-yes (sameList (take 4 b) magic) _ _ e (test f refl)))
 
   -- Check 2.
   module _ (first second third pins : ℕ) (e₀ : first ≡ offset b 0) (e₁ : second ≡ offset b 1) (e₂ : third ≡ offset b 2) where

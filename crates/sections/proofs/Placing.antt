@@ -8,19 +8,19 @@ use native.Mathlib.Omega.{arith}
 use lib.Dec.{T, ltb}
 use lib.ListN.{length, take, drop}
 use lib.Seq.{take-at}
-use Rattle.plane.specs.Test.{if}
+use Rattle.arrays.specs.Test.{if}
 use Rattle.plane.specs.Point.{Point, coordinateInRange, inRange, lower}
-use Rattle.plane.proofs.Test.{and-parts, same-test}
-use Rattle.plane.proofs.Order.{nat-order}
+use Rattle.arrays.proofs.Test.{and-parts, same-test}
+use Rattle.arrays.proofs.Order.{nat-order}
 use Rattle.plane.proofs.Stored.{biased-bound}
-use Rattle.model.specs.Set.{has, rising, all}
+use Rattle.arrays.specs.Set.{has, rising, all}
 use Rattle.model.specs.State.{placed}
 use Rattle.model.specs.File.{pointsOf, size, shown}
-use Rattle.model.proofs.Set.{all-in, has-not}
+use Rattle.arrays.proofs.Set.{all-in, has-not}
 use Rattle.model.proofs.Candidate.{map-in}
 use Rattle.plan.specs.Code.{code}
 use Rattle.plan.proofs.Codes.{code-x, point-code, points-has, points-rising, map-codes}
-use Rattle.sets.specs.Array.{noneIn}
+use Rattle.arrays.specs.Array.{noneIn}
 use Rattle.sections.specs.Points.{beyond, mark, marks, placedCodes}
 use Rattle.sections.specs.Layout.{Sections}
 use Rattle.sections.proofs.Decoding.{marks-length}

@@ -4,13 +4,13 @@ use mathlib.Core.List.{List, map}
 use Prim.Native.Nat.{ℕ, _+_, _*_}
 use lib.Dec.{ltb}
 use lib.ListN.{take, drop, getD}
-use Rattle.plane.specs.Test.{if}
+use Rattle.arrays.specs.Test.{if}
 use Rattle.plane.specs.Point.{Point, inRange}
 use Rattle.plane.specs.Coordinate.{signed16}
-use Rattle.model.specs.Set.{has, rising}
+use Rattle.arrays.specs.Set.{has, rising}
 use Rattle.model.specs.File.{pointsOf}
 use Rattle.plan.specs.Code.{code}
-use Rattle.sets.specs.Array.{noneIn}
+use Rattle.arrays.specs.Array.{noneIn}
 
 -- The point in the four bytes from place i on.
 abbrev pub pointIn : List ℕ → ℕ → Point

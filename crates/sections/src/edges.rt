@@ -3,13 +3,13 @@ use super::number::wide;
 ghost use mathlib.Core.Path.{_≡_};
 ghost use Prim.Native.Nat.{_+_, _*_, _≤_};
 ghost use lib.ListN.{length, take, drop};
-ghost use Rattle.model.specs.File.{sameBytes};
+ghost use Rattle.arrays.specs.Same.{sameList};
 ghost use Rattle.sections.specs.Bytes.{edgeBytes};
 
 // Whether the bytes from place `at` on are those of the first n edges.
 pub fn same_edges(b: &[u8], at: usize, ends: &[u64], n: usize) -> bool
     requires { ⌜ (at + 2 * n ≤ length (now b)) × (n ≤ length (now ends)) ⌝ }
-    ensures { λ r. ⌜ r ≡ sameBytes (take (2 * n) (drop at (now (b .entry)))) (edgeBytes (take n (now (ends .entry)))) ⌝ }
+    ensures { λ r. ⌜ r ≡ sameList (take (2 * n) (drop at (now (b .entry)))) (edgeBytes (take n (now (ends .entry)))) ⌝ }
 {
     let mut i = 0;
     while i < n {

@@ -4,22 +4,8 @@ use super::number::number4;
 ghost use mathlib.Core.Path.{_≡_};
 ghost use Prim.Native.Nat.{_≤_};
 ghost use lib.ListN.{length, take};
-ghost use Rattle.model.specs.File.{sameBytes, headed, laidOut, whole, plain};
-
-// Whether the bytes begin with those of `text`.
-fn begins(b: &[u8], text: &[u8]) -> bool
-    requires { ⌜ length (now text) ≤ length (now b) ⌝ }
-    ensures { λ r. ⌜ r ≡ sameBytes (take (length (now (text .entry))) (now (b .entry))) (now (text .entry)) ⌝ }
-{
-    let mut i = 0;
-    while i < text.len() {
-        if b[i] != text[i] {
-            return false;
-        }
-        i += 1;
-    }
-    true
-}
+ghost use Rattle.arrays.specs.Same.{sameList};
+ghost use Rattle.model.specs.File.{headed, laidOut, whole, plain};
 
 // 1: "under 30 or over 784 bytes, other first four bytes, or a section count other than 3"
 pub fn is_headed(b: &[u8]) -> bool
@@ -31,7 +17,7 @@ pub fn is_headed(b: &[u8]) -> bool
     if 784 < b.len() {
         return false;
     }
-    if !begins(b, b"DECK") {
+    if !arrays::same::same_bytes(&b[..4], b"DECK") {
         return false;
     }
     number2(b, 4) == 3

@@ -44,19 +44,19 @@ fn are_placed(pins: &[u64], n: usize, steiner: &[u64], m: usize) -> bool
     requires { ⌜ (n ≤ length (now pins)) × (m ≤ length (now steiner)) ⌝ }
     ensures { λ r. ⌜ r ≡ placedCodes (take n (now (pins .entry))) (take m (now (steiner .entry))) ⌝ }
 {
-    if sets::has(pins, n, BEYOND) {
+    if arrays::sorted::has(pins, n, BEYOND) {
         return false;
     }
-    if sets::has(steiner, m, BEYOND) {
+    if arrays::sorted::has(steiner, m, BEYOND) {
         return false;
     }
-    if !sets::rises(pins, n) {
+    if !arrays::sorted::rises(pins, n) {
         return false;
     }
-    if !sets::rises(steiner, m) {
+    if !arrays::sorted::rises(steiner, m) {
         return false;
     }
-    sets::none_in(pins, n, steiner, m)
+    arrays::sorted::none_in(pins, n, steiner, m)
 }
 
 // 5: "a coordinate out of range, points of a section not strictly rising, or a tap on a pin". There is room here for all Steiner points

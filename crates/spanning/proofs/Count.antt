@@ -8,7 +8,7 @@ use native.Mathlib.Omega.{arith}
 use lib.ListN.{length, length-map}
 use Rattle.spanning.specs.Graph.{Graph, Conn, stop, fwd, bwd, In, Forest, Tree}
 use Rattle.spanning.proofs.Conn.{conn-trans, conn-sym, conn-edge, conn-map}
-use Rattle.spanning.proofs.Sorted.{Distinct, mem-split}
+use Rattle.arrays.proofs.Members.{Distinct, mem-split}
 use Rattle.spanning.proofs.Forest.{Grown, forest-grown}
 use Rattle.spanning.proofs.Rank.{rank}
 

@@ -7,7 +7,7 @@ use Prim.Native.Nat.{ℕ, _≤_}
 use native.Mathlib.Omega.{arith}
 use Rattle.spanning.specs.Graph.{Graph, In, total}
 use Rattle.spanning.specs.Kruskal.{kruskal}
-use Rattle.spanning.specs.Order.{StrictTotal, Sorted}
+use Rattle.arrays.specs.Order.{StrictTotal, Sorted}
 use Rattle.spanning.proofs.Conn.{conn-mono}
 use Rattle.spanning.proofs.Kruskal.{kruskal-in, kruskal-forest, kruskal-connects, kruskal-sorted, kruskal-total}
 use Rattle.spanning.proofs.Rank.{Spans}

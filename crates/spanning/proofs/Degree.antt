@@ -8,7 +8,7 @@ use Prim.Native.Nat.{ℕ, suc, _+_, _*_, _≤_}
 use native.Mathlib.Omega.{arith}
 use lib.ListN.{length}
 use Rattle.spanning.specs.Graph.{Graph, Conn, stop, fwd, bwd, In, Tree, total, degree}
-use Rattle.spanning.proofs.Sorted.{Distinct}
+use Rattle.arrays.proofs.Members.{Distinct}
 use Rattle.spanning.proofs.Totals.{Without, take-out, total-same-terms, total-least, total-const, total-union}
 use Rattle.spanning.proofs.Count.{tree-count, forest-ends}
 

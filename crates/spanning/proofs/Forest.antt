@@ -5,7 +5,7 @@ use mathlib.Core.Logic.{_↔_, _⊎_, inl, inr, ⊎-elim}
 use mathlib.Core.List.{List, [], _∷_, _++_, append-nil, List·Memᴰ·head as head, List·Memᴰ·tail as tail, List·Memᴰ·cases-cons as cases, List·Memᴰ·not-nil as not-nil, Memᴰ·append-left, Memᴰ·append-right}
 use Rattle.spanning.specs.Graph.{Graph, Conn, stop, fwd, bwd, In, Forest}
 use Rattle.spanning.proofs.Conn.{conn-cast, conn-trans, conn-sym, conn-edge, conn-mono}
-use Rattle.spanning.proofs.Sorted.{mem-shift, mem-split, mem-more, mem-less, Distinct}
+use Rattle.arrays.proofs.Members.{mem-shift, mem-split, mem-more, mem-less, Distinct}
 
 -- Each edge joins two different components of the edges after it.
 abbrev pub Grown : {P E : Type 0} → Graph P E → List E → Type 0

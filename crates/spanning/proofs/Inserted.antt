@@ -3,8 +3,8 @@ use mathlib.Core.Path.{_≡_, sym, subst}
 use mathlib.Core.Logic.{_↔_, _⊎_, inl, inr, ⊎-elim}
 use mathlib.Core.List.{List, [], _∷_, List·Memᴰ·head as head, List·Memᴰ·tail as tail, List·Memᴰ·cases-cons as cases, List·Memᴰ·not-nil as not-nil}
 use Rattle.spanning.specs.Graph.{In}
-use Rattle.spanning.specs.Order.{StrictTotal, Sorted}
-use Rattle.spanning.proofs.Sorted.{sorted-ext}
+use Rattle.arrays.specs.Order.{StrictTotal, Sorted}
+use Rattle.arrays.proofs.Members.{sorted-ext}
 
 -- The list T is the sorted list S with e in its place.
 pub data Inserted {E : Type 0} (before : E → E → Type 0) (e : E) : List E → List E → Type 0 where

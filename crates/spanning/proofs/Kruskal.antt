@@ -7,10 +7,10 @@ use Prim.Native.Nat.{ℕ, _+_, _≤_}
 use native.Mathlib.Omega.{arith}
 use Rattle.spanning.specs.Graph.{Graph, Conn, In, Forest, total}
 use Rattle.spanning.specs.Kruskal.{kruskal}
-use Rattle.spanning.specs.Order.{Sorted}
+use Rattle.arrays.specs.Order.{Sorted}
 use Rattle.spanning.proofs.Conn.{conn-edge, conn-mono, conn-bind}
 use Rattle.spanning.proofs.Component.{kruskal-cases}
-use Rattle.spanning.proofs.Sorted.{mem-shift}
+use Rattle.arrays.proofs.Members.{mem-shift}
 use Rattle.spanning.proofs.Forest.{Joins, forest-joins}
 
 module _ {P E : Type 0} (G : Graph P E) where

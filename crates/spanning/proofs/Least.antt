@@ -9,10 +9,10 @@ use native.Mathlib.Omega.{arith}
 use lib.ListN.{length}
 use Rattle.spanning.specs.Graph.{Graph, Conn, In, Forest, total}
 use Rattle.spanning.specs.Kruskal.{kruskal}
-use Rattle.spanning.specs.Order.{StrictTotal, Sorted, First}
+use Rattle.arrays.specs.Order.{StrictTotal, Sorted, First}
 use Rattle.spanning.proofs.Conn.{conn-edge, conn-mono}
 use Rattle.spanning.proofs.Component.{kruskal-cases}
-use Rattle.spanning.proofs.Sorted.{mem-shift}
+use Rattle.arrays.proofs.Members.{mem-shift}
 use Rattle.spanning.proofs.Forest.{Grown, Joins, forest-grown, forest-joins}
 use Rattle.spanning.proofs.Kruskal.{kruskal-in, kruskal-forest, kruskal-connects, kruskal-sorted}
 use Rattle.spanning.proofs.Rank.{Spans, rank}

@@ -1,6 +1,5 @@
 pub mod Conn
 pub mod Component
-pub mod Sorted
 pub mod Forest
 pub mod Kruskal
 pub mod Rank

@@ -6,10 +6,10 @@ use mathlib.Core.Logic.{_↔_, _⊎_, inl, inr, ⊎-elim}
 use mathlib.Core.List.{List, [], _∷_, List·Memᴰ·head as head, List·Memᴰ·tail as tail, List·Memᴰ·cases-cons as cases, List·Memᴰ·not-nil as not-nil}
 use Rattle.spanning.specs.Graph.{Graph, Conn, In}
 use Rattle.spanning.specs.Kruskal.{kruskal}
-use Rattle.spanning.specs.Order.{StrictTotal, Sorted}
+use Rattle.arrays.specs.Order.{StrictTotal, Sorted}
 use Rattle.spanning.proofs.Conn.{conn-edge, conn-mono, conn-bind}
 use Rattle.spanning.proofs.Component.{kruskal-cases}
-use Rattle.spanning.proofs.Sorted.{sorted-ext}
+use Rattle.arrays.proofs.Members.{sorted-ext}
 use Rattle.spanning.proofs.Kruskal.{kruskal-in, kruskal-sorted}
 
 -- The edges of l that come before e.

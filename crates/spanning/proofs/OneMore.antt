@@ -8,11 +8,11 @@ use native.Mathlib.Decide.{decLt}
 use native.Mathlib.Omega.{arith}
 use Rattle.spanning.specs.Graph.{Graph, Conn, In, total}
 use Rattle.spanning.specs.Kruskal.{kruskal}
-use Rattle.spanning.specs.Order.{StrictTotal, Sorted}
+use Rattle.arrays.specs.Order.{StrictTotal, Sorted}
 use Rattle.spanning.specs.Bottleneck.{Within}
 use Rattle.spanning.proofs.Conn.{conn-edge, conn-mono, conn-bind}
 use Rattle.spanning.proofs.Component.{kruskal-cases}
-use Rattle.spanning.proofs.Sorted.{mem-shift}
+use Rattle.arrays.proofs.Members.{mem-shift}
 use Rattle.spanning.proofs.Inserted.{Inserted, here, later, inserted}
 use Rattle.spanning.proofs.Forest.{exchange}
 use Rattle.spanning.proofs.Kruskal.{kruskal-in}

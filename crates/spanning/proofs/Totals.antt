@@ -7,7 +7,7 @@ use native.Mathlib.Nat.{mul-zero, mul-suc}
 use native.Mathlib.Omega.{arith}
 use lib.ListN.{length}
 use Rattle.spanning.specs.Graph.{total}
-use Rattle.spanning.proofs.Sorted.{Distinct}
+use Rattle.arrays.proofs.Members.{Distinct}
 
 -- The list l without its member a.
 pub record Without {A : Type 0} (a : A) (l : List A) : Type 0 where

@@ -4,7 +4,7 @@ use mathlib.Core.List.{List, [], List·Memᴰ}
 use Prim.Native.Nat.{ℕ, _≤_}
 use Rattle.spanning.specs.Graph.{Graph, Conn, In, Tree, total}
 use Rattle.spanning.specs.Kruskal.{kruskal}
-use Rattle.spanning.specs.Order.{StrictTotal, Sorted}
+use Rattle.arrays.specs.Order.{StrictTotal, Sorted}
 use Rattle.spanning.proofs.Conn.{conn-bind}
 use Rattle.spanning.proofs.Kruskal.{kruskal-in, kruskal-forest, kruskal-connects}
 use Rattle.spanning.proofs.Rank.{Spans}

@@ -1,4 +1,3 @@
 pub mod Bottleneck
 pub mod Graph
 pub mod Kruskal
-pub mod Order

@@ -8,13 +8,13 @@ use native.Mathlib.Decide.{ℕ-discrete, decLt}
 use native.Mathlib.Omega.{arith}
 use lib.Dec.{T, ltb}
 use Rattle.spanning.specs.Graph.{Graph, Conn, stop, In}
-use Rattle.spanning.specs.Order.{Sorted}
+use Rattle.arrays.specs.Order.{Sorted}
 use Rattle.spanning.proofs.Conn.{conn-edge, conn-sym}
 use Rattle.spanning.proofs.Tree.{Links}
 use Rattle.plane.specs.Point.{Point, dist}
-use Rattle.plane.proofs.Order.{nat-order}
-use Rattle.model.specs.Set.{union}
-use Rattle.model.proofs.Set.{union-in, union-sorted}
+use Rattle.arrays.proofs.Order.{nat-order}
+use Rattle.arrays.specs.Set.{union}
+use Rattle.arrays.proofs.Set.{union-in, union-sorted}
 use Rattle.tree.specs.Keys.{key, low, high, keyGraph, tab, rays, allKeys}
 use Rattle.tree.proofs.Keys.{key-low, key-high}
 

@@ -6,7 +6,7 @@ use native.Mathlib.Omega.{arith}
 use lib.Dec.{ltb}
 use lib.ListN.{length, take, drop}
 use lib.Seq.{drop-drop, take-at, drop-append-add}
-use Rattle.model.specs.Set.{put}
+use Rattle.arrays.specs.Set.{put}
 use Rattle.tree.specs.Front.{Front}
 use Rattle.tree.proofs.Place.{put-size}
 

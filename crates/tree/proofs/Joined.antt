@@ -10,13 +10,13 @@ use native.Mathlib.Omega.{arith}
 use lib.Dec.{T-not, ltb, ltb→lt, lt→ltb}
 use Rattle.spanning.specs.Graph.{total}
 use Rattle.spanning.specs.Kruskal.{kruskal}
-use Rattle.plane.specs.Test.{if}
+use Rattle.arrays.specs.Test.{if}
 use Rattle.plane.specs.Point.{Point, lower}
-use Rattle.plane.proofs.Test.{by-test}
+use Rattle.arrays.proofs.Test.{by-test}
 use Rattle.plane.proofs.Order.{lower-order}
-use Rattle.model.specs.Set.{put, union}
+use Rattle.arrays.specs.Set.{put, union}
 use Rattle.model.specs.Tree.{treeLength}
-use Rattle.model.proofs.Set.{put-in, put-sorted}
+use Rattle.arrays.proofs.Set.{put-in, put-sorted}
 use Rattle.tree.specs.Keys.{weight, keyGraph, tab, rays, allKeys, treeKeys, joinedKeys}
 use Rattle.tree.specs.Build.{Rises}
 use Rattle.tree.proofs.AllKeys.{rays-same, all-keys-same}

@@ -7,18 +7,19 @@ use native.Mathlib.Decide.{ℕ-discrete}
 use native.Mathlib.Omega.{arith}
 use lib.Dec.{T, ltb, lt→ltb, ltb→lt}
 use lib.ListN.{length, length-append}
-use Rattle.spanning.specs.Order.{Sorted}
+use Rattle.arrays.specs.Order.{Sorted}
 use Rattle.spanning.proofs.Kruskal.{kruskal-in}
-use Rattle.plane.specs.Test.{if}
+use Rattle.arrays.specs.Test.{if}
 use Rattle.plane.specs.Point.{Point, lower, Lower}
 use Rattle.plane.specs.Edge.{Edge, listedBefore, planar}
-use Rattle.plane.proofs.Test.{by-test, thenBy-cases, same-test}
-use Rattle.plane.proofs.Order.{lower-order, listed-order, tied}
-use Rattle.model.specs.Set.{tie, setOf}
+use Rattle.arrays.proofs.Test.{by-test, thenBy-cases, same-test}
+use Rattle.arrays.proofs.Order.{tied}
+use Rattle.plane.proofs.Order.{lower-order, listed-order}
+use Rattle.arrays.specs.Set.{tie, setOf}
 use Rattle.model.specs.Tree.{mst}
 use Rattle.model.specs.File.{numberOf}
-use Rattle.model.proofs.Set.{tie-eq, no-tie}
-use Rattle.model.proofs.SetMap.{union-map}
+use Rattle.arrays.proofs.Set.{tie-eq, no-tie}
+use Rattle.arrays.proofs.SetMap.{union-map}
 use Rattle.model.proofs.Tree.{mst-run-tree}
 use Rattle.model.proofs.FileSize.{number-rises, number-below}
 use Rattle.tree.specs.Keys.{keyGraph, edgeOf, tab, allKeys, treeKeys, endsOf, endsAt}

@@ -11,11 +11,11 @@ use lib.Dec.{T, T-not}
 use lib.ListN.{length, getD, set, length-set, List·getD-append}
 use lib.Seq.{ext-getD, getD-at, getD-set-same, getD-set-other}
 use lib.IntN.{ℤ, _-ℤ_}
-use Rattle.plane.specs.Test.{if}
+use Rattle.arrays.specs.Test.{if}
 use Rattle.plane.specs.Point.{Point, dist}
 use Rattle.plane.specs.Octant.{conditions, inOctant, firstTrue, octant}
 use Rattle.plane.specs.Nearest.{inOctantOf}
-use Rattle.plane.proofs.Test.{by-test}
+use Rattle.arrays.proofs.Test.{by-test}
 use Rattle.plane.proofs.Octant.{octant-is}
 use Rattle.tree.specs.Keys.{key, tab, leastKey, octantKeys, noKey}
 use Rattle.tree.proofs.Numbers.{tab-length}

@@ -8,9 +8,9 @@ use native.Mathlib.Decide.{ℕ-discrete, decLt}
 use native.Mathlib.Omega.{arith}
 use lib.Dec.{T, ltb, ltb→lt}
 use Rattle.spanning.specs.Graph.{Graph, In, degree}
-use Rattle.spanning.specs.Order.{StrictTotal, Sorted}
+use Rattle.arrays.specs.Order.{StrictTotal, Sorted}
 use Rattle.spanning.specs.Kruskal.{kruskal}
-use Rattle.spanning.proofs.Sorted.{sorted-ext}
+use Rattle.arrays.proofs.Members.{sorted-ext}
 use Rattle.spanning.proofs.Rename.{Renamed, kruskal-rename, degree-rename}
 use Rattle.spanning.proofs.Kruskal.{kruskal-in}
 use Rattle.plane.specs.Point.{Point, Lower, dist}

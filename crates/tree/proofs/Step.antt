@@ -9,7 +9,7 @@ use lib.Dec.{ltb}
 use lib.ListN.{length, take, drop, getD, length-map}
 use lib.Seq.{take-at, length-take-le}
 use Rattle.spanning.specs.Kruskal.{kruskal}
-use Rattle.spanning.proofs.Sorted.{sorted-distinct}
+use Rattle.arrays.proofs.Members.{sorted-distinct}
 use Rattle.spanning.proofs.Count.{tree-count}
 use Rattle.plane.specs.Point.{Point, Lower, gap, dist}
 use Rattle.plane.specs.Edge.{planar}
@@ -18,7 +18,7 @@ use Rattle.plane.specs.Stored.{pointAt}
 use Rattle.plane.proofs.Whole.{gap-le}
 use Rattle.plane.proofs.Order.{lower-order}
 use Rattle.plane.proofs.Stored.{coordinate-value}
-use Rattle.model.specs.Set.{union}
+use Rattle.arrays.specs.Set.{union}
 use Rattle.model.specs.Tree.{mst}
 use Rattle.model.proofs.Tree.{mst-run-tree}
 use Rattle.model.proofs.Bounds.{edges-fewer}

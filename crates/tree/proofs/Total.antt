@@ -10,17 +10,18 @@ use native.Mathlib.Nat.{le-antisymm, le-trans}
 use native.Mathlib.Omega.{arith}
 use lib.Dec.{T, ltb, ltb→lt, nltb→le}
 use Rattle.spanning.specs.Graph.{Graph, Conn, stop, In, Tree, total}
-use Rattle.spanning.specs.Order.{StrictTotal, Sorted}
+use Rattle.arrays.specs.Order.{StrictTotal, Sorted}
 use Rattle.spanning.specs.Kruskal.{kruskal}
 use Rattle.spanning.proofs.Conn.{conn-edge, conn-sym, conn-mono, conn-bind, conn-map}
 use Rattle.spanning.proofs.Kruskal.{kruskal-in, kruskal-connects}
 use Rattle.spanning.proofs.Cover.{cover}
 use Rattle.spanning.proofs.Rename.{total-rename}
-use Rattle.plane.specs.Test.{if}
+use Rattle.arrays.specs.Test.{if}
 use Rattle.plane.specs.Point.{Point, lower, Lower, dist, pointDec}
 use Rattle.plane.specs.Edge.{Edge, Rising, edgeLength, planar}
-use Rattle.plane.proofs.Test.{by-test}
-use Rattle.plane.proofs.Order.{nat-order, lower-order}
+use Rattle.arrays.proofs.Test.{by-test}
+use Rattle.arrays.proofs.Order.{nat-order}
+use Rattle.plane.proofs.Order.{lower-order}
 use Rattle.plane.proofs.Metric.{dist-sym}
 use Rattle.model.specs.Tree.{mst, lengthOf, treeLength, RunTree}
 use Rattle.model.proofs.Tree.{mst-run-tree}

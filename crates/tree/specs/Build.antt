@@ -5,7 +5,7 @@ use Prim.Native.Nat.{ℕ, _+_, _≤_, _<_}
 use lib.ListN.{length, take}
 use Rattle.plane.specs.Point.{Point, lower, Lower}
 use Rattle.plane.specs.Stored.{pointAt}
-use Rattle.model.specs.Set.{put}
+use Rattle.arrays.specs.Set.{put}
 use Rattle.model.specs.Tree.{treeLength}
 use Rattle.tree.specs.Held.{held}
 use Rattle.tree.specs.Keys.{tab, treeKeys}

@@ -7,11 +7,11 @@ use native.Mathlib.Decide.{ℕ-discrete}
 use lib.Dec.{ltb}
 use Rattle.spanning.specs.Graph.{Graph, total}
 use Rattle.spanning.specs.Kruskal.{kruskal}
-use Rattle.plane.specs.Test.{if}
+use Rattle.arrays.specs.Test.{if}
 use Rattle.plane.specs.Point.{Point, dist}
 use Rattle.plane.specs.Edge.{Edge}
 use Rattle.plane.specs.Nearest.{inOctantOf}
-use Rattle.model.specs.Set.{union}
+use Rattle.arrays.specs.Set.{union}
 use Rattle.model.specs.File.{numberOf}
 
 -- An edge of length d between the points i and j, i the smaller: one comparison of keys compares lengths, then i, then j.

@@ -6,7 +6,7 @@ use Prim.Native.Nat.{ℕ, _≤_}
 use lib.Dec.{ltb}
 use lib.ListN.{length, take, drop}
 use lib.Seq.{take-length}
-use Rattle.model.specs.Set.{setOf}
+use Rattle.arrays.specs.Set.{setOf}
 use Rattle.tree.specs.Held.{held}
 use Rattle.tree.specs.Keys.{tab, endsOf}
 use Rattle.tree.specs.Build.{Rises}

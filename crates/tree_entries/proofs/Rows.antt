@@ -8,7 +8,7 @@ use lib.ListN.{length, take, drop, getD, set}
 use lib.Seq.{drop-cons, set-at, append-snoc}
 use Rattle.spanning.specs.Graph.{total}
 use Rattle.spanning.specs.Kruskal.{kruskal}
-use Rattle.model.specs.Set.{put, union}
+use Rattle.arrays.specs.Set.{put, union}
 use Rattle.model.specs.Tree.{pairs, edges, mst, treeLength}
 use Rattle.tree.specs.Held.{held}
 use Rattle.tree.specs.Keys.{weight, tab, treeKeys}

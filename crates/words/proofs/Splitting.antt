@@ -10,7 +10,7 @@ use lib.Dec.{eqb}
 use lib.ListN.{length, take, drop, getD, drop-of-length-le, length-drop}
 use lib.Seq.{drop-cons, drop-drop, length-take-le}
 use borrow.Author.Tests.{eq-eqb, ne-eqb}
-use Rattle.words.specs.Words.{isSpace, ended, split, wordsOf, same, spaces, letters, Next}
+use Rattle.words.specs.Words.{isSpace, ended, split, wordsOf, spaces, letters, Next}
 
 -- White space by the tests of the code.
 pub space-outside : (b : ℕ) → ¬ (b ≡ 32) → (9 ≤ b → 13 < b) → false ≡ isSpace b
@@ -143,31 +143,3 @@ module _ (line : List ℕ) (from start end : ℕ) (a : start ≡ from + spaces (
 
       rest : drop (letters (drop start line)) (drop start line) ≡ drop end line
       rest = drop-drop (letters (drop start line)) start line ∙ ap (λ (n : ℕ). drop n line) (sym b)
-
--- Two words of one length, compared byte by byte.
-module _ (w v : List ℕ) (i : ℕ) (long : length w ≡ length v) (inv : same w v ≡ same (drop i w) (drop i v)) where
-  one : i < length w → same w v ≡ (eqb (getD w i 0) (getD v i 0) && same (drop (i + 1) w) (drop (i + 1) v))
-  unfolding same
-  one h = inv ∙ rw (here w i h, here v i (omega arith)) refl
-
-  pub same-on : i < length w → getD w i 0 ≡ getD v i 0 → same w v ≡ same (drop (i + 1) w) (drop (i + 1) v)
-  same-on h e = one h ∙ rw (eq-eqb (getD w i 0) (getD v i 0) e) refl
-
-  pub same-stop : i < length w → (getD w i 0 ≡ getD v i 0 → ⊥) → false ≡ same w v
-  same-stop h n = sym (one h ∙ rw (ne-eqb (getD w i 0) (getD v i 0) n) refl)
-
-  pub same-end : length w ≤ i → true ≡ same w v
-  unfolding same
-  same-end h = sym (inv ∙ rw (drop-of-length-le w {i = i} h, drop-of-length-le v {i = i} (omega arith)) refl)
-
--- Two words of different lengths.
-pub same-long : (w v : List ℕ) → (length w ≡ length v → ⊥) → false ≡ same w v
-unfolding same
-same-long [] [] n = absurd (n refl)
-same-long [] (c ∷ v) n = refl
-same-long (b ∷ w) [] n = refl
-same-long (b ∷ w) (c ∷ v) n = go (eqb b c) (same-long w v (λ e. n (ap suc e)))
-  where
-    go : (t : Bool) → false ≡ same w v → false ≡ (t && same w v)
-    go true e = e
-    go false e = refl

@@ -5,7 +5,7 @@ use mathlib.Core.List.{List, [], _∷_, _++_}
 use Prim.Native.Nat.{ℕ, _+_, _*_, _-_, min}
 use lib.Dec.{leb, ltb}
 use lib.ListN.{length, take, drop}
-use Rattle.plane.specs.Test.{if}
+use Rattle.arrays.specs.Test.{if}
 
 -- The value of a hexadecimal digit, 0 (48) to 9 (57), A (65) to F (70) and a (97) to f (102); 16 where a byte is none.
 unfoldable pub digitOf : ℕ → ℕ

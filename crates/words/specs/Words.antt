@@ -5,7 +5,7 @@ use mathlib.Core.List.{List, [], _∷_, _++_}
 use Prim.Native.Nat.{ℕ, suc, _-_, _≤_}
 use lib.Dec.{eqb}
 use lib.ListN.{length, take, drop}
-use Rattle.plane.specs.Test.{if}
+use Rattle.arrays.specs.Test.{if}
 
 -- White space: tab, line feed, form feed, carriage return and space.
 unfoldable pub isSpace : ℕ → Bool
@@ -24,13 +24,6 @@ split w (b ∷ l) = if (isSpace b) (λ _. ended w (split [] l)) (λ _. split (w 
 -- The words of a line, each of one byte or more.
 abbrev pub wordsOf : List ℕ → List (List ℕ)
 wordsOf l = split [] l
-
--- Whether two words are the same.
-unfoldable pub same : List ℕ → List ℕ → Bool
-same [] [] = true
-same [] (c ∷ v) = false
-same (b ∷ w) [] = false
-same (b ∷ w) (c ∷ v) = eqb b c && same w v
 
 -- How many bytes of white space a line begins with.
 unfoldable pub spaces : List ℕ → ℕ

@@ -6,7 +6,6 @@ ghost use mathlib.Core.Path.{_≡_};
 ghost use Prim.Native.Nat.{_+_, _≤_};
 ghost use lib.ListN.{length, drop};
 ghost use Rattle.words.specs.Words.{isSpace, spaces, letters, Next};
-ghost use Rattle.words.specs.Words as words;
 
 // A word: from the place `start` of its line up to the place `end`, which is not its own.
 pub struct Span {
@@ -70,21 +69,4 @@ pub fn next(line: &[u8], from: usize) -> Span
     let start = skip(line, from);
     let end = past(line, start);
     Span { start, end }
-}
-
-// Whether a word is a name.
-pub fn same(word: &[u8], name: &[u8]) -> bool
-    ensures { λ r. ⌜ r ≡ words.same (now (word .entry)) (now (name .entry)) ⌝ }
-{
-    if word.len() != name.len() {
-        return false;
-    }
-    let mut i = 0;
-    while i < word.len() {
-        if word[i] != name[i] {
-            return false;
-        }
-        i += 1;
-    }
-    true
 }

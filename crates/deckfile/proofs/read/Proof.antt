@@ -1,6 +1,6 @@
 -- `deckfile::read` meets its contract: one check after the other.
 use mathlib.Core.Path.{_∙_}
-use Rattle.plane.proofs.Test.{of-true}
+use Rattle.arrays.proofs.Test.{of-true}
 use Rattle.deckfile.proofs.Reading.{passed, failed, long-enough, sections-of, few-pins, refused-1, refused-2, refused-3, refused-4, refused-5, all-passed}
 use borrow.Author.Needs.{needs}
 use native.Mathlib.Omega.{arith}

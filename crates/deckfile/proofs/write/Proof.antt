@@ -1,6 +1,6 @@
 -- `deckfile::write` meets its contract: one check after the other.
 use Rattle.deck.proofs.Forms.{sound-is}
-use Rattle.plane.proofs.Test.{of-true}
+use Rattle.arrays.proofs.Test.{of-true}
 use Rattle.deckfile.proofs.Reading.{passed, failed}
 use Rattle.deckfile.proofs.Writing.{write-unsound, write-short, write-done}
 use borrow.Author.Needs.{needs}

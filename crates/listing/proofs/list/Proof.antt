@@ -4,7 +4,7 @@ use native.Mathlib.Omega.{arith}
 use borrow.Author.Tests.{not-true, not-false}
 use borrow.Author.Needs.{needs}
 use Rattle.deck.proofs.Forms.{sound-is}
-use Rattle.plane.proofs.Test.{of-true}
+use Rattle.arrays.proofs.Test.{of-true}
 use Rattle.ascii.proofs.Fitting.{front-none, front-put}
 use Rattle.listing.proofs.Answering.{text-sound, text-unsound}
 use Rattle.ascii.proofs.Puts.{put-same}

@@ -3,15 +3,15 @@ use mathlib.Core.Path.{_≡_, sym, _∙_}
 use native.Mathlib.Omega.{arith}
 use lib.ListN.{length}
 use borrow.Author.Tests.{not-true, not-false}
-use Rattle.plane.proofs.Test.{of-true}
+use Rattle.arrays.proofs.Test.{of-true}
 use Rattle.questions.proofs.Asking.{degree-none, degree-there}
 use borrow.Author.Needs.{needs}
 use Rattle.questions.proofs.degree_of.Statement.{statement}
 use Rattle.questions.proofs.degree_of.Tie as tie
 use Rattle.questions.proofs.degree_of.Reads as reads
 use Rattle.questions.proofs.degree_of.Lts as lts
-use Rattle.sets.proofs.has.Reads as has-reads
-use Rattle.sets.proofs.place.Reads as place-reads
+use Rattle.arrays.proofs.sorted.has.Reads as has-reads
+use Rattle.arrays.proofs.sorted.place.Reads as place-reads
 use Rattle.tree.proofs.list.degree_of.Reads as degree-of-reads
 
 slice-aggregate-has : tie.Need-slice-aggregate-has

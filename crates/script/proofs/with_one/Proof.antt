@@ -5,22 +5,22 @@ use Rattle.script.proofs.Arguments.{one-dash, one-hex, one-other, one-n
 use Rattle.script.proofs.with_one.Statement.{statement}
 use Rattle.script.proofs.with_one.Tie as tie
 
-slice-aggregate-same : tie.Need-slice-aggregate-same
-slice-aggregate-same c = search needs
+slice-aggregate-same-bytes : tie.Need-slice-aggregate-same-bytes
+slice-aggregate-same-bytes c = search needs
 
-same-requires : tie.Need-same-requires
-same-requires c κs = search needs
+same-bytes-requires : tie.Need-same-bytes-requires
+same-bytes-requires c κs = search needs
 
-slice-aggregate-same-2 : tie.Need-slice-aggregate-same-2
-slice-aggregate-same-2 c = search needs
+slice-aggregate-same-bytes-2 : tie.Need-slice-aggregate-same-bytes-2
+slice-aggregate-same-bytes-2 c = search needs
 
-same-requires-2 : tie.Need-same-requires-2
-same-requires-2 c κs = search needs
+same-bytes-requires-2 : tie.Need-same-bytes-requires-2
+same-bytes-requires-2 c κs = search needs
 
 returns : tie.Need-returns
 returns c =
     let t1 = c .before .before .before in
-    one-dash _ _ (sym (t1 .before .same .ensures) ∙ t1 .if1 .taken) (sym (c .before .same2 .ensures) ∙ c .if2 .taken)
+    one-dash _ _ (sym (t1 .before .same-bytes .ensures) ∙ t1 .if1 .taken) (sym (c .before .same-bytes2 .ensures) ∙ c .if2 .taken)
 
 is-hex-requires : tie.Need-is-hex-requires
 is-hex-requires c κs = search needs
@@ -29,14 +29,14 @@ returns-2 : tie.Need-returns-2
 returns-2 c =
     let t2 = c .before .before in
     let t1 = t2 .before .before .before in
-    one-hex _ _ (sym (t1 .before .same .ensures) ∙ t1 .if1 .taken) (sym (t2 .before .same2 .ensures) ∙ t2 .if2 .left)
+    one-hex _ _ (sym (t1 .before .same-bytes .ensures) ∙ t1 .if1 .taken) (sym (t2 .before .same-bytes2 .ensures) ∙ t2 .if2 .left)
     (sym (c .before .is-hex .ensures) ∙ c .if3 .taken)
 
 returns-3 : tie.Need-returns-3
 returns-3 c =
     let t2 = c .before .before in
     let t1 = t2 .before .before .before in
-    one-other _ _ (sym (t1 .before .same .ensures) ∙ t1 .if1 .taken) (sym (t2 .before .same2 .ensures) ∙ t2 .if2 .left)
+    one-other _ _ (sym (t1 .before .same-bytes .ensures) ∙ t1 .if1 .taken) (sym (t2 .before .same-bytes2 .ensures) ∙ t2 .if2 .left)
     (sym (c .before .is-hex .ensures) ∙ c .if3 .left)
 
 size-of-requires : tie.Need-size-of-requires
@@ -54,23 +54,23 @@ with-size-requires c κs = search needs
 returns-4 : tie.Need-returns-4
 returns-4 c =
     let t1 = c .before .before .before in
-    one-none _ _ (sym (t1 .before .same .ensures) ∙ t1 .if1 .left) _ (c .before .before .size-of .ensures) (c .enum-told .given .1)
+    one-none _ _ (sym (t1 .before .same-bytes .ensures) ∙ t1 .if1 .left) _ (c .before .before .size-of .ensures) (c .enum-told .given .1)
 
 returns-5 : tie.Need-returns-5
 returns-5 c =
     let sized = c .before .before .before .before in
     let t1 = sized .before in
-    one-size _ _ (sym (t1 .before .same .ensures) ∙ t1 .if1 .left) _ _ _ (sized .size-of .ensures) (c .before .before .n .given .1)
+    one-size _ _ (sym (t1 .before .same-bytes .ensures) ∙ t1 .if1 .left) _ _ _ (sized .size-of .ensures) (c .before .before .n .given .1)
     (c .with-size .ensures)
 
 pub with-one-spec : {M : Type 1} → statement M
 with-one-spec =
     tie.close
     (tie.spec
-    slice-aggregate-same
-    same-requires
-    slice-aggregate-same-2
-    same-requires-2
+    slice-aggregate-same-bytes
+    same-bytes-requires
+    slice-aggregate-same-bytes-2
+    same-bytes-requires-2
     returns
     is-hex-requires
     returns-2

@@ -1,7 +1,7 @@
 -- `deck::Deck::empty` meets its contract, by computation.
 use mathlib.Core.Path.{refl}
 use Rattle.spanning.specs.Kruskal.{kruskal}
-use Rattle.model.specs.Set.{union}
+use Rattle.arrays.specs.Set.{union}
 use Rattle.model.specs.Tree.{pairs, edges, mst}
 use Rattle.model.specs.State.{points}
 use Rattle.model.specs.Question.{listed}

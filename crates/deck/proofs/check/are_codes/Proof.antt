@@ -4,7 +4,7 @@ use borrow.Author.Tests.{not-true, not-false}
 use native.Mathlib.Omega.{arith}
 use borrow.Author.Needs.{needs}
 use Rattle.plan.specs.Code.{isCode}
-use Rattle.sets.proofs.Scans.{Passed, passed-none, passed-more, passed-fail, passed-end}
+use Rattle.arrays.proofs.sorted.Scan.{Passed, passed-none, passed-more, passed-fail, passed-end}
 use Rattle.deck.proofs.check.are_codes.Statement.{statement}
 use Rattle.deck.proofs.check.are_codes.Tie as tie
 use Rattle.deck.proofs.check.are_codes.Reads as reads

@@ -1,7 +1,7 @@
 -- `deck::check::check` meets its contract: the points are those of a valid state, and the edges those of its tree.
 use mathlib.Core.Path.{sym, _∙_}
 use borrow.Author.Tests.{not-true, not-false}
-use Rattle.plane.proofs.Test.{of-true}
+use Rattle.arrays.proofs.Test.{of-true}
 use Rattle.deck.proofs.Checking.{refuted, refused}
 use Rattle.deck.proofs.Pointing.{points-fail, points-planned, edges-fail, edges-pass}
 use borrow.Author.Needs.{needs}

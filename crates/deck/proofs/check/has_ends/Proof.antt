@@ -7,16 +7,15 @@ use Rattle.deck.proofs.check.has_ends.Statement.{statement}
 use Rattle.deck.proofs.check.has_ends.Tie as tie
 use Rattle.deck.proofs.check.has_ends.Reads as reads
 use Rattle.deck.proofs.check.has_ends.Lts as lts
-use Rattle.deck.proofs.check.is_same.Reads as is-same-reads
 
-slice-aggregate-is-same : tie.Need-slice-aggregate-is-same
-slice-aggregate-is-same c = search needs
+slice-aggregate-same-numbers : tie.Need-slice-aggregate-same-numbers
+slice-aggregate-same-numbers c = search needs
 
-slice-aggregate-is-same-2 : tie.Need-slice-aggregate-is-same-2
-slice-aggregate-is-same-2 c = search needs
+slice-aggregate-same-numbers-2 : tie.Need-slice-aggregate-same-numbers-2
+slice-aggregate-same-numbers-2 c = search needs
 
-is-same-requires : tie.Need-is-same-requires
-is-same-requires c κs =
+same-numbers-requires : tie.Need-same-numbers-requires
+same-numbers-requires c κs =
     let h : length (c .before .before .before .before .args .d .ends) ≡ 128 = search needs in
     let k : length (c .before .before .before .before .args .e .ends) ≡ 128 = search needs in
     omega (arith, h, k)
@@ -26,4 +25,4 @@ returns c = search needs
 
 pub has-ends-spec : {M : Type 1} → statement M
 has-ends-spec =
-    tie.close (tie.spec slice-aggregate-is-same slice-aggregate-is-same-2 is-same-requires returns)
+    tie.close (tie.spec slice-aggregate-same-numbers slice-aggregate-same-numbers-2 same-numbers-requires returns)

@@ -3,7 +3,7 @@ use mathlib.Core.Path.{_≡_, refl, sym, _∙_}
 use lib.Dec.{T}
 use lib.ListN.{length}
 use borrow.Author.Tests.{not-true, not-false}
-use Rattle.plane.proofs.Test.{and-parts, of-true}
+use Rattle.arrays.proofs.Test.{and-parts, of-true}
 use Rattle.model.specs.State.{valid}
 use Rattle.deck.specs.Form.{stateOf}
 use Rattle.deck.specs.Check.{arranged}

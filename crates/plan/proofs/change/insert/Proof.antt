@@ -7,8 +7,8 @@ use Rattle.plan.proofs.change.insert.Tie as tie
 use Rattle.plan.proofs.change.insert.Reads as reads
 use Rattle.plan.proofs.change.insert.Lts as lts
 use Rattle.plan.proofs.prune.prune.Reads as prune-reads
-use Rattle.sets.proofs.out.Reads as out-reads
-use Rattle.sets.proofs.put.Reads as put-reads
+use Rattle.arrays.proofs.sorted.out.Reads as out-reads
+use Rattle.arrays.proofs.sorted.put.Reads as put-reads
 
 slice-aggregate-put : tie.Need-slice-aggregate-put
 slice-aggregate-put c = search needs

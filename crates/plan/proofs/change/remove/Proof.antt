@@ -7,7 +7,7 @@ use Rattle.plan.proofs.change.remove.Tie as tie
 use Rattle.plan.proofs.change.remove.Reads as reads
 use Rattle.plan.proofs.change.remove.Lts as lts
 use Rattle.plan.proofs.prune.prune.Reads as prune-reads
-use Rattle.sets.proofs.out.Reads as out-reads
+use Rattle.arrays.proofs.sorted.out.Reads as out-reads
 
 slice-aggregate-out : tie.Need-slice-aggregate-out
 slice-aggregate-out c = search needs

@@ -7,7 +7,7 @@ use Rattle.plan.proofs.change.with_steiner.Tie as tie
 use Rattle.plan.proofs.change.with_steiner.Reads as reads
 use Rattle.plan.proofs.change.with_steiner.Lts as lts
 use Rattle.plan.proofs.prune.prune.Reads as prune-reads
-use Rattle.sets.proofs.put.Reads as put-reads
+use Rattle.arrays.proofs.sorted.put.Reads as put-reads
 
 slice-aggregate-put : tie.Need-slice-aggregate-put
 slice-aggregate-put c = search needs

@@ -8,7 +8,7 @@ use Rattle.plan.proofs.prune.first_weak.Statement.{statement}
 use Rattle.plan.proofs.prune.first_weak.Tie as tie
 use Rattle.plan.proofs.prune.first_weak.Reads as reads
 use Rattle.plan.proofs.prune.first_weak.Lts as lts
-use Rattle.sets.proofs.place.Reads as place-reads
+use Rattle.arrays.proofs.sorted.place.Reads as place-reads
 use Rattle.tree.proofs.list.degree_of.Reads as degree-of-reads
 
 abbrev Inv-loop : tie.InvT-loop

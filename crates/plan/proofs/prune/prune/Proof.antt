@@ -11,7 +11,7 @@ use Rattle.plan.proofs.prune.prune.Reads as reads
 use Rattle.plan.proofs.prune.prune.Lts as lts
 use Rattle.plan.proofs.arrange.Reads as arrange-reads
 use Rattle.plan.proofs.prune.lowest_weak.Reads as lowest-weak-reads
-use Rattle.sets.proofs.out.Reads as out-reads
+use Rattle.arrays.proofs.sorted.out.Reads as out-reads
 
 abbrev Inv-loop : tie.InvT-loop
 Inv-loop pins npins nsteiner rest₀ t₀ w₀ j₀ rest t w j = Sweeping pins npins rest₀ t₀ rest t w j × (length rest ≡ 64) × (t ≤ 64)

@@ -2,7 +2,7 @@
 use mathlib.Core.Path.{_∙_}
 use Prim.Native.Nat.{_-_, _*_}
 use lib.ListN.{take, drop}
-use Rattle.sets.proofs.Scans.{Alike}
+use Rattle.arrays.proofs.same.Alike.{Alike}
 use Rattle.sections.specs.Bytes.{edgeBytes}
 use Rattle.sections.proofs.Comparing.{edges-none, edges-more, edges-fail-first, edges-fail-second, edges-end}
 use borrow.Author.Needs.{needs}

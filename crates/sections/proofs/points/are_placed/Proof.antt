@@ -2,7 +2,7 @@
 use mathlib.Core.Path.{sym, ap, _∙_}
 use mathlib.Core.Bool.{not}
 use borrow.Author.Tests.{not-true, not-false}
-use Rattle.sets.proofs.Scans.{and-no, and-yes}
+use Rattle.arrays.proofs.Test.{and-no, and-yes}
 use borrow.Author.Needs.{needs}
 use Rattle.sections.proofs.points.are_placed.Statement.{statement}
 use Rattle.sections.proofs.points.are_placed.Tie as tie

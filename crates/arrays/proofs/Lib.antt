@@ -1,0 +1,5 @@
+pub mod Members
+pub mod Order
+pub mod Set
+pub mod SetMap
+pub mod Test

@@ -1,0 +1,2 @@
+-- Laws of the comparison of slices.
+pub mod Alike

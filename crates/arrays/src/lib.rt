@@ -1,0 +1,3 @@
+// Arrays of numbers, below everything else: no point and no graph is known here.
+pub mod same;
+pub mod sorted;
