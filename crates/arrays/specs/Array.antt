@@ -1,4 +1,4 @@
--- What the functions over arrays of numbers say: a set written to the front of an array, the place of a number, a row of zeros,
+-- What the functions over arrays of numbers say: a set with numbers taken out of it, the index of a number, a row of zeros,
 -- and the two steps of a merge.
 use mathlib.Core.Path.{_≡_}
 use mathlib.Core.Bool.{Bool, true, not, _&&_}
@@ -9,20 +9,15 @@ use lib.ListN.{length, drop, replicate}
 use Rattle.arrays.specs.Test.{if}
 use Rattle.arrays.specs.Set.{all, has, tie}
 
--- The set l was written over the front of an array, nothing behind it changed, and r counts it.
-pub record Written (l before after : List ℕ) (r : ℕ) : Type 0 where
-  pub count : r ≡ length l
-  pub shows : after ≡ l ++ drop (length l) before
-
 -- Of the first n elements the set l is left, in front; zeros fill the places freed; nothing behind changed; r counts l.
 pub record Removed (l before after : List ℕ) (n r : ℕ) : Type 0 where
   pub count : r ≡ length l
   pub shows : after ≡ l ++ (replicate (n - length l) 0 ++ drop n before)
 
--- How many elements stand before the first that is k.
-unfoldable pub placeOf : ℕ → List ℕ → ℕ
-placeOf k [] = 0
-placeOf k (b ∷ l) = if (tie ltb k b) (λ _. 0) (λ _. suc (placeOf k l))
+-- The index of k: how many elements stand before the first that is k.
+unfoldable pub indexOf : ℕ → List ℕ → ℕ
+indexOf k [] = 0
+indexOf k (b ∷ l) = if (tie ltb k b) (λ _. 0) (λ _. suc (indexOf k l))
 
 -- No element of the second list is in the first.
 abbrev pub noneIn : List ℕ → List ℕ → Bool

@@ -11,8 +11,8 @@ use borrow.Author.Tests.{lt-ltb, le-ltb}
 use Rattle.arrays.specs.Test.{if}
 use Rattle.arrays.proofs.Test.{by-test}
 use Rattle.model.specs.Listing.{digitsFrom, decimal}
-use Rattle.ascii.specs.Text.{Put}
-use Rattle.ascii.proofs.Puts.{put-same}
+use Rattle.arrays.specs.Paste.{Pasted}
+use Rattle.arrays.proofs.paste.Parts.{pasted-same}
 
 -- The last digit, and those in front of it where there are more.
 module _ (k n : ℕ) (t : List ℕ) where
@@ -104,9 +104,9 @@ unfolding tens
 decimal-few n h = omega (arith, digits-few 4 20 n [] h)
 
 -- The digits written as one word.
-pub decimal-put : (l old new : List ℕ) (n r at s : ℕ) → length l ≡ 20 → drop r l ≡ decimal n → Put (take (20 - r) (drop r l)) old new at s
-    → Put (decimal n) old new at s × (s ≤ at + 20)
+pub decimal-put : (l old new : List ℕ) (n r at s : ℕ) → length l ≡ 20 → drop r l ≡ decimal n → Pasted (take (20 - r) (drop r l)) old new at s
+    → Pasted (decimal n) old new at s × (s ≤ at + 20)
 decimal-put l old new n r at s e d p =
     let all : take (20 - r) (drop r l) ≡ drop r l = take-all (20 - r) (drop r l) (omega (arith, length-drop r l)) in
-    let q : Put (decimal n) old new at s = put-same (all ∙ d) p in
+    let q : Pasted (decimal n) old new at s = pasted-same (all ∙ d) p in
     (q, omega (arith, q .next, decimal-most n))

@@ -16,9 +16,9 @@ use Rattle.plane.proofs.Whole.{plus, minus, difference-value, whole-ext}
 use Rattle.plane.proofs.Signed.{less-yes, less-no, fits-by}
 use Rattle.plane.proofs.Stored.{coordinate-value}
 use Rattle.model.specs.Listing.{decimal, signedDecimal, field}
-use Rattle.ascii.specs.Text.{Put}
+use Rattle.arrays.specs.Paste.{Pasted}
 use Rattle.ascii.proofs.Decimals.{decimal-most, decimal-few}
-use Rattle.ascii.proofs.Puts.{put-same}
+use Rattle.arrays.proofs.paste.Parts.{pasted-same}
 
 -- One less than the magnitude of a negative number is −1 less the number.
 flipped : (k : ℕ) → negsuc 0 -ℤ negsuc k ≡ pos k
@@ -74,33 +74,33 @@ coordinate-few u h = go (coordinate u) (coordinate-value u)
     go (negsuc n) e = unfold signedDecimal in omega (arith, decimal-few (suc n) (omega arith))
 
 -- What is written for a whole number read back from its bits is written for the number.
-pub signed-again : (z : ℤ) {old new : List ℕ} {at r : ℕ} → SFits w32 z → Put (signedDecimal (toZ w32 (ofZ w32 z))) old new at r → Put (signedDecimal z) old new at r
-signed-again z f p = put-same (ap signedDecimal (toZ-ofZ w32 z f)) p
+pub signed-again : (z : ℤ) {old new : List ℕ} {at r : ℕ} → SFits w32 z → Pasted (signedDecimal (toZ w32 (ofZ w32 z))) old new at r → Pasted (signedDecimal z) old new at r
+signed-again z f p = pasted-same (ap signedDecimal (toZ-ofZ w32 z f)) p
 
-pub field-again : (z : ℤ) {old new : List ℕ} {at r : ℕ} → SFits w32 z → Put (field (signedDecimal (toZ w32 (ofZ w32 z)))) old new at r
-    → Put (field (signedDecimal z)) old new at r
-field-again z f p = put-same (ap (λ (y : ℤ). field (signedDecimal y)) (toZ-ofZ w32 z f)) p
+pub field-again : (z : ℤ) {old new : List ℕ} {at r : ℕ} → SFits w32 z → Pasted (field (signedDecimal (toZ w32 (ofZ w32 z)))) old new at r
+    → Pasted (field (signedDecimal z)) old new at r
+field-again z f p = pasted-same (ap (λ (y : ℤ). field (signedDecimal y)) (toZ-ofZ w32 z f)) p
 
 -- The number m in base ten, written for the whole number z that is read back from its bits.
 module _ (z : ℤ) (old new : List ℕ) (m at r : ℕ) (f : SFits w32 z) (e : m ≡ natAbs (toZ w32 (ofZ w32 z))) where
   size : m ≡ natAbs z
   size = e ∙ ap natAbs (toZ-ofZ w32 z f)
 
-  written : Put (signedDecimal z) old new at r → Put (signedDecimal z) old new at r × (r ≤ at + 21)
+  written : Pasted (signedDecimal z) old new at r → Pasted (signedDecimal z) old new at r × (r ≤ at + 21)
   written p = (p, omega (arith, p .next, signed-most z))
 
-  pub minus-put : ltZ (toZ w32 (ofZ w32 z)) (pos 0) ≡ true → Put (45 ∷ decimal m) old new at r → Put (signedDecimal z) old new at r × (r ≤ at + 21)
+  pub minus-put : ltZ (toZ w32 (ofZ w32 z)) (pos 0) ≡ true → Pasted (45 ∷ decimal m) old new at r → Pasted (signedDecimal z) old new at r × (r ≤ at + 21)
   minus-put l p =
       written
-      (put-same (ap (λ (k : ℕ). 45 ∷ decimal k) size ∙ text-minus z (ap (λ (y : ℤ). ltZ y (pos 0)) (sym (toZ-ofZ w32 z f)) ∙ l)) p)
+      (pasted-same (ap (λ (k : ℕ). 45 ∷ decimal k) size ∙ text-minus z (ap (λ (y : ℤ). ltZ y (pos 0)) (sym (toZ-ofZ w32 z f)) ∙ l)) p)
 
-  pub plus-put : ltZ (toZ w32 (ofZ w32 z)) (pos 0) ≡ false → Put (decimal m) old new at r → Put (signedDecimal z) old new at r × (r ≤ at + 21)
+  pub plus-put : ltZ (toZ w32 (ofZ w32 z)) (pos 0) ≡ false → Pasted (decimal m) old new at r → Pasted (signedDecimal z) old new at r × (r ≤ at + 21)
   plus-put l p =
-      written (put-same (ap decimal size ∙ text-plus z (ap (λ (y : ℤ). ltZ y (pos 0)) (sym (toZ-ofZ w32 z f)) ∙ l)) p)
+      written (pasted-same (ap decimal size ∙ text-plus z (ap (λ (y : ℤ). ltZ y (pos 0)) (sym (toZ-ofZ w32 z f)) ∙ l)) p)
 
 -- A coordinate, read back from its bits, as a field.
-pub coordinate-put : (z : ℤ) (old new : List ℕ) (u at r : ℕ) → SFits w32 z → z ≡ coordinate u → Put (field (signedDecimal (toZ w32 (ofZ w32 z)))) old new at r
-    → u < 65536 → Put (field (signedDecimal (coordinate u))) old new at r × (r ≤ at + 7)
+pub coordinate-put : (z : ℤ) (old new : List ℕ) (u at r : ℕ) → SFits w32 z → z ≡ coordinate u → Pasted (field (signedDecimal (toZ w32 (ofZ w32 z)))) old new at r
+    → u < 65536 → Pasted (field (signedDecimal (coordinate u))) old new at r × (r ≤ at + 7)
 coordinate-put z old new u at r f e p h =
-    let q : Put (field (signedDecimal (coordinate u))) old new at r = put-same (ap (λ (y : ℤ). field (signedDecimal y)) (toZ-ofZ w32 z f ∙ e)) p in
+    let q : Pasted (field (signedDecimal (coordinate u))) old new at r = pasted-same (ap (λ (y : ℤ). field (signedDecimal y)) (toZ-ofZ w32 z f ∙ e)) p in
     (q, omega (arith, q .next, coordinate-few u h))

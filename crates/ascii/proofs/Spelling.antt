@@ -9,30 +9,10 @@ use lib.ListN.{length, take, getD}
 use lib.Seq.{take-suc, take-length}
 use borrow.Author.Tests.{lt-ltb, le-ltb, eq-eqb, ne-eqb}
 use Rattle.arrays.specs.Test.{if}
-use Rattle.tree.specs.Front.{Front}
-use Rattle.ascii.specs.Encoding.{spelled, hexDigit, hexPair, fileText, spread, bodyLength}
-use Rattle.ascii.specs.Text.{Put, fitting}
+use Rattle.arrays.specs.Paste.{Pasted}
+use Rattle.ascii.specs.Encoding.{hexDigit, hexPair, fileText, spread, bodyLength}
+use Rattle.ascii.specs.Text.{fitting}
 use Rattle.ascii.proofs.Fitting.{front-none, front-put}
-
-spelled-snoc : (f : ℕ → List ℕ) (l : List ℕ) (b : ℕ) → spelled f (l ++ (b ∷ [])) ≡ spelled f l ++ f b
-unfolding spelled
-spelled-snoc f [] b = append-nil (f b)
-spelled-snoc f (a ∷ l) b = ap (λ (t : List ℕ). f a ++ t) (spelled-snoc f l b) ∙ sym (append-assoc (f a) (spelled f l) (f b))
-
--- The first i bytes spelled.
-abbrev pub spelledTo : (ℕ → List ℕ) → List ℕ → ℕ → List ℕ
-spelledTo f l i = spelled f (take i l)
-
-pub spelled-none : (f : ℕ → List ℕ) (l : List ℕ) → spelledTo f l 0 ≡ []
-unfolding spelled
-spelled-none f l = refl
-
-pub spelled-more : (f : ℕ → List ℕ) (l : List ℕ) (i : ℕ) → i < length l → spelledTo f l (i + 1) ≡ spelledTo f l i ++ f (getD l i 0)
-spelled-more f l i h =
-    ap (λ (k : ℕ). spelledTo f l k) (add-one i) ∙ ap (spelled f) (take-suc l i 0 h) ∙ spelled-snoc f (take i l) (getD l i 0)
-
-pub spelled-all : (f : ℕ → List ℕ) (l : List ℕ) → spelledTo f l (length l) ≡ spelled f l
-spelled-all f l = ap (spelled f) (take-length l)
 
 -- The digits.
 pub digit-low : (n : ℕ) → n < 10 → 48 + n ≡ hexDigit n
@@ -47,7 +27,7 @@ pair-is b c d e f = λ i. e i ∷ f i ∷ []
 -- The line of a file, by whether there is room.
 module _ (l before : List ℕ) where
   abbrev Shows : List ℕ → ℕ → Type 0
-  Shows after r = Front (fitting (64 + 2 * length l) before (fileText l)) before after r
+  Shows after r = Pasted (fitting (64 + 2 * length l) before (fileText l)) before after 0 r
 
   pub file-small : length before < 64 → Shows before 0
   file-small h = front-none (64 + 2 * length l) before (fileText l) (omega arith)
@@ -55,7 +35,7 @@ module _ (l before : List ℕ) where
   pub file-short : 64 ≤ length before → (length before - 64) / 2 < length l → Shows before 0
   file-short h k = front-none (64 + 2 * length l) before (fileText l) (omega arith)
 
-  pub file-long : {after : List ℕ} {r : ℕ} → 64 ≤ length before → length l ≤ (length before - 64) / 2 → Put (fileText l) before after 0 r → Shows after r
+  pub file-long : {after : List ℕ} {r : ℕ} → 64 ≤ length before → length l ≤ (length before - 64) / 2 → Pasted (fileText l) before after 0 r → Shows after r
   file-long {after} {r} h k p = front-put (64 + 2 * length l) before after (fileText l) r (omega arith) p
 
 -- A line feed, and any other byte.

@@ -3,13 +3,9 @@ use mathlib.Core.List.{List, [], _∷_, _++_}
 use Prim.Native.Nat.{ℕ, _+_, _-_, _/_, _%_}
 use lib.Dec.{ltb, eqb}
 use lib.ListN.{length, take, getD}
+use Rattle.arrays.specs.Paste.{each}
 use Rattle.arrays.specs.Test.{if}
 use Rattle.model.specs.Listing.{field, decimal, lineFeed}
-
--- What stands for each byte, one behind the other.
-unfoldable pub spelled : (ℕ → List ℕ) → List ℕ → List ℕ
-spelled f [] = []
-spelled f (b ∷ l) = f b ++ spelled f l
 
 -- The digit of a number below 16: 0 to 9, a to f.
 abbrev pub hexDigit : ℕ → ℕ
@@ -24,7 +20,7 @@ abbrev pub fileWord : List ℕ
 fileWord = 102 ∷ 105 ∷ 108 ∷ 101 ∷ []
 
 abbrev pub fileText : List ℕ → List ℕ
-fileText l = fileWord ++ (field (decimal (length l)) ++ field (spelled hexPair l))
+fileText l = fileWord ++ (field (decimal (length l)) ++ field (each hexPair l))
 
 -- A line feed becomes ` / `; any other byte stays.
 abbrev pub spread : ℕ → List ℕ
@@ -36,4 +32,4 @@ bodyLength l = if (eqb (getD l (length l - 1) 0) lineFeed) (λ _. length l - 1) 
 
 -- The lines of a text, joined by ` / `.
 abbrev pub joinedLines : List ℕ → List ℕ
-joinedLines l = spelled spread (take (bodyLength l) l)
+joinedLines l = each spread (take (bodyLength l) l)

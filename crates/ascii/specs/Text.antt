@@ -1,15 +1,9 @@
--- Bytes written into an array, and a text at its front.
-use mathlib.Core.Path.{_≡_}
-use mathlib.Core.List.{List, [], _++_}
-use Prim.Native.Nat.{ℕ, _+_}
+-- A text at the front of an array.
+use mathlib.Core.List.{List, []}
+use Prim.Native.Nat.{ℕ}
 use lib.Dec.{leb}
-use lib.ListN.{length, take, drop}
+use lib.ListN.{length}
 use Rattle.arrays.specs.Test.{if}
-
--- The bytes stand from place `at` on, nothing else changed, and r is the place behind them.
-pub record Put (bytes before after : List ℕ) (at r : ℕ) : Type 0 where
-  pub next : r ≡ at + length bytes
-  pub shows : after ≡ take at before ++ (bytes ++ drop (at + length bytes) before)
 
 -- The text, where the slice has room for the longest of its kind; else nothing.
 abbrev pub fitting : ℕ → List ℕ → List ℕ → List ℕ

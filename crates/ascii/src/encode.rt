@@ -1,13 +1,13 @@
 // A file in hexadecimal, and a text of several lines on one line.
-use super::byte;
 use super::decimal_field;
-use super::word;
+use arrays::paste::put_byte;
+use arrays::paste::put_bytes;
 ghost use mathlib.Core.Path.{_≡_};
 ghost use Prim.Native.Nat.{_+_, _*_, _≤_, _<_};
 ghost use lib.ListN.{length, take};
-ghost use Rattle.tree.specs.Front.{Front};
+ghost use Rattle.arrays.specs.Paste.{Pasted, each};
 ghost use Rattle.ascii.specs.Encoding as text;
-ghost use Rattle.ascii.specs.Text.{Put, fitting};
+ghost use Rattle.ascii.specs.Text.{fitting};
 
 // The digit of a number below 16.
 fn digit(n: u8) -> u8
@@ -20,17 +20,17 @@ fn digit(n: u8) -> u8
 // The two digits of a byte.
 fn pair(out: &mut [u8], at: usize, b: u8) -> usize
     requires { ⌜ at + 2 ≤ length (now out) ⌝ }
-    ensures { λ r. ⌜ Put (text.hexPair b) (now (out .entry)) (now (out .exit)) at r ⌝ }
+    ensures { λ r. ⌜ Pasted (text.hexPair b) (now (out .entry)) (now (out .exit)) at r ⌝ }
     ensures { λ r. ⌜ r ≤ at + 2 ⌝ }
 {
-    let next = byte(out, at, digit(b / 16));
-    byte(out, next, digit(b % 16))
+    let next = put_byte(out, at, digit(b / 16));
+    put_byte(out, next, digit(b % 16))
 }
 
 // The digits of all bytes.
 fn pairs(bytes: &[u8], out: &mut [u8], at: usize) -> usize
     requires { ⌜ at + 2 * length (now bytes) ≤ length (now out) ⌝ }
-    ensures { λ r. ⌜ Put (text.spelled text.hexPair (now (bytes .entry))) (now (out .entry)) (now (out .exit)) at r ⌝ }
+    ensures { λ r. ⌜ Pasted (each text.hexPair (now (bytes .entry))) (now (out .entry)) (now (out .exit)) at r ⌝ }
 {
     let mut next = at;
     let mut i = 0;
@@ -44,7 +44,7 @@ fn pairs(bytes: &[u8], out: &mut [u8], at: usize) -> usize
 // The line of a file at the front of `out`, which has to have room for two bytes for each byte of the file and 64 more. Returns
 // its length; 0 where there is no room.
 pub fn file_line(file: &[u8], out: &mut [u8]) -> usize
-    ensures { λ r. ⌜ Front (fitting (64 + 2 * length (now (file .entry))) (now (out .entry)) (text.fileText (now (file .entry)))) (now (out .entry)) (now (out .exit)) r ⌝ }
+    ensures { λ r. ⌜ Pasted (fitting (64 + 2 * length (now (file .entry))) (now (out .entry)) (text.fileText (now (file .entry)))) (now (out .entry)) (now (out .exit)) 0 r ⌝ }
 {
     if out.len() < 64 {
         return 0;
@@ -52,9 +52,9 @@ pub fn file_line(file: &[u8], out: &mut [u8]) -> usize
     if (out.len() - 64) / 2 < file.len() {
         return 0;
     }
-    let a = word(out, 0, b"file");
+    let a = put_bytes(out, 0, b"file");
     let b = decimal_field(out, a, file.len() as u64);
-    let c = byte(out, b, b' ');
+    let c = put_byte(out, b, b' ');
     pairs(file, out, c)
 }
 
@@ -76,20 +76,20 @@ fn body_length(lines: &[u8]) -> usize
 // A byte of a text, or ` / ` for a line feed.
 fn spread(out: &mut [u8], at: usize, b: u8) -> usize
     requires { ⌜ at + 3 ≤ length (now out) ⌝ }
-    ensures { λ r. ⌜ Put (text.spread b) (now (out .entry)) (now (out .exit)) at r ⌝ }
+    ensures { λ r. ⌜ Pasted (text.spread b) (now (out .entry)) (now (out .exit)) at r ⌝ }
     ensures { λ r. ⌜ r ≤ at + 3 ⌝ }
 {
     if b == 10 {
-        return word(out, at, b" / ");
+        return put_bytes(out, at, b" / ");
     }
-    byte(out, at, b)
+    put_byte(out, at, b)
 }
 
 // The first n bytes of a text, each line feed as ` / `.
 fn spread_all(lines: &[u8], n: usize, out: &mut [u8]) -> usize
     requires { ⌜ n ≤ length (now lines) ⌝ }
     requires { ⌜ 3 * n ≤ length (now out) ⌝ }
-    ensures { λ r. ⌜ Put (text.spelled text.spread (take n (now (lines .entry)))) (now (out .entry)) (now (out .exit)) 0 r ⌝ }
+    ensures { λ r. ⌜ Pasted (each text.spread (take n (now (lines .entry)))) (now (out .entry)) (now (out .exit)) 0 r ⌝ }
 {
     let mut next = 0;
     let mut i = 0;
@@ -103,7 +103,7 @@ fn spread_all(lines: &[u8], n: usize, out: &mut [u8]) -> usize
 // The lines of a text joined by ` / ` at the front of `out`, which has to have room for three times as many bytes. Returns the
 // length; 0 where there is no room.
 pub fn joined(lines: &[u8], out: &mut [u8]) -> usize
-    ensures { λ r. ⌜ Front (fitting (3 * length (now (lines .entry))) (now (out .entry)) (text.joinedLines (now (lines .entry)))) (now (out .entry)) (now (out .exit)) r ⌝ }
+    ensures { λ r. ⌜ Pasted (fitting (3 * length (now (lines .entry))) (now (out .entry)) (text.joinedLines (now (lines .entry)))) (now (out .entry)) (now (out .exit)) 0 r ⌝ }
 {
     if out.len() / 3 < lines.len() {
         return 0;

@@ -1,35 +1,14 @@
-// Bytes, words and numbers, written from a place of a slice on. Each function returns the place behind what it wrote.
+// Numbers in base ten, written from a place of a slice on. Each function returns the place behind what it wrote.
 pub mod encode;
 
+use arrays::paste::put_byte;
+use arrays::paste::put_bytes;
 ghost use mathlib.Core.Path.{_≡_};
-ghost use mathlib.Core.List.{[], _∷_};
-ghost use Prim.Native.Nat.{_+_, _≤_, _<_};
+ghost use Prim.Native.Nat.{_+_, _≤_};
 ghost use lib.IntN.{natAbs};
 ghost use lib.ListN.{length, drop};
 ghost use Rattle.model.specs.Listing as model;
-ghost use Rattle.ascii.specs.Text.{Put};
-
-// One byte.
-pub fn byte(out: &mut [u8], at: usize, b: u8) -> usize
-    requires { ⌜ at < length (now out) ⌝ }
-    ensures { λ r. ⌜ Put (b ∷ []) (now (out .entry)) (now (out .exit)) at r ⌝ }
-{
-    out[at] = b;
-    at + 1
-}
-
-// The bytes of another slice.
-pub fn word(out: &mut [u8], at: usize, w: &[u8]) -> usize
-    requires { ⌜ at + length (now w) ≤ length (now out) ⌝ }
-    ensures { λ r. ⌜ Put (now (w .entry)) (now (out .entry)) (now (out .exit)) at r ⌝ }
-{
-    let mut i = 0;
-    while i < w.len() {
-        out[at + i] = w[i];
-        i += 1;
-    }
-    at + i
-}
+ghost use Rattle.arrays.specs.Paste.{Pasted};
 
 // The digits of n in base ten at the end of 20 places. Returns where they start.
 fn digits(n: u64, places: &mut [u8]) -> usize
@@ -53,12 +32,12 @@ fn digits(n: u64, places: &mut [u8]) -> usize
 // A number in base ten, of at most 20 digits.
 pub fn decimal(out: &mut [u8], at: usize, n: u64) -> usize
     requires { ⌜ at + 20 ≤ length (now out) ⌝ }
-    ensures { λ r. ⌜ Put (model.decimal n) (now (out .entry)) (now (out .exit)) at r ⌝ }
+    ensures { λ r. ⌜ Pasted (model.decimal n) (now (out .entry)) (now (out .exit)) at r ⌝ }
     ensures { λ r. ⌜ r ≤ at + 20 ⌝ }
 {
     let mut places = [0u8; 20];
     let start = digits(n, &mut places);
-    word(out, at, &places[start..])
+    put_bytes(out, at, &places[start..])
 }
 
 // A whole number without its sign.
@@ -71,11 +50,11 @@ fn magnitude(z: i32) -> u64
 // A whole number in base ten, with a minus sign in front where it is negative.
 pub fn signed(out: &mut [u8], at: usize, z: i32) -> usize
     requires { ⌜ at + 21 ≤ length (now out) ⌝ }
-    ensures { λ r. ⌜ Put (model.signedDecimal z) (now (out .entry)) (now (out .exit)) at r ⌝ }
+    ensures { λ r. ⌜ Pasted (model.signedDecimal z) (now (out .entry)) (now (out .exit)) at r ⌝ }
     ensures { λ r. ⌜ r ≤ at + 21 ⌝ }
 {
     if z < 0 {
-        let next = byte(out, at, b'-');
+        let next = put_byte(out, at, b'-');
         return decimal(out, next, magnitude(z));
     }
     decimal(out, at, magnitude(z))
@@ -84,19 +63,19 @@ pub fn signed(out: &mut [u8], at: usize, z: i32) -> usize
 // A space and a number.
 pub fn decimal_field(out: &mut [u8], at: usize, n: u64) -> usize
     requires { ⌜ at + 21 ≤ length (now out) ⌝ }
-    ensures { λ r. ⌜ Put (model.field (model.decimal n)) (now (out .entry)) (now (out .exit)) at r ⌝ }
+    ensures { λ r. ⌜ Pasted (model.field (model.decimal n)) (now (out .entry)) (now (out .exit)) at r ⌝ }
     ensures { λ r. ⌜ r ≤ at + 21 ⌝ }
 {
-    let next = byte(out, at, b' ');
+    let next = put_byte(out, at, b' ');
     decimal(out, next, n)
 }
 
 // A space and a whole number.
 pub fn signed_field(out: &mut [u8], at: usize, z: i32) -> usize
     requires { ⌜ at + 22 ≤ length (now out) ⌝ }
-    ensures { λ r. ⌜ Put (model.field (model.signedDecimal z)) (now (out .entry)) (now (out .exit)) at r ⌝ }
+    ensures { λ r. ⌜ Pasted (model.field (model.signedDecimal z)) (now (out .entry)) (now (out .exit)) at r ⌝ }
     ensures { λ r. ⌜ r ≤ at + 22 ⌝ }
 {
-    let next = byte(out, at, b' ');
+    let next = put_byte(out, at, b' ');
     signed(out, next, z)
 }

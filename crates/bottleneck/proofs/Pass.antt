@@ -15,7 +15,7 @@ use Rattle.spanning.specs.Bottleneck.{Bottleneck}
 use Rattle.spanning.proofs.Conn.{conn-mono}
 use Rattle.spanning.proofs.Component.{comp-conn}
 use Rattle.tree.specs.Keys.{keyGraph, weight, low, high}
-use Rattle.tree.specs.Front.{moved}
+use Rattle.tree.specs.Labels.{moved}
 use Rattle.tree.proofs.Keys.{weight-le}
 use Rattle.tree.proofs.Labels.{moved-hit, moved-miss, relabelled}
 use Rattle.bottleneck.specs.Table.{Joined, Filling, Bottlenecks}

@@ -14,8 +14,9 @@ use Rattle.arrays.proofs.Order.{nat-order}
 use Rattle.arrays.specs.Set.{union, setOf}
 use Rattle.model.specs.Round.{crossings, notHeld, candidates, bestAbove, best}
 use Rattle.arrays.proofs.Set.{set-of-sorted}
-use Rattle.arrays.specs.Array.{Written}
-use Rattle.arrays.proofs.sorted.Results.{written-part, union-most}
+use Rattle.arrays.specs.Paste.{Pasted}
+use Rattle.arrays.proofs.paste.Parts.{front-take, front-count, front-is}
+use Rattle.arrays.proofs.sorted.Results.{union-most}
 use Rattle.arrays.proofs.sorted.Rise.{get-rises}
 use Rattle.tree.specs.Held.{held}
 use Rattle.tree.specs.Keys.{tab}
@@ -33,11 +34,11 @@ use Rattle.crossing.proofs.Coordinates.{stored-xs, stored-ys, line-word
 use Rattle.crossing.proofs.Scan.{try-crossings}
 
 -- What `lines` wrote are the lines.
-pub lines-written : (values : List ℕ) (n : ℕ) {before after : List ℕ} {r : ℕ} → Written (setOf ltb (take n values)) before after r → Lines values n after r
+pub lines-written : (values : List ℕ) (n : ℕ) {before after : List ℕ} {r : ℕ} → Pasted (setOf ltb (take n values)) before after 0 r → Lines values n after r
 lines-written values n {before} {after} {r} w =
     record {
-      within = omega (arith, w .count, ap length (w .shows), length-append (setOf ltb (take n values)) (drop (length (setOf ltb (take n values))) before));
-      same = written-part (setOf ltb (take n values)) before after r w;
+      within = omega (arith, front-count w, ap length (front-is w), length-append (setOf ltb (take n values)) (drop (length (setOf ltb (take n values))) before));
+      same = front-take w;
     }
 
 -- The lines of a list of values are stored coordinates that rise, no more than there are values.
@@ -61,11 +62,11 @@ module _ {values : List ℕ} {n : ℕ} {to : List ℕ} {count : ℕ} (p : Lines 
 
 -- The columns are the lines of the points' x, and the rows those of their y.
 pub columns-written : {xs ys : List ℕ} {n : ℕ} {keys : List ℕ} {m : ℕ} → TreeGiven xs ys n keys m → Words xs → {before after : List ℕ} {r : ℕ}
-    → Written (setOf ltb (take n xs)) before after r → Stored after r
+    → Pasted (setOf ltb (take n xs)) before after 0 r → Stored after r
 columns-written {xs = xs} {n = n} p w z = lines-stored (lines-written xs n z) w
 
 pub rows-written : {xs ys : List ℕ} {n : ℕ} {keys : List ℕ} {m : ℕ} → TreeGiven xs ys n keys m → Words ys → {before after : List ℕ} {r : ℕ}
-    → Written (setOf ltb (take n ys)) before after r → RowsGiven after r
+    → Pasted (setOf ltb (take n ys)) before after 0 r → RowsGiven after r
 rows-written {ys = ys} {n = n} p w z = lines-rows (lines-written ys n z) w (omega (arith, p .few))
 
 -- The table, the distances and the ranks are what the search over columns asks.

@@ -18,13 +18,13 @@ ghost use lib.Dec.{ltb};
 ghost use lib.ListN.{length, take};
 ghost use Rattle.arrays.specs.Set.{setOf};
 ghost use Rattle.model.specs.Round as round;
-ghost use Rattle.arrays.specs.Array.{Written};
+ghost use Rattle.arrays.specs.Paste.{Pasted};
 ghost use Rattle.crossing.specs.Search.{TreeGiven, pointsOf, answerOf};
 
 // The different values among the first n, least first, at the front of `to`. Returns how many there are.
 pub fn lines(values: &[u16], n: usize, to: &mut [u64]) -> usize
     requires { ⌜ (n ≤ length (now values)) × (n ≤ length (now to)) ⌝ }
-    ensures { λ r. ⌜ Written (setOf ltb (take n (now (values .entry)))) (now (to .entry)) (now (to .exit)) r ⌝ }
+    ensures { λ r. ⌜ Pasted (setOf ltb (take n (now (values .entry)))) (now (to .entry)) (now (to .exit)) 0 r ⌝ }
 {
     let mut count = 0;
     let mut left = n;

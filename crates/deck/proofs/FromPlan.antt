@@ -11,7 +11,8 @@ use Rattle.arrays.specs.Set.{setOf}
 use Rattle.model.specs.Tree.{mst}
 use Rattle.model.specs.State.{points}
 use Rattle.model.specs.Question.{listed}
-use Rattle.tree.specs.Front.{Front}
+use Rattle.arrays.specs.Paste.{Pasted}
+use Rattle.arrays.proofs.paste.Parts.{front-is}
 use Rattle.tree.specs.Held.{held}
 use Rattle.tree.specs.Keys.{endsOf, endsAt}
 use Rattle.tree.proofs.Numbers.{ends-listed}
@@ -40,7 +41,7 @@ plan-ends w p =
     ∙ sym (ends-listed (held (w .xs) (w .ys)) (w .npoints) (omega (arith, p .few)) (p .rises))
     ∙ ap (λ l. map (endsAt l) (setOf listedBefore (mst l))) (p .points)
 
-pub plan-deck : (w : Plan) → work.Planned w → (ends : List ℕ) (r : ℕ) → Front (setOf ltb (map endsOf (take (w .nkeys) (w .keys)))) (replicate 128 0) ends r
+pub plan-deck : (w : Plan) → work.Planned w → (ends : List ℕ) (r : ℕ) → Pasted (setOf ltb (map endsOf (take (w .nkeys) (w .keys)))) (replicate 128 0) ends 0 r
     → record { pins = w .pins; npins = w .npins; steiner = w .steiner; nsteiner = w .nsteiner; ends = ends } ≡ deckOf (work.stateOf w)
 unfolding deckOf
 plan-deck w p ends r f =
@@ -56,4 +57,4 @@ plan-deck w p ends r f =
     L = setOf ltb (map endsOf (take (w .nkeys) (w .keys)))
 
     listing : ends ≡ row 128 (map (endsAt (points (work.stateOf w))) (listed (work.stateOf w)))
-    listing = f .front ∙ ap (λ (l : List ℕ). L ++ l) (drop-zeros (length L) 128) ∙ ap (row 128) (plan-ends w p)
+    listing = front-is f ∙ ap (λ (l : List ℕ). L ++ l) (drop-zeros (length L) 128) ∙ ap (row 128) (plan-ends w p)

@@ -14,7 +14,7 @@ use Rattle.model.specs.Round.{finish}
 use Rattle.model.specs.File.{Read, deck, refusal, readFile}
 use Rattle.model.specs.Listing.{listing, refusedLine, listingOfFile}
 use Rattle.arrays.proofs.Test.{true-of}
-use Rattle.tree.specs.Front.{Front}
+use Rattle.arrays.specs.Paste.{Pasted}
 use Rattle.deck.specs.declared.Deck.{Deck}
 use Rattle.deck.specs.Form.{deckOf, sound}
 use Rattle.calls.specs.Changes.{refusalNumber}
@@ -31,10 +31,10 @@ pub none-counted : (l : List ℕ) → Counts 0 l
 none-counted l = (omega arith, refl)
 
 -- A text that has room for less has room.
-pub roomy : (m : ℕ) (before after t u : List ℕ) (r : ℕ) → m ≤ 8192 → 8192 ≤ length before → t ≡ u → Front (fitting m before t) before after r
-    → Front (fitting 8192 before u) before after r
+pub roomy : (m : ℕ) (before after t u : List ℕ) (r : ℕ) → m ≤ 8192 → 8192 ≤ length before → t ≡ u → Pasted (fitting m before t) before after 0 r
+    → Pasted (fitting 8192 before u) before after 0 r
 roomy m before after t u r h k e f =
-    subst (λ (l : List ℕ). Front l before after r)
+    subst (λ (l : List ℕ). Pasted l before after 0 r)
     (ap (λ (b : Bool). if b (λ _. t) (λ _. [])) (le-leb m (length before) (omega arith) ∙ sym (le-leb 8192 (length before) k)) ∙ ap (fitting 8192 before) e) f
 
 -- The text of a file, by what reading it gives.

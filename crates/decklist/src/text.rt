@@ -3,12 +3,12 @@ use calls::refusal_number;
 ghost use lib.ListN.{length};
 ghost use Rattle.io.specs.Counts.{Counts};
 ghost use Rattle.model.specs.Listing.{listingOfFile};
-ghost use Rattle.tree.specs.Front.{Front};
+ghost use Rattle.arrays.specs.Paste.{Pasted};
 ghost use Rattle.ascii.specs.Text.{fitting};
 
 // The text for a file at the front of `out`, which has to have room for 8192 bytes. Returns its length; 0 where there is no room.
 pub fn list_file(file: &[u8], out: &mut [u8]) -> usize
-    ensures { λ r. ⌜ Front (fitting 8192 (now (out .entry)) (listingOfFile (now (file .entry)))) (now (out .entry)) (now (out .exit)) r ⌝ }
+    ensures { λ r. ⌜ Pasted (fitting 8192 (now (out .entry)) (listingOfFile (now (file .entry)))) (now (out .entry)) (now (out .exit)) 0 r ⌝ }
     ensures { λ r. ⌜ Counts r (now (out .exit)) ⌝ }
 {
     if out.len() < 8192 {

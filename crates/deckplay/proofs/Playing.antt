@@ -13,26 +13,25 @@ use mir.Val.{SFits, toZ, ofZ}
 use mir.ValLaws.{toZ-ofZ}
 use Rattle.arrays.specs.Test.{if}
 use Rattle.plane.specs.Octant.{octant}
-use Rattle.tree.specs.Front.{Front}
+use Rattle.arrays.specs.Paste.{Pasted}
+use Rattle.arrays.proofs.paste.Parts.{front-take, front-whole, front-within, front-same}
 use Rattle.deck.specs.declared.Deck.{Deck}
-use Rattle.words.specs.Hex.{Filled}
-use Rattle.script.proofs.Fitting.{filled-whole}
 use Rattle.replies.specs.Replies.{errorWord, octantWord, numberText}
 use Rattle.ascii.specs.Text.{fitting}
 use Rattle.listing.specs.Whole.{deckText}
-use Rattle.ascii.proofs.Fitting.{front-fits, front-counted, front-taken}
+use Rattle.ascii.proofs.Fitting.{front-fits}
 use Rattle.deckplay.specs.declared.answer.Played.{Played}
 use Rattle.deckplay.specs.Play.{Line, octantText, Plays}
 
 -- A text that takes at most the room there is.
 pub plays : (a : Line) (room : ℕ) (before after text : List ℕ) (d : Deck) (r : ℕ) → room ≤ 24576 → 24576 ≤ length before → d ≡ a .next → text ≡ a .text
-    → Front (fitting room before text) before after r → Plays a before after (record { next = d; length = r })
+    → Pasted (fitting room before text) before after 0 r → Plays a before after (record { next = d; length = r })
 plays a room before after text d r h k n e f =
     let g = front-fits room before after text r (omega arith) f in
     record {
       next = n;
-      front = subst (λ (t : List ℕ). Front t before after r) e g;
-      counts = front-counted text before after r g;
+      front = subst (λ (t : List ℕ). Pasted t before after 0 r) e g;
+      counts = front-within g;
     }
 
 -- The same answer by another name.
@@ -56,30 +55,23 @@ module _ (x y : ℤ) (k : ℕ) (e : k ≡ octant (toZ w32 (ofZ w32 x)) (toZ w32 
   octant-some n = ap (numberText octantWord) is-octant ∙ ap (chosen (octant x y)) (sym (ne-eqb (octant x y) 8 (λ h. n (is-octant ∙ h))))
 
 -- The listing of a deck in an array.
-module _ (d : Deck) (after : List ℕ) (r : ℕ) (f : Front (fitting 8192 (replicate 8192 0) (deckText d)) (replicate 8192 0) after r) where
-  listed : Front (deckText d) (replicate 8192 0) after r
+module _ (d : Deck) (after : List ℕ) (r : ℕ) (f : Pasted (fitting 8192 (replicate 8192 0) (deckText d)) (replicate 8192 0) after 0 r) where
+  listed : Pasted (deckText d) (replicate 8192 0) after 0 r
   listed = front-fits 8192 (replicate 8192 0) after (deckText d) r (omega (arith, length-replicate {A = ℕ} 8192 0)) f
 
   pub listed-within : (r ≤ length after) × (r ≡ length (take r after))
-  listed-within = front-counted (deckText d) (replicate 8192 0) after r listed
+  listed-within = front-within listed
 
   pub listed-text : take r after ≡ deckText d
-  listed-text = front-taken (deckText d) (replicate 8192 0) after r listed
+  listed-text = front-take listed
 
 pub listed-room : (after : List ℕ) (r : ℕ) → length after ≡ 8192 → r ≤ length after → r ≡ length (take r after) → 3 * length (take r after) ≤ 24576
 listed-room after r e h k = omega (arith, e, h, k)
 
 -- The bytes of a file in an array of 1,000.
-pub filled-within : (l before after : List ℕ) (r : ℕ) → Filled l before after r → length after ≡ 1000 → (r ≤ length after) × (r ≡ length (take r after))
-filled-within l before after r f e =
-    let g : length after ≡ length (take r l) + length (drop r before) = ap length (f .shows) ∙ length-append (take r l) (drop r before) in
-    let t : length (take r l) ≡ r = length-take-le r l (omega (arith, f .count)) in
-    let k : r ≤ length after = omega (arith, g, t) in
-    (k, sym (length-take-le r after k))
-
-pub filled-file : (l after : List ℕ) (r : ℕ) → Filled l (replicate 1000 0) after r → length l ≤ 1000 → take r after ≡ l
-filled-file l after r f h = filled-whole l (replicate 1000 0) after r f (omega (arith, h, length-replicate {A = ℕ} 1000 0)) .1
+pub filled-file : (l after : List ℕ) (r : ℕ) → Pasted (take (length {A = ℕ} (replicate 1000 0)) l) (replicate 1000 0) after 0 r → length l ≤ 1000 → take r after ≡ l
+filled-file l after r f h = front-take (front-whole f (omega (arith, h, length-replicate {A = ℕ} 1000 0)))
 
 -- No answer.
 pub plays-nothing : (d : Deck) (l : List ℕ) → Plays (record { next = d; text = [] }) l l (record { next = d; length = 0 })
-plays-nothing d l = record { next = refl; front = record { count = refl; front = refl }; counts = (omega arith, refl) }
+plays-nothing d l = record { next = refl; front = front-same 0 l (omega arith); counts = (omega arith, refl) }

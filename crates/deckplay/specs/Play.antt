@@ -10,7 +10,7 @@ use Rattle.arrays.specs.Test.{if}
 use Rattle.plane.specs.Octant.{octant}
 use Rattle.model.specs.Call as call
 use Rattle.model.specs.File.{fileOf}
-use Rattle.tree.specs.Front.{Front}
+use Rattle.arrays.specs.Paste.{Pasted}
 use Rattle.deck.specs.declared.Deck.{Deck}
 use Rattle.deck.specs.declared.Outcome.{Outcome}
 use Rattle.questions.specs.declared.Answer.the-variants as answer
@@ -74,5 +74,5 @@ played d b = lineOf d b (script.commandOf b)
 -- The answer of a line stands at the front of the slice.
 pub record Plays (a : Line) (before after : List ℕ) (r : Played) : Type 0 where
   pub next : r .next ≡ a .next
-  pub front : Front (a .text) before after (r .length)
+  pub front : Pasted (a .text) before after 0 (r .length)
   pub counts : io.Counts (r .length) after

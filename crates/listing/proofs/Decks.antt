@@ -24,8 +24,8 @@ use Rattle.model.proofs.Tree.{mst-run-tree, tree-edges}
 use Rattle.model.proofs.Prune.{points-rise}
 use Rattle.model.proofs.Bounds.{points-few}
 use Rattle.model.proofs.FileSize.{listed-count, number-below}
-use Rattle.arrays.specs.Array.{Written}
-use Rattle.arrays.proofs.sorted.Results.{written-part}
+use Rattle.arrays.specs.Paste.{Pasted}
+use Rattle.arrays.proofs.paste.Parts.{front-take, front-count}
 use Rattle.tree.specs.Keys.{endsAt}
 use Rattle.plan.specs.Code.{pointOf, isCode}
 use Rattle.plan.proofs.Arranging.{codes-count}
@@ -35,8 +35,7 @@ use Rattle.deck.specs.Form.{row, stateOf, Sound}
 use Rattle.deck.proofs.Forms.{row-take, row-length, ends-are}
 use Rattle.deck.proofs.Checking.{sound-pins, sound-steiner}
 use Rattle.listing.specs.Line.{headText, edgeAt, Coded, Ended}
-use Rattle.ascii.specs.Text.{Put}
-use Rattle.ascii.proofs.Puts.{put-same}
+use Rattle.arrays.proofs.paste.Parts.{pasted-same}
 
 -- An element of an array is a member of its first places.
 at-in : (a : List ℕ) (n i : ℕ) → n ≤ length a → i < n → List·Memᴰ (getD a i 0) (take n a)
@@ -100,18 +99,18 @@ module _ (codes : List ℕ) (n : ℕ) (fits : n ≤ length codes) (few : n ≤ 1
 
 -- A sound deck, and its points' codes merged.
 module _ (d : Deck) (s : Sound d) (from codes : List ℕ) (n : ℕ)
-    (w : Written (union ltb (take (d .npins) (d .pins)) (take (d .nsteiner) (d .steiner))) from codes n) where
+    (w : Pasted (union ltb (take (d .npins) (d .pins)) (take (d .nsteiner) (d .steiner))) from codes 0 n) where
   abbrev all : List ℕ
   all = union ltb (take (d .npins) (d .pins)) (take (d .nsteiner) (d .steiner))
 
   merged : take n codes ≡ all
-  merged = written-part all from codes n w
+  merged = front-take w
 
   held : map pointOf (take n codes) ≡ points (stateOf d)
   held = unfold points in ap (map pointOf) merged ∙ points-union (take (d .npins) (d .pins)) (take (d .nsteiner) (d .steiner))
 
   held-count : n ≡ length (points (stateOf d))
-  held-count = w .count ∙ sym (length-map all pointOf) ∙ ap (λ (l : List ℕ). length (map pointOf l)) (sym merged) ∙ ap length held
+  held-count = front-count w ∙ sym (length-map all pointOf) ∙ ap (λ (l : List ℕ). length (map pointOf l)) (sym merged) ∙ ap length held
 
   pub held-few : n ≤ 126
   held-few = omega (arith, held-count, points-few (stateOf d) (s .valid))
@@ -167,11 +166,11 @@ module _ (d : Deck) (s : Sound d) (from codes : List ℕ) (n : ℕ)
 
 -- The listing from its three parts.
 pub deck-put : (d : Deck) (s : Sound d) (n : ℕ) → n ≡ question.lengthOfState (stateOf d) → {old new : List ℕ} {at r : ℕ}
-    → Put (headText (d .npins) (d .nsteiner) n ++ (tapLines (stateOf d .steiner) ++ runLines (question.listed (stateOf d)))) old new at r
-    → Put (listing (stateOf d)) old new at r
+    → Pasted (headText (d .npins) (d .nsteiner) n ++ (tapLines (stateOf d .steiner) ++ runLines (question.listed (stateOf d)))) old new at r
+    → Pasted (listing (stateOf d)) old new at r
 unfolding listing
 deck-put d s n e p =
-    put-same
+    pasted-same
     (λ i. headText (codes-count (d .pins) (d .npins) (sound-pins d s) i) (codes-count (d .steiner) (d .nsteiner) (sound-steiner d s) i) (e i)
     ++ (tapLines (stateOf d .steiner) ++ runLines (question.listed (stateOf d))))
     p

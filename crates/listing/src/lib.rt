@@ -1,9 +1,9 @@
 // The listing of a deck, in ASCII, written to a lent slice.
 mod rows;
 
-use ascii::byte;
+use arrays::paste::put_byte;
+use arrays::paste::put_bytes;
 use ascii::decimal_field;
-use ascii::word;
 use deck::Deck;
 use questions::Answer;
 use rows::head_line;
@@ -15,9 +15,9 @@ ghost use Prim.Native.Nat.{_+_, _≤_};
 ghost use lib.ListN.{length};
 ghost use Rattle.model.specs.Question as question;
 ghost use Rattle.model.specs.Listing as model;
-ghost use Rattle.tree.specs.Front.{Front};
+ghost use Rattle.arrays.specs.Paste.{Pasted};
 ghost use Rattle.deck.specs.Form.{Sound, stateOf};
-ghost use Rattle.ascii.specs.Text.{Put, fitting};
+ghost use Rattle.ascii.specs.Text.{fitting};
 ghost use Rattle.listing.specs.Whole.{deckText, Measures};
 
 // Whether a deck is sound, and the length of its tree.
@@ -61,18 +61,18 @@ fn measure(d: Deck) -> Measured
 // A refusal by its number, as a line.
 fn refused_line(out: &mut [u8], n: u64) -> usize
     requires { ⌜ 29 ≤ length (now out) ⌝ }
-    ensures { λ r. ⌜ Put (model.refusedLine n) (now (out .entry)) (now (out .exit)) 0 r ⌝ }
+    ensures { λ r. ⌜ Pasted (model.refusedLine n) (now (out .entry)) (now (out .exit)) 0 r ⌝ }
 {
-    let a = word(out, 0, b"refused");
+    let a = put_bytes(out, 0, b"refused");
     let b = decimal_field(out, a, n);
-    byte(out, b, b'\n')
+    put_byte(out, b, b'\n')
 }
 
 // The tap lines of a sound deck.
 fn write_taps(d: Deck, out: &mut [u8], at: usize) -> usize
     requires { ⌜ at + 1148 ≤ length (now out) ⌝ }
     requires { ⌜ Sound d ⌝ }
-    ensures { λ r. ⌜ Put (model.tapLines (stateOf d .steiner)) (now (out .entry)) (now (out .exit)) at r ⌝ }
+    ensures { λ r. ⌜ Pasted (model.tapLines (stateOf d .steiner)) (now (out .entry)) (now (out .exit)) at r ⌝ }
     ensures { λ r. ⌜ r ≤ at + 1116 ⌝ }
 {
     let steiner = d.steiner;
@@ -83,7 +83,7 @@ fn write_taps(d: Deck, out: &mut [u8], at: usize) -> usize
 fn write_runs(d: Deck, out: &mut [u8], at: usize) -> usize
     requires { ⌜ at + 6625 ≤ length (now out) ⌝ }
     requires { ⌜ Sound d ⌝ }
-    ensures { λ r. ⌜ Put (model.runLines (question.listed (stateOf d))) (now (out .entry)) (now (out .exit)) at r ⌝ }
+    ensures { λ r. ⌜ Pasted (model.runLines (question.listed (stateOf d))) (now (out .entry)) (now (out .exit)) at r ⌝ }
 {
     let pins = d.pins;
     let steiner = d.steiner;
@@ -98,7 +98,7 @@ fn write_deck(d: Deck, n: u64, out: &mut [u8]) -> usize
     requires { ⌜ 8192 ≤ length (now out) ⌝ }
     requires { ⌜ Sound d ⌝ }
     requires { ⌜ n ≡ question.lengthOfState (stateOf d) ⌝ }
-    ensures { λ r. ⌜ Put (model.listing (stateOf d)) (now (out .entry)) (now (out .exit)) 0 r ⌝ }
+    ensures { λ r. ⌜ Pasted (model.listing (stateOf d)) (now (out .entry)) (now (out .exit)) 0 r ⌝ }
 {
     let a = head_line(out, d.npins, d.nsteiner, n);
     let b = write_taps(d, out, a);
@@ -108,7 +108,7 @@ fn write_deck(d: Deck, n: u64, out: &mut [u8]) -> usize
 // The listing of a deck at the front of `out`, which has to have room for 8192 bytes, or the line of refusal 11 where the deck
 // is not sound. Returns its length; 0 where there is no room.
 pub fn list(d: Deck, out: &mut [u8]) -> usize
-    ensures { λ r. ⌜ Front (fitting 8192 (now (out .entry)) (deckText d)) (now (out .entry)) (now (out .exit)) r ⌝ }
+    ensures { λ r. ⌜ Pasted (fitting 8192 (now (out .entry)) (deckText d)) (now (out .entry)) (now (out .exit)) 0 r ⌝ }
 {
     if out.len() < 8192 {
         return 0;
@@ -122,7 +122,7 @@ pub fn list(d: Deck, out: &mut [u8]) -> usize
 
 // The line of a refusal at the front of `out`, which has to have room for 128 bytes. Returns its length; 0 where there is no room.
 pub fn list_refusal(n: u8, out: &mut [u8]) -> usize
-    ensures { λ r. ⌜ Front (fitting 128 (now (out .entry)) (model.refusedLine n)) (now (out .entry)) (now (out .exit)) r ⌝ }
+    ensures { λ r. ⌜ Pasted (fitting 128 (now (out .entry)) (model.refusedLine n)) (now (out .entry)) (now (out .exit)) 0 r ⌝ }
 {
     if out.len() < 128 {
         return 0;

@@ -1,8 +1,8 @@
 // The lines of a deck's listing: the head line, a tap line for each Steiner point and a run line for each edge.
-use ascii::byte;
+use arrays::paste::put_byte;
+use arrays::paste::put_bytes;
 use ascii::decimal_field;
 use ascii::signed_field;
-use ascii::word;
 ghost use mathlib.Core.Path.{_≡_};
 ghost use mathlib.Core.List.{map};
 ghost use Prim.Native.Nat.{_+_, _*_, _≤_, _<_};
@@ -12,12 +12,12 @@ ghost use Rattle.plane.specs.Point.{dist};
 ghost use Rattle.model.specs.Listing as model;
 ghost use Rattle.plan.specs.Code.{pointOf};
 ghost use Rattle.listing.specs.Line.{headText, tapLine, runLine, edgeAt, Coded, Ended};
-ghost use Rattle.ascii.specs.Text.{Put};
+ghost use Rattle.arrays.specs.Paste.{Pasted};
 
 // A space and a coordinate, given in its stored form.
 fn coordinate_field(out: &mut [u8], at: usize, u: u16) -> usize
     requires { ⌜ at + 22 ≤ length (now out) ⌝ }
-    ensures { λ r. ⌜ Put (model.field (model.signedDecimal (coordinate u))) (now (out .entry)) (now (out .exit)) at r ⌝ }
+    ensures { λ r. ⌜ Pasted (model.field (model.signedDecimal (coordinate u))) (now (out .entry)) (now (out .exit)) at r ⌝ }
     ensures { λ r. ⌜ r ≤ at + 7 ⌝ }
 {
     signed_field(out, at, plane::to_signed(u))
@@ -27,7 +27,7 @@ fn coordinate_field(out: &mut [u8], at: usize, u: u16) -> usize
 fn point_fields(out: &mut [u8], at: usize, k: u64) -> usize
     requires { ⌜ at + 29 ≤ length (now out) ⌝ }
     requires { ⌜ k < 4294967296 ⌝ }
-    ensures { λ r. ⌜ Put (model.pointFields (pointOf k)) (now (out .entry)) (now (out .exit)) at r ⌝ }
+    ensures { λ r. ⌜ Pasted (model.pointFields (pointOf k)) (now (out .entry)) (now (out .exit)) at r ⌝ }
     ensures { λ r. ⌜ r ≤ at + 14 ⌝ }
 {
     let next = coordinate_field(out, at, (k / 65536) as u16);
@@ -47,33 +47,33 @@ fn distance_of(a: u64, b: u64) -> u64
 // The head line.
 pub fn head_line(out: &mut [u8], pins: usize, taps: usize, n: u64) -> usize
     requires { ⌜ 68 ≤ length (now out) ⌝ }
-    ensures { λ r. ⌜ Put (headText pins taps n) (now (out .entry)) (now (out .exit)) 0 r ⌝ }
+    ensures { λ r. ⌜ Pasted (headText pins taps n) (now (out .entry)) (now (out .exit)) 0 r ⌝ }
     ensures { λ r. ⌜ r ≤ 68 ⌝ }
 {
-    let a = word(out, 0, b"deck");
+    let a = put_bytes(out, 0, b"deck");
     let b = decimal_field(out, a, pins as u64);
     let c = decimal_field(out, b, taps as u64);
     let d = decimal_field(out, c, n);
-    byte(out, d, b'\n')
+    put_byte(out, d, b'\n')
 }
 
 // The tap line of a Steiner point, given by its code.
 fn tap_line(out: &mut [u8], at: usize, k: u64) -> usize
     requires { ⌜ at + 32 ≤ length (now out) ⌝ }
     requires { ⌜ k < 4294967296 ⌝ }
-    ensures { λ r. ⌜ Put (tapLine (pointOf k)) (now (out .entry)) (now (out .exit)) at r ⌝ }
+    ensures { λ r. ⌜ Pasted (tapLine (pointOf k)) (now (out .entry)) (now (out .exit)) at r ⌝ }
     ensures { λ r. ⌜ r ≤ at + 18 ⌝ }
 {
-    let a = word(out, at, b"tap");
+    let a = put_bytes(out, at, b"tap");
     let b = point_fields(out, a, k);
-    byte(out, b, b'\n')
+    put_byte(out, b, b'\n')
 }
 
 // The tap lines of the first n Steiner points.
 pub fn tap_lines(out: &mut [u8], at: usize, codes: &[u64], n: usize) -> usize
     requires { ⌜ at + 18 * n + 32 ≤ length (now out) ⌝ }
     requires { ⌜ Coded (now codes) n ⌝ }
-    ensures { λ r. ⌜ Put (model.tapLines (map pointOf (take n (now (codes .entry))))) (now (out .entry)) (now (out .exit)) at r ⌝ }
+    ensures { λ r. ⌜ Pasted (model.tapLines (map pointOf (take n (now (codes .entry))))) (now (out .entry)) (now (out .exit)) at r ⌝ }
     ensures { λ r. ⌜ r ≤ at + 18 * n ⌝ }
 {
     let mut next = at;
@@ -89,14 +89,14 @@ pub fn tap_lines(out: &mut [u8], at: usize, codes: &[u64], n: usize) -> usize
 fn run_line(out: &mut [u8], at: usize, a: u64, b: u64) -> usize
     requires { ⌜ at + 53 ≤ length (now out) ⌝ }
     requires { ⌜ (a < 4294967296) × (b < 4294967296) ⌝ }
-    ensures { λ r. ⌜ Put (runLine (record { lo = pointOf a; hi = pointOf b })) (now (out .entry)) (now (out .exit)) at r ⌝ }
+    ensures { λ r. ⌜ Pasted (runLine (record { lo = pointOf a; hi = pointOf b })) (now (out .entry)) (now (out .exit)) at r ⌝ }
     ensures { λ r. ⌜ r ≤ at + 53 ⌝ }
 {
-    let n = word(out, at, b"run");
+    let n = put_bytes(out, at, b"run");
     let p = point_fields(out, n, a);
     let q = point_fields(out, p, b);
     let r = decimal_field(out, q, distance_of(a, b));
-    byte(out, r, b'\n')
+    put_byte(out, r, b'\n')
 }
 
 // The run lines of the first m edges between the first n points; an edge is the numbers of its two points in one.
@@ -111,7 +111,7 @@ pub fn run_lines(
     requires { ⌜ at + 53 * m ≤ length (now out) ⌝ }
     requires { ⌜ Coded (now codes) n ⌝ }
     requires { ⌜ Ended (now ends) m n ⌝ }
-    ensures { λ r. ⌜ Put (model.runLines (map (edgeAt (now (codes .entry))) (take m (now (ends .entry))))) (now (out .entry)) (now (out .exit)) at r ⌝ }
+    ensures { λ r. ⌜ Pasted (model.runLines (map (edgeAt (now (codes .entry))) (take m (now (ends .entry))))) (now (out .entry)) (now (out .exit)) at r ⌝ }
     ensures { λ r. ⌜ r ≤ at + 53 * m ⌝ }
 {
     let mut next = at;

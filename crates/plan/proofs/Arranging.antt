@@ -19,16 +19,14 @@ use Rattle.arrays.specs.Set.{union, rising}
 use Rattle.model.specs.State.{points, Placed}
 use Rattle.arrays.proofs.Set.{union-in, union-sorted, rising-sorted, union-length}
 use Rattle.model.proofs.Candidate.{map-in}
-use Rattle.arrays.specs.Array.{Written}
-use Rattle.arrays.proofs.sorted.Results.{written-part}
+use Rattle.arrays.specs.Paste.{Pasted}
 use Rattle.arrays.proofs.sorted.Rise.{get-in, get-rises}
-use Rattle.tree.specs.Front.{Front}
 use Rattle.tree.specs.Held.{held}
 use Rattle.tree.specs.Keys.{tab, treeKeys}
 use Rattle.tree.specs.Build.{Rises, BuildRequires}
 use Rattle.tree.proofs.Numbers.{tab-length}
 use Rattle.tree.proofs.OctantKeys.{tab-get, tab-same}
-use Rattle.tree.proofs.Front.{front-take}
+use Rattle.arrays.proofs.paste.Parts.{front-take, front-count}
 use Rattle.tree.proofs.Step.{keys-most}
 use Rattle.plan.specs.Code.{code, pointOf, isCode}
 use Rattle.plan.specs.Work.{Codes, Arranged, Planned, stateAt}
@@ -88,13 +86,13 @@ module _ (pins : List ℕ) (p : ℕ) (steiner : List ℕ) (t : ℕ) (a : Arrange
       rise l e = rising-sorted lower lower-order (map pointOf l) .0 (subst T (sym e ∙ points-rising l) tt)
 
   -- Codes merged and unpacked.
-  module _ (codes₀ codes xs ys : List ℕ) (n : ℕ) (w : Written all codes₀ codes n)
+  module _ (codes₀ codes xs ys : List ℕ) (n : ℕ) (w : Pasted all codes₀ codes 0 n)
       (u : (i : ℕ) → i < n → (getD xs i 0 ≡ getD codes i 0 / 65536 % 65536) × (getD ys i 0 ≡ getD codes i 0 % 65536)) where
     merged : take n codes ≡ all
-    merged = written-part all codes₀ codes n w
+    merged = front-take w
 
     count-is : n ≡ length all
-    count-is = w .count
+    count-is = front-count w
 
     get-is : (i : ℕ) → i < n → getD codes i 0 ≡ getD all i 0
     get-is i h = sym (getD-take n codes i 0 h) ∙ ap (λ (l : List ℕ). getD l i 0) merged
@@ -129,7 +127,7 @@ module _ (pins : List ℕ) (p : ℕ) (steiner : List ℕ) (t : ℕ) (a : Arrange
         few : n ≤ 128
         few = omega (arith, few′)
 
-    pub planned-of : (keys₀ keys : List ℕ) (m : ℕ) → Front (treeKeys (held xs ys) n) keys₀ keys m
+    pub planned-of : (keys₀ keys : List ℕ) (m : ℕ) → Pasted (treeKeys (held xs ys) n) keys₀ keys 0 m
         → Planned (record { pins = pins; npins = p; steiner = steiner; nsteiner = t; codes = codes; xs = xs; ys = ys; npoints = n; keys = keys; nkeys = m })
     planned-of keys₀ keys m f =
         record {
@@ -140,6 +138,6 @@ module _ (pins : List ℕ) (p : ℕ) (steiner : List ℕ) (t : ℕ) (a : Arrange
           points = held-points;
           rises = held-rises;
           tree = front-take f;
-          keyCount = f .count;
-          keysFew = omega (arith, f .count, count-is, all-count, all-few, keys-most (held xs ys) n (omega (arith, count-is, all-count, all-few)) held-rises);
+          keyCount = front-count f;
+          keysFew = omega (arith, front-count f, count-is, all-count, all-few, keys-most (held xs ys) n (omega (arith, count-is, all-count, all-few)) held-rises);
         }

@@ -14,8 +14,10 @@ use Rattle.arrays.specs.Set.{put, out, rising}
 use Rattle.model.specs.State.{insert, remove, prune}
 use Rattle.model.specs.Round.{withSteiner}
 use Rattle.arrays.proofs.Set.{put-in, put-sorted, out-in, rising-sorted}
-use Rattle.arrays.specs.Array.{Written, Removed}
-use Rattle.arrays.proofs.sorted.Results.{written-part, written-behind, removed-part, put-most, put-least, out-most}
+use Rattle.arrays.specs.Array.{Removed}
+use Rattle.arrays.specs.Paste.{Pasted}
+use Rattle.arrays.proofs.paste.Parts.{front-take, front-drop, front-count}
+use Rattle.arrays.proofs.sorted.Results.{removed-part, put-most, put-least, out-most}
 use Rattle.plan.specs.Code.{pointOf, isCode}
 use Rattle.plan.specs.Work.{Codes, Arranged, stateAt}
 use Rattle.plan.proofs.Codes.{points-put, points-out}
@@ -34,20 +36,20 @@ drop-zeros (suc m) (suc n) = drop-zeros m n ∙ ap (λ (z : ℕ). replicate z 0)
     less = omega arith
 
 -- A code put in leaves arranged codes.
-codes-put : (a a′ : List ℕ) (n r room k : ℕ) → Codes a n room → T (isCode k) → n < room → Written (put ltb k (take n a)) a a′ r → length a′ ≡ length a → Codes a′ r room
+codes-put : (a a′ : List ℕ) (n r room k : ℕ) → Codes a n room → T (isCode k) → n < room → Pasted (put ltb k (take n a)) a a′ 0 r → length a′ ≡ length a → Codes a′ r room
 codes-put a a′ n r room k c t h x same =
     record {
       size = same ∙ c .size;
-      few = omega (arith, x .count, put-most k (take n a), full);
+      few = omega (arith, front-count x, put-most k (take n a), full);
       codes = λ q i. ⊎-elim (λ e. subst⁻¹ (λ (z : ℕ). T (isCode z)) e t) (c .codes q) (put-in ltb nat-order k q (take n a) .0 (subst (λ (l : List ℕ). List·Memᴰ q l) part i));
       rise = ap (rising ltb) part ∙ rises;
       rest =
-          written-behind (put ltb k (take n a)) a a′ r x ∙ ap (λ (z : ℕ). drop z a) (sym sum) ∙ sym (drop-drop (r - n) n a)
+          front-drop x r (omega arith) ∙ ap (λ (z : ℕ). drop z a) (sym sum) ∙ sym (drop-drop (r - n) n a)
           ∙ ap (drop (r - n)) (c .rest) ∙ drop-zeros (r - n) (room - n) ∙ ap (λ (z : ℕ). replicate z 0) left;
     }
   where
     part : take r a′ ≡ put ltb k (take n a)
-    part = written-part (put ltb k (take n a)) a a′ r x
+    part = front-take x
 
     full : length (take n a) ≡ n
     full = length-take-le n a (omega (arith, c .few, c .size))
@@ -56,7 +58,7 @@ codes-put a a′ n r room k c t h x same =
     rises = true-of (rising ltb (put ltb k (take n a))) (rising-sorted ltb nat-order (put ltb k (take n a)) .1 (put-sorted ltb nat-order k (take n a) (rising-sorted ltb nat-order (take n a) .0 (subst⁻¹ T (c .rise) tt))))
 
     more : n ≤ r
-    more = omega (arith, x .count, put-least k (take n a), full)
+    more = omega (arith, front-count x, put-least k (take n a), full)
 
     sum : n + (r - n) ≡ r
     sum = omega (arith, more)
@@ -66,7 +68,7 @@ codes-put a a′ n r room k c t h x same =
 
 -- A pin joins.
 module _ (pins : List ℕ) (p : ℕ) (steiner : List ℕ) (t : ℕ) (w : Arranged pins p steiner t) (k : ℕ) where
-  pub insert-arranged : (pins′ : List ℕ) (p′ : ℕ) (steiner′ : List ℕ) (t′ : ℕ) → T (isCode k) → p < 64 → Written (put ltb k (take p pins)) pins pins′ p′
+  pub insert-arranged : (pins′ : List ℕ) (p′ : ℕ) (steiner′ : List ℕ) (t′ : ℕ) → T (isCode k) → p < 64 → Pasted (put ltb k (take p pins)) pins pins′ 0 p′
       → Removed (out ltb k (take t steiner)) steiner steiner′ t t′ → length pins′ ≡ length pins → length steiner′ ≡ length steiner → Arranged pins′ p′ steiner′ t′
   insert-arranged pins′ p′ steiner′ t′ c h x y same kept =
       record {
@@ -75,15 +77,15 @@ module _ (pins : List ℕ) (p : ℕ) (steiner : List ℕ) (t : ℕ) (w : Arrange
         room = omega (arith, w .room, y .count, out-most k (take t steiner), length-take-le t steiner (omega (arith, w .steinerCodes .few, w .steinerCodes .size)));
         apart = λ q i j.
             let m = out-in ltb nat-order k q (take t steiner) .0 (subst (λ (l : List ℕ). List·Memᴰ q l) (removed-part (out ltb k (take t steiner)) steiner steiner′ t t′ y) j) in
-            ⊎-elim (λ e. m .1 e) (λ i. w .apart q i (m .0)) (put-in ltb nat-order k q (take p pins) .0 (subst (λ (l : List ℕ). List·Memᴰ q l) (written-part (put ltb k (take p pins)) pins pins′ p′ x) i));
+            ⊎-elim (λ e. m .1 e) (λ i. w .apart q i (m .0)) (put-in ltb nat-order k q (take p pins) .0 (subst (λ (l : List ℕ). List·Memᴰ q l) (front-take x) i));
       }
 
-  pub insert-state : (pins′ : List ℕ) (p′ : ℕ) (steiner′ : List ℕ) (t′ : ℕ) → Written (put ltb k (take p pins)) pins pins′ p′
+  pub insert-state : (pins′ : List ℕ) (p′ : ℕ) (steiner′ : List ℕ) (t′ : ℕ) → Pasted (put ltb k (take p pins)) pins pins′ 0 p′
       → Removed (out ltb k (take t steiner)) steiner steiner′ t t′ → prune (stateAt pins′ p′ steiner′ t′) ≡ insert (pointOf k) (stateAt pins p steiner t)
   unfolding insert
   insert-state pins′ p′ steiner′ t′ x y =
       λ i. prune (record {
-        pins = (ap (map pointOf) (written-part (put ltb k (take p pins)) pins pins′ p′ x) ∙ points-put k (take p pins)) i;
+        pins = (ap (map pointOf) (front-take x) ∙ points-put k (take p pins)) i;
         steiner = (ap (map pointOf) (removed-part (out ltb k (take t steiner)) steiner steiner′ t t′ y) ∙ points-out k (take t steiner)) i;
       })
 
@@ -106,21 +108,21 @@ module _ (pins : List ℕ) (p : ℕ) (steiner : List ℕ) (t : ℕ) (w : Arrange
       })
 
   -- A Steiner point joins.
-  pub steiner-arranged : (steiner′ : List ℕ) (t′ : ℕ) → T (isCode k) → t < 63 → (List·Memᴰ k (take p pins) → ⊥) → Written (put ltb k (take t steiner)) steiner steiner′ t′
+  pub steiner-arranged : (steiner′ : List ℕ) (t′ : ℕ) → T (isCode k) → t < 63 → (List·Memᴰ k (take p pins) → ⊥) → Pasted (put ltb k (take t steiner)) steiner steiner′ 0 t′
       → length steiner′ ≡ length steiner → Arranged pins p steiner′ t′
   steiner-arranged steiner′ t′ c h free x same =
       record {
         pinCodes = w .pinCodes;
         steinerCodes = codes-put steiner steiner′ t t′ 64 k (w .steinerCodes) c (omega arith) x same;
-        room = omega (arith, x .count, put-most k (take t steiner), length-take-le t steiner (omega (arith, w .steinerCodes .few, w .steinerCodes .size)));
+        room = omega (arith, front-count x, put-most k (take t steiner), length-take-le t steiner (omega (arith, w .steinerCodes .few, w .steinerCodes .size)));
         apart = λ q i j.
             ⊎-elim (λ e. free (subst (λ (z : ℕ). List·Memᴰ z (take p pins)) e i)) (w .apart q i)
-            (put-in ltb nat-order k q (take t steiner) .0 (subst (λ (l : List ℕ). List·Memᴰ q l) (written-part (put ltb k (take t steiner)) steiner steiner′ t′ x) j));
+            (put-in ltb nat-order k q (take t steiner) .0 (subst (λ (l : List ℕ). List·Memᴰ q l) (front-take x) j));
       }
 
-  pub steiner-state : (steiner′ : List ℕ) (t′ : ℕ) → Written (put ltb k (take t steiner)) steiner steiner′ t′ → prune (stateAt pins p steiner′ t′) ≡ prune (withSteiner (pointOf k) (stateAt pins p steiner t))
+  pub steiner-state : (steiner′ : List ℕ) (t′ : ℕ) → Pasted (put ltb k (take t steiner)) steiner steiner′ 0 t′ → prune (stateAt pins p steiner′ t′) ≡ prune (withSteiner (pointOf k) (stateAt pins p steiner t))
   steiner-state steiner′ t′ x =
       λ i. prune (record {
         pins = map pointOf (take p pins);
-        steiner = (ap (map pointOf) (written-part (put ltb k (take t steiner)) steiner steiner′ t′ x) ∙ points-put k (take t steiner)) i;
+        steiner = (ap (map pointOf) (front-take x) ∙ points-put k (take t steiner)) i;
       })

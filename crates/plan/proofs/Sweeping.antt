@@ -20,8 +20,8 @@ use Rattle.model.specs.Tree.{mst, edgesAt}
 use Rattle.model.specs.State.{State, points, lowestWeak, without, pruneFrom, prune}
 use Rattle.model.proofs.Prune.{prune-step, prune-stop}
 use Rattle.arrays.proofs.Set.{out-in, out-sorted, out-length, has-in, union-in, rising-sorted}
-use Rattle.arrays.specs.Array.{Removed, placeOf}
-use Rattle.arrays.proofs.sorted.Results.{removed-part, removed-behind, out-most, place-has, place-at}
+use Rattle.arrays.specs.Array.{Removed, indexOf}
+use Rattle.arrays.proofs.sorted.Results.{removed-part, removed-behind, out-most, index-has, index-at}
 use Rattle.tree.specs.Held.{held}
 use Rattle.tree.specs.Keys.{keyGraph}
 use Rattle.tree.proofs.Sorted.{tree-keys-degree}
@@ -38,11 +38,11 @@ pub data Found (l : List ℕ) : Option Point → ℕ → Type 0 where
   none-weak : Found l none (length l)
   at : (r : ℕ) → r < length l → Found l (some (pointOf (getD l r 0))) r
 
-pub found : (all keys : List ℕ) (t : List Edge) (l : List ℕ) → ((q : ℕ) → List·Memᴰ q l → degree keyGraph (placeOf q all) keys ≡ edgesAt (pointOf q) t)
+pub found : (all keys : List ℕ) (t : List Edge) (l : List ℕ) → ((q : ℕ) → List·Memᴰ q l → degree keyGraph (indexOf q all) keys ≡ edgesAt (pointOf q) t)
     → Found l (lowestWeak t (map pointOf l)) (firstWeak all keys l)
 unfolding lowestWeak firstWeak
 found all keys t [] h = none-weak
-found all keys t (q ∷ l) h = go (leb 3 (edgesAt (pointOf q) t)) (leb 3 (degree keyGraph (placeOf q all) keys)) (ap (leb 3) (h q (head refl))) (found all keys t l (λ z i. h z (tail i)))
+found all keys t (q ∷ l) h = go (leb 3 (edgesAt (pointOf q) t)) (leb 3 (degree keyGraph (indexOf q all) keys)) (ap (leb 3) (h q (head refl))) (found all keys t l (λ z i. h z (tail i)))
   where
     up : {o : Option Point} {r : ℕ} → Found l o r → Found (q ∷ l) o (suc r)
     up none-weak = none-weak
@@ -57,10 +57,10 @@ found all keys t (q ∷ l) h = go (leb 3 (edgesAt (pointOf q) t)) (leb 3 (degree
 
 -- In a working form the number of keys at a code's place is that of the edges at its point.
 pub held-degree : (w : Plan) → Planned w → (q : ℕ) → T (has ltb q (take (w .npoints) (w .codes)))
-    → degree keyGraph (placeOf q (take (w .npoints) (w .codes))) (take (w .nkeys) (w .keys)) ≡ edgesAt (pointOf q) (mst (points (stateOf w)))
+    → degree keyGraph (indexOf q (take (w .npoints) (w .codes))) (take (w .nkeys) (w .keys)) ≡ edgesAt (pointOf q) (mst (points (stateOf w)))
 held-degree w p q h =
-    ap₂ (λ (z : ℕ) (k : List ℕ). degree keyGraph z k) (ap (placeOf q) (p .codes)) (p .tree)
-    ∙ tree-keys-degree (held (w .xs) (w .ys)) (w .npoints) (omega (arith, p .few)) (p .rises) (placeOf q all) below
+    ap₂ (λ (z : ℕ) (k : List ℕ). degree keyGraph z k) (ap (indexOf q) (p .codes)) (p .tree)
+    ∙ tree-keys-degree (held (w .xs) (w .ys)) (w .npoints) (omega (arith, p .few)) (p .rises) (indexOf q all) below
     ∙ ap₂ edgesAt at-place (ap mst (p .points))
   where
     all : List ℕ
@@ -75,17 +75,17 @@ held-degree w p q h =
     counted : w .npoints ≡ length all
     counted = p .count ∙ ap length listed ∙ length-map all pointOf
 
-    below : placeOf q all < w .npoints
-    below = omega (arith, place-has q all .0 member, counted)
+    below : indexOf q all < w .npoints
+    below = omega (arith, index-has q all .0 member, counted)
 
-    at-place : held (w .xs) (w .ys) (placeOf q all) ≡ pointOf q
+    at-place : held (w .xs) (w .ys) (indexOf q all) ≡ pointOf q
     at-place =
-        sym (tab-get (held (w .xs) (w .ys)) (w .npoints) (placeOf q all) (pointOf 0) below)
-        ∙ ap (λ (l : List Point). getD l (placeOf q all) (pointOf 0)) (p .points ∙ listed) ∙ List·getD-map pointOf all (placeOf q all) 0
-        ∙ ap pointOf (place-at q all (place-has q all .0 member))
+        sym (tab-get (held (w .xs) (w .ys)) (w .npoints) (indexOf q all) (pointOf 0) below)
+        ∙ ap (λ (l : List Point). getD l (indexOf q all) (pointOf 0)) (p .points ∙ listed) ∙ List·getD-map pointOf all (indexOf q all) 0
+        ∙ ap pointOf (index-at q all (index-has q all .0 member))
 
 pub planned-degree : (w : Plan) → Planned w → (q : ℕ) → List·Memᴰ q (take (w .nsteiner) (w .steiner))
-    → degree keyGraph (placeOf q (take (w .npoints) (w .codes))) (take (w .nkeys) (w .keys)) ≡ edgesAt (pointOf q) (mst (points (stateOf w)))
+    → degree keyGraph (indexOf q (take (w .npoints) (w .codes))) (take (w .nkeys) (w .keys)) ≡ edgesAt (pointOf q) (mst (points (stateOf w)))
 planned-degree w p q i =
     held-degree w p q
     (subst⁻¹ (λ (l : List ℕ). T (has ltb q l)) (p .codes)

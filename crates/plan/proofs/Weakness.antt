@@ -14,7 +14,7 @@ use Rattle.spanning.specs.Graph.{degree}
 use Rattle.arrays.specs.Test.{if}
 use Rattle.arrays.proofs.Test.{by-test}
 use Rattle.tree.specs.Keys.{keyGraph}
-use Rattle.arrays.specs.Array.{placeOf}
+use Rattle.arrays.specs.Array.{indexOf}
 use Rattle.plan.specs.Weak.{firstWeak}
 
 -- The points before place j have three edges or more, j of them.
@@ -31,7 +31,7 @@ module _ (all keys steiner : List ℕ) (t : ℕ) where
       drop-cons (take t steiner) j 0 (omega (arith, length-take-le t steiner k))
       ∙ ap (λ (z : ℕ). z ∷ drop (suc j) (take t steiner)) (getD-take t steiner j 0 h)
 
-  pub strong-more : (j i d : ℕ) → Strong all keys steiner t j → j < t → t ≤ length steiner → i ≡ placeOf (getD steiner j 0) all → d ≡ degree keyGraph i keys → 3 ≤ d
+  pub strong-more : (j i d : ℕ) → Strong all keys steiner t j → j < t → t ≤ length steiner → i ≡ indexOf (getD steiner j 0) all → d ≡ degree keyGraph i keys → 3 ≤ d
       → Strong all keys steiner t (j + 1)
   unfolding firstWeak
   strong-more j i d p h k ei ed three =
@@ -39,18 +39,18 @@ module _ (all keys steiner : List ℕ) (t : ℕ) where
         within = omega arith;
         rest =
             p .rest ∙ ap (λ (l : List ℕ). j + firstWeak all keys l) (next j h k)
-            ∙ by-test (λ (z : ℕ). j + z ≡ (j + 1) + firstWeak all keys (drop (j + 1) (take t steiner))) (leb 3 (degree keyGraph (placeOf (getD steiner j 0) all) keys)) _ _
+            ∙ by-test (λ (z : ℕ). j + z ≡ (j + 1) + firstWeak all keys (drop (j + 1) (take t steiner))) (leb 3 (degree keyGraph (indexOf (getD steiner j 0) all) keys)) _ _
             (λ u. omega (arith, ap (λ (z : ℕ). firstWeak all keys (drop z (take t steiner))) (add-one j)))
-            (λ u. absurd (omega (arith, nleb→lt 3 (degree keyGraph (placeOf (getD steiner j 0) all) keys) u, ed, ap (λ (z : ℕ). degree keyGraph z keys) ei)));
+            (λ u. absurd (omega (arith, nleb→lt 3 (degree keyGraph (indexOf (getD steiner j 0) all) keys) u, ed, ap (λ (z : ℕ). degree keyGraph z keys) ei)));
       }
 
-  pub strong-found : (j i d : ℕ) → Strong all keys steiner t j → j < t → t ≤ length steiner → i ≡ placeOf (getD steiner j 0) all → d ≡ degree keyGraph i keys → d ≤ 2
+  pub strong-found : (j i d : ℕ) → Strong all keys steiner t j → j < t → t ≤ length steiner → i ≡ indexOf (getD steiner j 0) all → d ≡ degree keyGraph i keys → d ≤ 2
       → j ≡ firstWeak all keys (take t steiner)
   unfolding firstWeak
   strong-found j i d p h k ei ed two =
       sym (p .rest ∙ ap (λ (l : List ℕ). j + firstWeak all keys l) (next j h k)
-      ∙ by-test (λ (z : ℕ). j + z ≡ j) (leb 3 (degree keyGraph (placeOf (getD steiner j 0) all) keys)) _ _
-      (λ u. absurd (omega (arith, leb→le 3 (degree keyGraph (placeOf (getD steiner j 0) all) keys) u, ed, ap (λ (z : ℕ). degree keyGraph z keys) ei)))
+      ∙ by-test (λ (z : ℕ). j + z ≡ j) (leb 3 (degree keyGraph (indexOf (getD steiner j 0) all) keys)) _ _
+      (λ u. absurd (omega (arith, leb→le 3 (degree keyGraph (indexOf (getD steiner j 0) all) keys) u, ed, ap (λ (z : ℕ). degree keyGraph z keys) ei)))
       (λ u. omega arith))
 
   pub strong-end : (j : ℕ) → Strong all keys steiner t j → t ≤ j → t ≤ length steiner → j ≡ firstWeak all keys (take t steiner)

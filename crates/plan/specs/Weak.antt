@@ -4,10 +4,10 @@ use Prim.Native.Nat.{ℕ, suc}
 use lib.Dec.{leb}
 use Rattle.spanning.specs.Graph.{degree}
 use Rattle.arrays.specs.Test.{if}
-use Rattle.arrays.specs.Array.{placeOf}
+use Rattle.arrays.specs.Array.{indexOf}
 use Rattle.tree.specs.Keys.{keyGraph}
 
 -- Where it stands in a list of codes, among the points whose codes are `all` and whose tree has the keys; the length where there is none.
 unfoldable pub firstWeak : List ℕ → List ℕ → List ℕ → ℕ
 firstWeak all keys [] = 0
-firstWeak all keys (q ∷ l) = if (leb 3 (degree keyGraph (placeOf q all) keys)) (λ _. suc (firstWeak all keys l)) (λ _. 0)
+firstWeak all keys (q ∷ l) = if (leb 3 (degree keyGraph (indexOf q all) keys)) (λ _. suc (firstWeak all keys l)) (λ _. 0)

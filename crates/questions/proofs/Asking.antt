@@ -31,7 +31,7 @@ use Rattle.tree.specs.Keys.{keyGraph, tab, endsAt, edgeOf, treeKeys}
 use Rattle.tree.proofs.Join.{tab-in}
 use Rattle.tree.proofs.Numbers.{number-at}
 use Rattle.tree.proofs.Sorted.{tree-keys-mst, ps-sorted}
-use Rattle.arrays.specs.Array.{placeOf}
+use Rattle.arrays.specs.Array.{indexOf}
 use Rattle.plan.specs.Code.{pointOf}
 use Rattle.plan.specs.declared.Plan.{Plan}
 use Rattle.plan.specs.Work.{Planned, stateOf}
@@ -78,7 +78,7 @@ module _ (w : Plan) (p : Planned w) where
       sym (none-at (stateOf w) (arranged-placed (w .pins) (w .npins) (w .steiner) (w .nsteiner) (p .arranged) .steinerRise) (pointOf k)
       (λ i. subst T (sym (ap (has lower (pointOf k)) listed-codes) ∙ sym (points-has k (take (w .npoints) (w .codes))) ∙ e) (has-in lower lower-order (pointOf k) (points (stateOf w)) .1 i)))
 
-  pub degree-there : (k i n : ℕ) → T (has ltb k (take (w .npoints) (w .codes))) → i ≡ placeOf k (take (w .npoints) (w .codes)) → n ≡ degree keyGraph i (take (w .nkeys) (w .keys))
+  pub degree-there : (k i n : ℕ) → T (has ltb k (take (w .npoints) (w .codes))) → i ≡ indexOf k (take (w .npoints) (w .codes)) → n ≡ degree keyGraph i (take (w .nkeys) (w .keys))
       → n ≡ question.edgeCountAt (pointOf k) (stateOf w)
   degree-there k i n h e f = f ∙ ap (λ (z : ℕ). degree keyGraph z (take (w .nkeys) (w .keys))) e ∙ held-degree w p k h
 

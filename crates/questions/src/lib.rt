@@ -50,7 +50,11 @@ fn degree_of(w: Plan, k: u64) -> usize
     if !arrays::sorted::has(&codes, w.npoints, k) {
         return 0;
     }
-    tree::list::degree_of(&keys, w.nkeys, arrays::sorted::place(&codes, w.npoints, k))
+    tree::list::degree_of(
+        &keys,
+        w.nkeys,
+        arrays::sorted::index_of(&codes, w.npoints, k),
+    )
 }
 
 // The length of the tree.

@@ -1,42 +1,42 @@
 // Lines for the replies and answers of a deck's calls and questions, without the line feed.
+use arrays::paste::put_bytes;
 use ascii::decimal_field;
 use ascii::signed_field;
-use ascii::word;
 use calls::Reply;
 use questions::Answer;
 ghost use Prim.Native.Nat.{_+_, _≤_};
 ghost use lib.ListN.{length};
-ghost use Rattle.tree.specs.Front.{Front};
+ghost use Rattle.arrays.specs.Paste.{Pasted};
 ghost use Rattle.replies.specs.Replies.{numberText, fallText, countsText, endsText, edgeText, replyText, answerText, errorWord, octantWord};
-ghost use Rattle.ascii.specs.Text.{Put, fitting};
+ghost use Rattle.ascii.specs.Text.{fitting};
 
 // A word and a number.
 fn number_line(out: &mut [u8], w: &[u8], n: u64) -> usize
     requires { ⌜ length (now w) + 21 ≤ length (now out) ⌝ }
-    ensures { λ r. ⌜ Put (numberText (now (w .entry)) n) (now (out .entry)) (now (out .exit)) 0 r ⌝ }
+    ensures { λ r. ⌜ Pasted (numberText (now (w .entry)) n) (now (out .entry)) (now (out .exit)) 0 r ⌝ }
 {
-    let next = word(out, 0, w);
+    let next = put_bytes(out, 0, w);
     decimal_field(out, next, n)
 }
 
 // A new Steiner point and the fall in length.
 fn fall_line(out: &mut [u8], x: i32, y: i32, fall: u64) -> usize
     requires { ⌜ 73 ≤ length (now out) ⌝ }
-    ensures { λ r. ⌜ Put (fallText x y fall) (now (out .entry)) (now (out .exit)) 0 r ⌝ }
+    ensures { λ r. ⌜ Pasted (fallText x y fall) (now (out .entry)) (now (out .exit)) 0 r ⌝ }
 {
-    let a = word(out, 0, b"tap");
+    let a = put_bytes(out, 0, b"tap");
     let b = signed_field(out, a, x);
     let c = signed_field(out, b, y);
-    let d = word(out, c, b" fall");
+    let d = put_bytes(out, c, b" fall");
     decimal_field(out, d, fall)
 }
 
 // The counts of pins, Steiner points and edges.
 fn counts_line(out: &mut [u8], pins: u64, taps: u64, runs: u64) -> usize
     requires { ⌜ 69 ≤ length (now out) ⌝ }
-    ensures { λ r. ⌜ Put (countsText pins taps runs) (now (out .entry)) (now (out .exit)) 0 r ⌝ }
+    ensures { λ r. ⌜ Pasted (countsText pins taps runs) (now (out .entry)) (now (out .exit)) 0 r ⌝ }
 {
-    let a = word(out, 0, b"counts");
+    let a = put_bytes(out, 0, b"counts");
     let b = decimal_field(out, a, pins);
     let c = decimal_field(out, b, taps);
     decimal_field(out, c, runs)
@@ -45,7 +45,7 @@ fn counts_line(out: &mut [u8], pins: u64, taps: u64, runs: u64) -> usize
 // The coordinates of two points.
 fn ends_fields(out: &mut [u8], at: usize, x: i32, y: i32, u: i32, v: i32) -> usize
     requires { ⌜ at + 88 ≤ length (now out) ⌝ }
-    ensures { λ r. ⌜ Put (endsText x y u v) (now (out .entry)) (now (out .exit)) at r ⌝ }
+    ensures { λ r. ⌜ Pasted (endsText x y u v) (now (out .entry)) (now (out .exit)) at r ⌝ }
     ensures { λ r. ⌜ r ≤ at + 88 ⌝ }
 {
     let a = signed_field(out, at, x);
@@ -57,24 +57,24 @@ fn ends_fields(out: &mut [u8], at: usize, x: i32, y: i32, u: i32, v: i32) -> usi
 // An edge by its ends and its length.
 fn edge_line(out: &mut [u8], x: i32, y: i32, u: i32, v: i32, n: u64) -> usize
     requires { ⌜ 112 ≤ length (now out) ⌝ }
-    ensures { λ r. ⌜ Put (edgeText x y u v n) (now (out .entry)) (now (out .exit)) 0 r ⌝ }
+    ensures { λ r. ⌜ Pasted (edgeText x y u v n) (now (out .entry)) (now (out .exit)) 0 r ⌝ }
 {
-    let a = word(out, 0, b"run");
+    let a = put_bytes(out, 0, b"run");
     let b = ends_fields(out, a, x, y, u, v);
     decimal_field(out, b, n)
 }
 
 // The line of a reply at the front of `out`, which has to have room for 128 bytes. Returns its length; 0 where there is no room.
 pub fn reply_line(reply: Reply, out: &mut [u8]) -> usize
-    ensures { λ r. ⌜ Front (fitting 128 (now (out .entry)) (replyText reply)) (now (out .entry)) (now (out .exit)) r ⌝ }
+    ensures { λ r. ⌜ Pasted (fitting 128 (now (out .entry)) (replyText reply)) (now (out .entry)) (now (out .exit)) 0 r ⌝ }
 {
     if out.len() < 128 {
         return 0;
     }
     match reply {
-        Reply::Done => word(out, 0, b"ok"),
+        Reply::Done => put_bytes(out, 0, b"ok"),
         Reply::Refused(n) => number_line(out, b"refused", n as u64),
-        Reply::Finished => word(out, 0, b"finished"),
+        Reply::Finished => put_bytes(out, 0, b"finished"),
         Reply::Tap(x, y, fall) => fall_line(out, x, y, fall),
         Reply::Rounds(n) => number_line(out, b"rounds", n),
     }
@@ -82,7 +82,7 @@ pub fn reply_line(reply: Reply, out: &mut [u8]) -> usize
 
 // The line of an answer, by the same rule.
 pub fn answer_line(answer: Answer, out: &mut [u8]) -> usize
-    ensures { λ r. ⌜ Front (fitting 128 (now (out .entry)) (answerText answer)) (now (out .entry)) (now (out .exit)) r ⌝ }
+    ensures { λ r. ⌜ Pasted (fitting 128 (now (out .entry)) (answerText answer)) (now (out .entry)) (now (out .exit)) 0 r ⌝ }
 {
     if out.len() < 128 {
         return 0;
@@ -92,24 +92,24 @@ pub fn answer_line(answer: Answer, out: &mut [u8]) -> usize
         Answer::Length(n) => number_line(out, b"length", n),
         Answer::Counts(pins, taps, runs) => counts_line(out, pins, taps, runs),
         Answer::Edge(x, y, u, v, n) => edge_line(out, x, y, u, v, n),
-        Answer::NoEdge => word(out, 0, b"no run"),
+        Answer::NoEdge => put_bytes(out, 0, b"no run"),
         Answer::Degree(n) => number_line(out, b"degree", n),
     }
 }
 
 // `error`, by the same rule.
 pub fn error_line(out: &mut [u8]) -> usize
-    ensures { λ r. ⌜ Front (fitting 128 (now (out .entry)) errorWord) (now (out .entry)) (now (out .exit)) r ⌝ }
+    ensures { λ r. ⌜ Pasted (fitting 128 (now (out .entry)) errorWord) (now (out .entry)) (now (out .exit)) 0 r ⌝ }
 {
     if out.len() < 128 {
         return 0;
     }
-    word(out, 0, b"error")
+    put_bytes(out, 0, b"error")
 }
 
 // `octant N`, by the same rule.
 pub fn octant_line(n: u64, out: &mut [u8]) -> usize
-    ensures { λ r. ⌜ Front (fitting 128 (now (out .entry)) (numberText octantWord n)) (now (out .entry)) (now (out .exit)) r ⌝ }
+    ensures { λ r. ⌜ Pasted (fitting 128 (now (out .entry)) (numberText octantWord n)) (now (out .entry)) (now (out .exit)) 0 r ⌝ }
 {
     if out.len() < 128 {
         return 0;

@@ -7,11 +7,14 @@ use native.Mathlib.Omega.{arith}
 use native.Mathlib.Decide.{ℕ-discrete}
 use lib.Dec.{eqb}
 use lib.ListN.{length, take, drop, getD}
+use lib.Seq.{take-nil}
 use borrow.Author.Tests.{lt-ltb, le-ltb, eq-eqb, ne-eqb}
 use Rattle.script.specs.declared.Command.{Command}
 use Rattle.script.specs.declared.Command.the-variants.{Blank, Error}
 use Rattle.words.specs.Words.{split, wordsOf, Next}
-use Rattle.words.specs.Hex.{isHex, pairs, Filled}
+use Rattle.arrays.specs.Paste.{Pasted}
+use Rattle.arrays.proofs.paste.Parts.{front-same}
+use Rattle.words.specs.Hex.{isHex, pairs}
 use Rattle.script.specs.Commands.{alone, withOne, withTwo, asked, isBlank, commandOf, second, fileOf}
 
 -- The bytes from place a up to place b.
@@ -61,12 +64,12 @@ module _ (line : List ℕ) (a b c d : ℕ) (n : Next line 0 a b) (m : Next line 
       go (no e) (yes f) = rw (n .some e, m .none f) (sym (empty f))
       go (no e) (no f) = rw (n .some e, m .some f) refl
 
-  pub file-none : (before : List ℕ) → isHex (part c d line) ≡ false → Filled (fileOf line) before before 0
+  pub file-none : (before : List ℕ) → isHex (part c d line) ≡ false → Pasted (take (length before) (fileOf line)) before before 0 0
   unfolding fileOf
-  file-none before e = rw (second-is, e) (record { count = omega arith; shows = refl })
+  file-none before e = rw (second-is, e, take-nil) (front-same 0 before (omega arith))
 
-  pub file-some : (before after : List ℕ) (r : ℕ) → isHex (part c d line) ≡ true → Filled (pairs (part c d line)) before after r
-      → Filled (fileOf line) before after r
+  pub file-some : (before after : List ℕ) (r : ℕ) → isHex (part c d line) ≡ true → Pasted (take (length before) (pairs (part c d line))) before after 0 r
+      → Pasted (take (length before) (fileOf line)) before after 0 r
   unfolding fileOf
   file-some before after r e f = rw (second-is, e) f
 

@@ -12,7 +12,7 @@ use borrow.Author.Tests.{ltb-false}
 use Rattle.arrays.specs.Test.{if}
 use Rattle.script.specs.declared.Command.the-variants.{Blank, Error, Read}
 use Rattle.words.specs.Words.{isSpace, ended, split, wordsOf}
-use Rattle.words.specs.Hex.{isHex, pairs, Filled}
+use Rattle.words.specs.Hex.{isHex, pairs}
 use Rattle.script.specs.Commands.{asked, isBlank, commandOf, second, fileOf}
 
 -- The lengths of words, added up.
@@ -67,10 +67,3 @@ read-long line e = go (ltb 2000 (length line)) (ltb-false 2000 (length line)) e
 
 pub read-fits : (line : List ℕ) → commandOf line ≡ Read → length (fileOf line) ≤ 1000
 read-fits line e = omega (arith, file-short line, read-long line e)
-
--- Bytes that all fit are what stands in front.
-pub filled-whole : (l before after : List ℕ) (r : ℕ) → Filled l before after r → length l ≤ length before → (r ≡ length l) × (take r after ≡ l)
-filled-whole l before after r f h =
-    let e : r ≡ length l = omega (arith, f .count) in
-    let all : take r l ≡ l = take-all r l (omega arith) in
-    (e, ap (take r) (f .shows ∙ ap (λ (x : List ℕ). x ++ drop r before) all) ∙ take-at l (drop r before) r (sym e))

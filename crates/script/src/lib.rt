@@ -9,8 +9,9 @@ use words::numbers::Size;
 use words::numbers::number_of;
 use words::numbers::size_of;
 ghost use mathlib.Core.Path.{_≡_};
+ghost use lib.ListN.{length, take};
 ghost use Rattle.script.specs.Commands.{commandOf, asked, alone, withOne, withTwo, sized, placed, fileOf};
-ghost use Rattle.words.specs.Hex.{Filled};
+ghost use Rattle.arrays.specs.Paste.{Pasted};
 ghost use Rattle.words.specs.Words.{wordsOf};
 
 // What a line asks for: nothing, as it is empty or a comment; no command; a file to read, which `bytes_of` gives; a file to write,
@@ -174,7 +175,7 @@ fn with_place(name: &[u8], i: i32, j: i32) -> Command
 // Writes the bytes that the second word of a line stands for to the front of `out`, as many as it holds, and returns how many. A
 // word that is not pairs of hexadecimal digits stands for none.
 pub fn bytes_of(line: &[u8], out: &mut [u8]) -> usize
-    ensures { λ r. ⌜ Filled (fileOf (now (line .entry))) (now (out .entry)) (now (out .exit)) r ⌝ }
+    ensures { λ r. ⌜ Pasted (take (length (now (out .entry))) (fileOf (now (line .entry)))) (now (out .entry)) (now (out .exit)) 0 r ⌝ }
 {
     let w = next(line, 0);
     let x = next(line, w.end);

@@ -3,10 +3,10 @@ use mathlib.Core.Path.{_≡_, refl, sym, ap, ap₂, _∙_}
 use mathlib.Core.Bool.{Bool, _&&_}
 use mathlib.Core.List.{List, [], _∷_, _++_, map}
 use Prim.Native.Nat.{ℕ, zero, suc, _+_, _*_, _≤_, _<_}
-use native.Mathlib.Numerals.{unary-clauses}
+use native.Mathlib.Numerals.{unary-clauses, add-one}
 use native.Mathlib.Omega.{arith}
 use lib.ListN.{length, take, drop, getD, set, length-map, length-take, length-drop, length-set}
-use lib.Seq.{take-all, getD-take, getD-drop}
+use lib.Seq.{take-all, getD-take, getD-drop, take-suc, drop-cons, set-at, length-take-le, append-snoc}
 use Rattle.arrays.specs.Test.{if}
 use Rattle.plane.specs.Point.{Point, coordinateInRange}
 use Rattle.plane.specs.Coordinate.{signed16}
@@ -15,10 +15,18 @@ use Rattle.plane.specs.declared.Coordinate.the-variants.{Stored, OutOfRange}
 use Rattle.plane.specs.Stored.{storedOf}
 use Rattle.model.specs.File.{pointsOf}
 use Rattle.model.proofs.Bytes.{points-length}
-use Rattle.tree.proofs.Star.{copy-more}
 use Rattle.plan.specs.Code.{code}
 use Rattle.plane.proofs.Stored.{number-out, number-in}
 use Rattle.sections.specs.Points.{pointIn, beyond, mark, marks}
+
+-- One more element copied.
+pub copy-more : (s d now : List ℕ) (i : ℕ) → i < length s → i < length d → now ≡ take i s ++ drop i d → set now i (getD s i 0) ≡ take (i + 1) s ++ drop (i + 1) d
+copy-more s d now i hs hd e =
+    ap (λ (l : List ℕ). set l i (getD s i 0)) (e ∙ ap (λ (l : List ℕ). take i s ++ l) (drop-cons d i 0 hd))
+    ∙ set-at (take i s) (getD d i 0) (drop (suc i) d) (getD s i 0) i (length-take-le i s (omega arith))
+    ∙ sym (append-snoc (take i s) (getD s i 0) (drop (suc i) d))
+    ∙ ap (λ (l : List ℕ). l ++ drop (suc i) d) (sym (take-suc s i 0 hs))
+    ∙ ap (λ (j : ℕ). take j s ++ drop j d) (sym (add-one i))
 
 -- The mark of a point by its two coordinates.
 module _ (p : Point) where

@@ -7,21 +7,21 @@ use native.Mathlib.Omega.{arith}
 use lib.Dec.{ltb}
 use lib.ListN.{length, take, drop}
 use Rattle.spanning.specs.Kruskal.{kruskal}
-use Rattle.tree.specs.Front.{Front}
+use Rattle.arrays.specs.Paste.{Pasted}
 use Rattle.tree.specs.Held.{held}
 use Rattle.tree.specs.Keys.{allKeys, treeKeys}
 use Rattle.tree.specs.Build.{BuildRequires, JoinRequires}
-use Rattle.tree.proofs.Front.{front-take, front-again}
+use Rattle.arrays.proofs.paste.Parts.{front-take, front-again, front-count, front-same}
 use Rattle.tree.proofs.Step.{keys-most, keys-grow}
 
 pub record Built (xs ys : List ℕ) (n : ℕ) (old new : List ℕ) (m i : ℕ) : Type 0 where
   pub within : i ≤ n
   pub size : length new ≡ length old
-  pub front : Front (treeKeys (held xs ys) i) old new m
+  pub front : Pasted (treeKeys (held xs ys) i) old new 0 m
 
 pub built-none : (xs ys : List ℕ) (n : ℕ) (old : List ℕ) → BuildRequires xs ys n (length old) → Built xs ys n old old 0 0
 unfolding treeKeys allKeys kruskal
-built-none xs ys n old p = record { within = omega arith; size = refl; front = record { count = refl; front = refl } }
+built-none xs ys n old p = record { within = omega arith; size = refl; front = front-same 0 old (omega arith) }
 
 pub built-join : (xs ys : List ℕ) (n : ℕ) (old new : List ℕ) (m i : ℕ) → BuildRequires xs ys n (length old) → Built xs ys n old new m i → i < n → JoinRequires xs ys i new m
 built-join xs ys n old new m i p b h =
@@ -31,13 +31,13 @@ built-join xs ys n old new m i p b h =
       few = omega (arith, p .few);
       fits = omega (arith, p .fits, b .size);
       rises = λ j k l q. p .rises j k l (omega arith);
-      within = omega (arith, p .fits, p .few, b .size, b .front .count, keys-most (held xs ys) i (omega (arith, p .few)) (λ j k l q. p .rises j k l (omega arith)));
+      within = omega (arith, p .fits, p .few, b .size, front-count (b .front), keys-most (held xs ys) i (omega (arith, p .few)) (λ j k l q. p .rises j k l (omega arith)));
       tree = front-take (b .front);
-      count = b .front .count;
+      count = front-count (b .front);
     }
 
 pub built-more : (xs ys : List ℕ) (n : ℕ) (old new after : List ℕ) (m r i : ℕ) → BuildRequires xs ys n (length old) → Built xs ys n old new m i → i < n
-    → length after ≡ length new → Front (treeKeys (held xs ys) (i + 1)) new after r → Built xs ys n old after r (i + 1)
+    → length after ≡ length new → Pasted (treeKeys (held xs ys) (i + 1)) new after 0 r → Built xs ys n old after r (i + 1)
 built-more xs ys n old new after m r i p b h same f =
     record {
       within = omega arith;
@@ -47,5 +47,5 @@ built-more xs ys n old new after m r i p b h same f =
           (keys-grow (held xs ys) i (omega (arith, p .few)) (λ j k l q. p .rises j k l (omega arith))));
     }
 
-pub built-end : (xs ys : List ℕ) (n : ℕ) (old new : List ℕ) (m i : ℕ) → Built xs ys n old new m i → n ≤ i → Front (treeKeys (held xs ys) n) old new m
-built-end xs ys n old new m i b h = let e : i ≡ n = omega (arith, b .within) in subst (λ (z : ℕ). Front (treeKeys (held xs ys) z) old new m) e (b .front)
+pub built-end : (xs ys : List ℕ) (n : ℕ) (old new : List ℕ) (m i : ℕ) → Built xs ys n old new m i → n ≤ i → Pasted (treeKeys (held xs ys) n) old new 0 m
+built-end xs ys n old new m i b h = let e : i ≡ n = omega (arith, b .within) in subst (λ (z : ℕ). Pasted (treeKeys (held xs ys) z) old new 0 m) e (b .front)

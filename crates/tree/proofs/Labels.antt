@@ -12,7 +12,7 @@ use lib.Seq.{getD-set-same, getD-set-other}
 use Rattle.spanning.specs.Kruskal.{comp}
 use Rattle.spanning.proofs.Component.{comp-hit, comp-miss}
 use Rattle.tree.specs.Keys.{keyGraph, low, high}
-use Rattle.tree.specs.Front.{moved}
+use Rattle.tree.specs.Labels.{moved}
 
 -- The two outcomes of the test in `moved`.
 pub moved-hit : (a b c : ℕ) → c ≡ a → moved a b c ≡ b

@@ -1,6 +1,5 @@
 pub mod AllKeys
 pub mod Degrees
-pub mod Front
 pub mod Growth
 pub mod Join
 pub mod Joined
@@ -10,7 +9,6 @@ pub mod Listing
 pub mod Numbers
 pub mod OctantKeys
 pub mod Pass
-pub mod Place
 pub mod Sorted
 pub mod Star
 pub mod Step

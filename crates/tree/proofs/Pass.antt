@@ -10,7 +10,9 @@ use lib.Seq.{slice-cons, slice-empty, append-snoc, drop-cons, set-at}
 use Rattle.spanning.specs.Kruskal.{comp, kruskal}
 use Rattle.spanning.proofs.Component.{kruskal-skip, kruskal-keep}
 use Rattle.tree.specs.Keys.{keyGraph, low, high}
-use Rattle.tree.specs.Front.{Front, moved}
+use Rattle.arrays.specs.Paste.{Pasted}
+use Rattle.arrays.proofs.paste.Parts.{front-of}
+use Rattle.tree.specs.Labels.{moved}
 use Rattle.tree.proofs.Labels.{relabelled}
 
 -- After the first i keys: those that were kept stand at the front of the array, in their order in `kept` and latest first in `seen`.
@@ -48,12 +50,12 @@ module _ (keys : List ℕ) (count : ℕ) (old : List ℕ) (size : count ≤ leng
   }
 
   module _ (new labels : List ℕ) (n i : ℕ) (r : Pass keys count old new labels n i) where
-    pub pass-end : count ≤ i → Front (kruskal keyGraph [] (take count keys)) old new n
+    pub pass-end : count ≤ i → Pasted (kruskal keyGraph [] (take count keys)) old new 0 n
     pass-end h =
         let e : i ≡ count = omega (arith, r .within) in
         let all : r .kept ≡ kruskal keyGraph [] (take count keys) =
         sym (append-nil (r .kept)) ∙ sym (ap (λ (l : List ℕ). r .kept ++ l) (rw (e, slice-empty) (kruskal-nil (r .seen)))) ∙ r .rest in
-        record { count = r .count-kept ∙ ap length all; front = rw (← all) (r .front) }
+        front-of (r .count-kept ∙ ap length all) (rw (← all) (r .front))
 
     -- The next key k, between the labels a and b.
     module _ (h : i < count) (k a b : ℕ) (hk : k ≡ getD keys i 0) (ha : a ≡ getD labels (low k) 0) (hb : b ≡ getD labels (high k) 0) where

@@ -22,11 +22,11 @@ use Rattle.arrays.specs.Set.{union}
 use Rattle.model.specs.Tree.{mst}
 use Rattle.model.proofs.Tree.{mst-run-tree}
 use Rattle.model.proofs.Bounds.{edges-fewer}
-use Rattle.tree.specs.Front.{Front}
+use Rattle.arrays.specs.Paste.{Pasted}
 use Rattle.tree.specs.Held.{held}
 use Rattle.tree.specs.Keys.{keyGraph, edgeOf, tab, rays, allKeys, treeKeys, joinedKeys, octantKeys, offered}
 use Rattle.tree.specs.Build.{Rises, JoinRequires}
-use Rattle.tree.proofs.Front.{front-take}
+use Rattle.arrays.proofs.paste.Parts.{front-take, front-count}
 use Rattle.tree.proofs.Numbers.{tab-length}
 use Rattle.tree.proofs.Sorted.{ps-sorted, tree-keys-mst}
 use Rattle.tree.proofs.Join.{joined-keys}
@@ -64,19 +64,19 @@ keys-grow at n small rises = omega (arith, keys-count at n small rises, keys-mos
 
 -- The keys of the tree with those of a star, through Kruskal's method.
 module _ (at : ℕ → Point) (c : Point) (n : ℕ) (small : n < 128) (near : (i : ℕ) → i < n → dist (at i) c ≤ 131070) (apart : (i : ℕ) → i < n → ¬ (c ≡ at i))
-    (keys work₀ work₁ work₂ star : List ℕ) (m w : ℕ) (within : m ≤ length keys) (tree : take m keys ≡ treeKeys at n)
-    (copied : work₁ ≡ take m keys ++ drop m work₀) (is : star ≡ octantKeys at c n)
-    (added : Front (union ltb (offered star) (take m work₁)) work₁ work₂ w) where
+    (keys work₁ work₂ star : List ℕ) (m w : ℕ) (tree : take m keys ≡ treeKeys at n)
+    (copied : take m work₁ ≡ take m keys) (is : star ≡ octantKeys at c n)
+    (added : Pasted (union ltb (offered star) (take m work₁)) work₁ work₂ 0 w) where
   pub passed : kruskal keyGraph [] (take w work₂) ≡ joinedKeys at c n
   passed =
       ap (kruskal keyGraph [])
-      (front-take added ∙ ap₂ (λ (a b : List ℕ). union ltb (offered a) b) is (ap (take m) copied ∙ take-at (take m keys) (drop m work₀) m (length-take-le m keys within) ∙ tree))
+      (front-take added ∙ ap₂ (λ (a b : List ℕ). union ltb (offered a) b) is (copied ∙ tree))
       ∙ sym (joined-keys at c n small near apart)
 
   -- As the point behind the last: the tree of one point more.
-  pub next-tree : c ≡ at n → (keys′ : List ℕ) (r : ℕ) → Front (kruskal keyGraph [] (take w work₂)) keys keys′ r → Front (treeKeys at (n + 1)) keys keys′ r
+  pub next-tree : c ≡ at n → (keys′ : List ℕ) (r : ℕ) → Pasted (kruskal keyGraph [] (take w work₂)) keys keys′ 0 r → Pasted (treeKeys at (n + 1)) keys keys′ 0 r
   next-tree e keys′ r p =
-      subst⁻¹ (λ (z : ℕ). Front (treeKeys at z) keys keys′ r) (add-one n) (subst (λ (l : List ℕ). Front l keys keys′ r) (passed ∙ same) p)
+      subst⁻¹ (λ (z : ℕ). Pasted (treeKeys at z) keys keys′ 0 r) (add-one n) (subst (λ (l : List ℕ). Pasted l keys keys′ 0 r) (passed ∙ same) p)
     where
       same : joinedKeys at c n ≡ treeKeys at (suc n)
       same = unfold joinedKeys treeKeys allKeys in ap (λ (q : Point). kruskal keyGraph [] (union ltb (rays at q n n) (allKeys at n))) e
@@ -92,10 +92,13 @@ join-few {xs} {ys} {keys} {n} {m} p =
 
 -- The step of a join, from what its callees leave.
 pub join-step : (xs ys keys : List ℕ) (n m : ℕ) → JoinRequires xs ys n keys m → Words xs → Words ys
-    → (work₀ work₁ work₂ star keys′ : List ℕ) (w r : ℕ) → work₁ ≡ take m keys ++ drop m work₀ → star ≡ octantKeys (held xs ys) (held xs ys n) n
-    → Front (union ltb (offered star) (take m work₁)) work₁ work₂ w → Front (kruskal keyGraph [] (take w work₂)) keys keys′ r
-    → Front (treeKeys (held xs ys) (n + 1)) keys keys′ r
-join-step xs ys keys n m p wx wy work₀ work₁ work₂ star keys′ w r copied is added spans =
+    → (work₀ work₁ work₂ star keys′ : List ℕ) (q w r : ℕ) → Pasted (take m keys) work₀ work₁ 0 q → star ≡ octantKeys (held xs ys) (held xs ys n) n
+    → Pasted (union ltb (offered star) (take m work₁)) work₁ work₂ 0 w → Pasted (kruskal keyGraph [] (take w work₂)) keys keys′ 0 r
+    → Pasted (treeKeys (held xs ys) (n + 1)) keys keys′ 0 r
+join-step xs ys keys n m p wx wy work₀ work₁ work₂ star keys′ q w r copied is added spans =
     next-tree (held xs ys) (held xs ys n) n (p .few) (λ i h. near-words (getD xs i 0) (getD ys i 0) (getD xs n 0) (getD ys n 0) (wx i) (wy i) (wx n) (wy n))
     (λ i h e. lower-order .irrefl (held xs ys n) (subst⁻¹ (λ (z : Point). Lower z (held xs ys n)) e (p .rises i n h (omega arith))))
-    keys work₀ work₁ work₂ star m w (p .within) (p .tree) copied is added refl keys′ r spans
+    keys work₁ work₂ star m w (p .tree) (subst (λ (z : ℕ). take z work₁ ≡ take m keys) all (front-take copied)) is added refl keys′ r spans
+  where
+    all : q ≡ m
+    all = front-count copied ∙ length-take-le m keys (p .within)

@@ -1,4 +1,4 @@
 pub mod Build
-pub mod Front
 pub mod Held
 pub mod Keys
+pub mod Labels

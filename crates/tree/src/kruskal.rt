@@ -6,7 +6,8 @@ ghost use Prim.Native.Nat.{ℕ, _≤_, _<_};
 ghost use lib.ListN.{length, take, getD};
 ghost use Rattle.spanning.specs.Kruskal.{kruskal};
 ghost use Rattle.tree.specs.Keys.{keyGraph};
-ghost use Rattle.tree.specs.Front.{Front, moved};
+ghost use Rattle.arrays.specs.Paste.{Pasted};
+ghost use Rattle.tree.specs.Labels.{moved};
 
 // The label c, with b in the place of a.
 fn choice(c: u8, a: u8, b: u8) -> u8
@@ -45,7 +46,7 @@ pub fn separate(labels: &mut [u8])
 // The keys need be in no order here.
 pub fn span(keys: &[u64], count: usize, out: &mut [u64]) -> usize
     requires { ⌜ (count ≤ length (now keys)) × (count ≤ length (now out)) ⌝ }
-    ensures { λ r. ⌜ Front (kruskal keyGraph [] (take count (now (keys .entry)))) (now (out .entry)) (now (out .exit)) r ⌝ }
+    ensures { λ r. ⌜ Pasted (kruskal keyGraph [] (take count (now (keys .entry)))) (now (out .entry)) (now (out .exit)) 0 r ⌝ }
 {
     let mut labels = [0u8; 128];
     separate(&mut labels);

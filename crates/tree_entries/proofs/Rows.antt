@@ -13,10 +13,10 @@ use Rattle.model.specs.Tree.{pairs, edges, mst, treeLength}
 use Rattle.tree.specs.Held.{held}
 use Rattle.tree.specs.Keys.{weight, tab, treeKeys}
 use Rattle.tree.specs.Build.{BuildRequires, lengthWith}
-use Rattle.tree.specs.Front.{Front}
+use Rattle.arrays.specs.Paste.{Pasted}
 use Rattle.tree.proofs.Numbers.{tab-length}
 use Rattle.tree.proofs.Joined.{rising-total}
-use Rattle.tree.proofs.Front.{front-take}
+use Rattle.arrays.proofs.paste.Parts.{front-take, front-count}
 use Rattle.tree.proofs.Step.{keys-most}
 use Rattle.bottleneck.specs.Table.{Bottlenecks}
 use Rattle.score.specs.Length.{Measured}
@@ -49,12 +49,12 @@ build-given xs ys room p h =
     record { inXs = omega arith; inYs = omega (arith, p .same); few = omega (arith, p .few); fits = h; rises = p .rises }
 
 -- The number of keys is small.
-pub keys-few : (xs ys before keys : List ℕ) (m : ℕ) → Points xs ys → Front (treeKeys (held xs ys) (length xs)) before keys m → m ≤ 127
+pub keys-few : (xs ys before keys : List ℕ) (m : ℕ) → Points xs ys → Pasted (treeKeys (held xs ys) (length xs)) before keys 0 m → m ≤ 127
 keys-few xs ys before keys m p f =
-    omega (arith, f .count, p .few, keys-most (held xs ys) (length xs) (omega (arith, p .few)) (p .rises))
+    omega (arith, front-count f, p .few, keys-most (held xs ys) (length xs) (omega (arith, p .few)) (p .rises))
 
 -- What was worked out of the tree is what its length with a point more is measured by.
-pub tree-measured : (xs ys before keys table : List ℕ) (m plain : ℕ) → Points xs ys → Front (treeKeys (held xs ys) (length xs)) before keys m
+pub tree-measured : (xs ys before keys table : List ℕ) (m plain : ℕ) → Points xs ys → Pasted (treeKeys (held xs ys) (length xs)) before keys 0 m
     → plain ≡ total weight (take m keys) → length table ≡ 16384 → Bottlenecks (take m keys) (length xs) table
     → Measured xs ys (length xs) table plain
 tree-measured xs ys before keys table m plain p f s size b =

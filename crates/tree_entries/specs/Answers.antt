@@ -10,7 +10,7 @@ use Rattle.arrays.specs.Set.{setOf}
 use Rattle.tree.specs.Held.{held}
 use Rattle.tree.specs.Keys.{tab, treeKeys, endsOf}
 use Rattle.tree.specs.Build.{Rises, lengthWith}
-use Rattle.tree.specs.Front.{Front}
+use Rattle.arrays.specs.Paste.{Pasted}
 
 -- A test says whether something holds.
 pub record Says (P : Type 0) (r : Bool) : Type 0 where
@@ -30,7 +30,7 @@ pub record Refused (before after : List ℕ) (r : ℕ) : Type 0 where
 
 -- What is taken has its answer at the front of the array, and what is not is refused.
 pub record Answer (Taken : Type 0) (l before after : List ℕ) (r : ℕ) : Type 0 where
-  pub taken : Taken → Front l before after r
+  pub taken : Taken → Pasted l before after 0 r
   pub refused : ¬ Taken → Refused before after r
 
 -- The keys of the tree of the points, where there is room for 8 more than there are points.

@@ -1,13 +1,15 @@
 -- Decoding pairs of digits: the bytes decoded so far stand in front, and the others are those of the digits that are left.
-use mathlib.Core.Path.{_≡_, refl, sym, ap, _∙_, subst}
+use mathlib.Core.Path.{_≡_, refl, sym, ap, ap₂, _∙_, subst}
 use mathlib.Core.Bool.{true}
 use mathlib.Core.List.{List, [], _∷_, _++_}
 use Prim.Native.Nat.{ℕ, suc, _+_, _*_, _≤_, _<_}
 use native.Mathlib.Numerals.{add-one}
 use native.Mathlib.Omega.{arith}
 use lib.ListN.{length, take, drop, getD, set, length-append, length-drop, drop-of-length-le}
-use lib.Seq.{drop-cons, drop-drop, getD-drop, take-suc, length-take-le, set-at, append-snoc}
-use Rattle.words.specs.Hex.{digitOf, isHex, pairs, Filled}
+use lib.Seq.{drop-cons, drop-drop, getD-drop, take-suc, take-all, length-take-le, set-at, append-snoc}
+use Rattle.arrays.specs.Paste.{Pasted}
+use Rattle.arrays.proofs.paste.Parts.{front-of}
+use Rattle.words.specs.Hex.{digitOf, isHex, pairs}
 use Rattle.words.proofs.Pairs.{Pair, a-pair}
 
 -- The byte of the two digits from place i on.
@@ -101,9 +103,16 @@ module _ (w before after : List ℕ) (i k : ℕ) (d : Decoded w before after i k
       subst (λ (v : ℕ). Decoded w before (set after k v) (i + 2) (k + 1)) (λ j. 16 * sym e j + sym f j) (more h l)
 
   -- No digits are left, or no place.
-  pub decoded-all : length w ≤ i → Filled (pairs w) before after k
-  unfolding pairs
-  decoded-all h = record { count = omega (arith, length-drop k (pairs w), ap length (d .left ∙ ap pairs (drop-of-length-le w {i = i} h))); shows = d .shows }
+  ended : take (length before) (pairs w) ≡ take k (pairs w) → Pasted (take (length before) (pairs w)) before after 0 k
+  ended e =
+      let size : length (take (length before) (pairs w)) ≡ k = ap length e ∙ length-take-le k (pairs w) (d .below) in
+      front-of (sym size) (d .shows ∙ ap₂ (λ (l : List ℕ) (n : ℕ). l ++ drop n before) (sym e) (sym size))
 
-  pub decoded-full : length after ≤ k → Filled (pairs w) before after k
-  decoded-full h = record { count = omega (arith, same-length); shows = d .shows }
+  pub decoded-all : length w ≤ i → Pasted (take (length before) (pairs w)) before after 0 k
+  unfolding pairs
+  decoded-all h =
+      let all : length (pairs w) ≤ k = omega (arith, length-drop k (pairs w), ap length (d .left ∙ ap pairs (drop-of-length-le w {i = i} h))) in
+      ended (take-all (length before) (pairs w) (omega (arith, d .fits)) ∙ sym (take-all k (pairs w) all))
+
+  pub decoded-full : length after ≤ k → Pasted (take (length before) (pairs w)) before after 0 k
+  decoded-full h = let e : length before ≡ k = omega (arith, same-length, d .fits) in ended (ap (λ (n : ℕ). take n (pairs w)) e)

@@ -1,10 +1,8 @@
 -- Bytes as pairs of hexadecimal digits.
-use mathlib.Core.Path.{_≡_}
 use mathlib.Core.Bool.{Bool, true, false, _&&_}
-use mathlib.Core.List.{List, [], _∷_, _++_}
-use Prim.Native.Nat.{ℕ, _+_, _*_, _-_, min}
+use mathlib.Core.List.{List, [], _∷_}
+use Prim.Native.Nat.{ℕ, _+_, _*_, _-_}
 use lib.Dec.{leb, ltb}
-use lib.ListN.{length, take, drop}
 use Rattle.arrays.specs.Test.{if}
 
 -- The value of a hexadecimal digit, 0 (48) to 9 (57), A (65) to F (70) and a (97) to f (102); 16 where a byte is none.
@@ -27,8 +25,3 @@ unfoldable pub pairs : List ℕ → List ℕ
 pairs [] = []
 pairs (a ∷ []) = []
 pairs (a ∷ b ∷ l) = (16 * digitOf a + digitOf b) ∷ pairs l
-
--- Of the bytes l, as many as fit were written over the front of an array, nothing behind them changed, and r counts them.
-pub record Filled (l before after : List ℕ) (r : ℕ) : Type 0 where
-  pub count : r ≡ min (length before) (length l)
-  pub shows : after ≡ take r l ++ drop r before

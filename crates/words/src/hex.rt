@@ -2,7 +2,9 @@
 ghost use mathlib.Core.Path.{_≡_};
 ghost use mathlib.Core.Bool.{true};
 ghost use Prim.Native.Nat.{_≤_};
-ghost use Rattle.words.specs.Hex.{digitOf, isHex, pairs, Filled};
+ghost use lib.ListN.{length, take};
+ghost use Rattle.arrays.specs.Paste.{Pasted};
+ghost use Rattle.words.specs.Hex.{digitOf, isHex, pairs};
 
 // The value of a hexadecimal digit, 16 where a byte is none.
 fn digit(b: u8) -> u8
@@ -41,7 +43,7 @@ pub fn is_hex(word: &[u8]) -> bool
 // Writes the bytes of pairs of hexadecimal digits to the front of `out`, as many as it holds, and returns how many.
 pub fn decode(word: &[u8], out: &mut [u8]) -> usize
     requires { ⌜ isHex (now word) ≡ true ⌝ }
-    ensures { λ r. ⌜ Filled (pairs (now (word .entry))) (now (out .entry)) (now (out .exit)) r ⌝ }
+    ensures { λ r. ⌜ Pasted (take (length (now (out .entry))) (pairs (now (word .entry)))) (now (out .entry)) (now (out .exit)) 0 r ⌝ }
 {
     let mut i = 0;
     let mut k = 0;

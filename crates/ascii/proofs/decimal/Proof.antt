@@ -12,17 +12,17 @@ slice-aggregate-digits c = search needs
 digits-requires : tie.Need-digits-requires
 digits-requires c κs = search needs
 
-sub-word : tie.Need-sub-word
-sub-word c = search needs
+sub-put-bytes : tie.Need-sub-put-bytes
+sub-put-bytes c = search needs
 
-part-word-start : tie.Need-part-word-start
-part-word-start c = search needs
+part-put-bytes-start : tie.Need-part-put-bytes-start
+part-put-bytes-start c = search needs
 
-part-word-end : tie.Need-part-word-end
-part-word-end c = search needs
+part-put-bytes-end : tie.Need-part-put-bytes-end
+part-put-bytes-end c = search needs
 
-word-requires : tie.Need-word-requires
-word-requires c κs = search needs
+put-bytes-requires : tie.Need-put-bytes-requires
+put-bytes-requires c κs = search needs
 
 same-length : tie.Need-same-length
 same-length c = search needs
@@ -32,7 +32,7 @@ returns c =
     let at-word = c .before .before in
     let at-digits = at-word .before .before .before .before .before in
     let size : length (at-digits .digits .last .1 .0) ≡ 20 = search needs in
-    decimal-put (at-digits .digits .last .1 .0) _ _ _ (at-digits .digits .result) _ _ size (at-digits .digits .ensures .1) (at-word .word .ensures)
+    decimal-put (at-digits .digits .last .1 .0) _ _ _ (at-digits .digits .result) _ _ size (at-digits .digits .ensures .1) (at-word .put-bytes .ensures)
 
 pub decimal-spec : {M : Type 1} → statement M
 decimal-spec =
@@ -40,9 +40,9 @@ decimal-spec =
     (tie.spec
     slice-aggregate-digits
     digits-requires
-    sub-word
-    part-word-start
-    part-word-end
-    word-requires
+    sub-put-bytes
+    part-put-bytes-start
+    part-put-bytes-end
+    put-bytes-requires
     same-length
     returns)

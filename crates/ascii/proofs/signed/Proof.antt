@@ -1,13 +1,13 @@
 -- `ascii::signed` meets its contract: the magnitude, behind a minus sign where the number is negative.
 use native.Mathlib.Omega.{arith}
 use borrow.Author.Needs.{needs}
-use Rattle.ascii.proofs.Puts.{put-then}
+use Rattle.arrays.proofs.paste.Parts.{pasted-then}
 use Rattle.ascii.proofs.Signs.{minus-put, plus-put}
 use Rattle.ascii.proofs.signed.Statement.{statement}
 use Rattle.ascii.proofs.signed.Tie as tie
 
-byte-requires : tie.Need-byte-requires
-byte-requires c κs = search needs
+put-byte-requires : tie.Need-put-byte-requires
+put-byte-requires c κs = search needs
 
 magnitude-requires : tie.Need-magnitude-requires
 magnitude-requires c κs = search needs
@@ -25,7 +25,7 @@ returns c =
     let at-byte = at-magnitude .before .before .before .before in
     let at-if1 = at-byte .before .before in
     let at-start = at-if1 .before .before in
-    minus-put _ _ _ _ _ _ (at-start .fits .z) (at-magnitude .magnitude .ensures) (at-if1 .if1 .taken) (put-then (at-byte .byte .ensures) (omega arith) (at-decimal .decimal .ensures .0))
+    minus-put _ _ _ _ _ _ (at-start .fits .z) (at-magnitude .magnitude .ensures) (at-if1 .if1 .taken) (pasted-then (at-byte .put-byte .ensures) (omega arith) (at-decimal .decimal .ensures .0))
 
 magnitude-requires-2 : tie.Need-magnitude-requires-2
 magnitude-requires-2 c κs = search needs
@@ -48,7 +48,7 @@ pub signed-spec : {M : Type 1} → statement M
 signed-spec =
     tie.close
     (tie.spec
-    byte-requires
+    put-byte-requires
     magnitude-requires
     decimal-requires
     same-length

@@ -3,7 +3,7 @@ use mathlib.Core.Path.{_≡_}
 use mathlib.Core.List.{_++_}
 use Prim.Native.Nat.{_≤_, _-_}
 use lib.ListN.{length, take, drop}
-use Rattle.tree.proofs.Star.{copy-more}
+use Rattle.sections.proofs.Decoding.{copy-more}
 use Rattle.buffer.proofs.Putting.{over-text}
 use borrow.Author.Needs.{needs}
 use native.Mathlib.Omega.{arith}

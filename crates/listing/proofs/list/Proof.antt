@@ -7,7 +7,7 @@ use Rattle.deck.proofs.Forms.{sound-is}
 use Rattle.arrays.proofs.Test.{of-true}
 use Rattle.ascii.proofs.Fitting.{front-none, front-put}
 use Rattle.listing.proofs.Answering.{text-sound, text-unsound}
-use Rattle.ascii.proofs.Puts.{put-same}
+use Rattle.arrays.proofs.paste.Parts.{pasted-same}
 use Rattle.listing.proofs.list.Statement.{statement}
 use Rattle.listing.proofs.list.Tie as tie
 
@@ -31,7 +31,7 @@ returns-2 c =
     let at-if1 = at-measure .before in
     let at-start = at-if1 .before .before in
     front-put 8192 _ _ _ _ (at-if1 .if1 .left)
-    (put-same (text-unsound (at-start .args .d) (sym (at-measure .measure .ensures .ok) ∙ not-true _ (at-if2 .if2 .taken))) (at-refused-line .refused-line .ensures))
+    (pasted-same (text-unsound (at-start .args .d) (sym (at-measure .measure .ensures .ok) ∙ not-true _ (at-if2 .if2 .taken))) (at-refused-line .refused-line .ensures))
 
 write-deck-requires : tie.Need-write-deck-requires
 write-deck-requires c κs =
@@ -52,7 +52,7 @@ returns-3 c =
     let at-if1 = at-measure .before in
     let at-start = at-if1 .before .before in
     front-put 8192 _ _ _ _ (at-if1 .if1 .left)
-    (put-same (text-sound (at-start .args .d) (sym (at-measure .measure .ensures .ok) ∙ not-false _ (at-if2 .if2 .left))) (at-write-deck .write-deck .ensures))
+    (pasted-same (text-sound (at-start .args .d) (sym (at-measure .measure .ensures .ok) ∙ not-false _ (at-if2 .if2 .left))) (at-write-deck .write-deck .ensures))
 
 pub list-spec : {M : Type 1} → statement M
 list-spec =

@@ -2,7 +2,7 @@
 use native.Mathlib.Omega.{arith}
 use borrow.Author.Needs.{needs}
 use Rattle.listing.proofs.Decks.{deck-put}
-use Rattle.ascii.proofs.Puts.{put-then}
+use Rattle.arrays.proofs.paste.Parts.{pasted-then}
 use Rattle.listing.proofs.write_deck.Statement.{statement}
 use Rattle.listing.proofs.write_deck.Tie as tie
 
@@ -24,8 +24,8 @@ returns c =
     let at-write-taps = at-write-runs .before .before .before .before in
     let at-head-line = at-write-taps .before .before .before .before in
     let at-start = at-head-line .before .before .before in
-    deck-put (at-start .args .d) (at-start .pre .1 .0) _ (at-start .pre .1 .1) (put-then (at-head-line .head-line .ensures .0) (omega arith)
-    (put-then (at-write-taps .write-taps .ensures .0) (omega arith) (at-write-runs .write-runs .ensures)))
+    deck-put (at-start .args .d) (at-start .pre .1 .0) _ (at-start .pre .1 .1) (pasted-then (at-head-line .head-line .ensures .0) (omega arith)
+    (pasted-then (at-write-taps .write-taps .ensures .0) (omega arith) (at-write-runs .write-runs .ensures)))
 
 pub write-deck-spec : {M : Type 1} → statement M
 write-deck-spec =

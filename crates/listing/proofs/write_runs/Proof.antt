@@ -6,7 +6,7 @@ use borrow.Author.Needs.{needs}
 use Rattle.model.specs.Listing.{runLines}
 use Rattle.deck.proofs.Checking.{sound-few, sound-left, sound-pins, sound-steiner}
 use Rattle.listing.proofs.Decks.{held-few, held-coded, held-ended, held-edges}
-use Rattle.ascii.proofs.Puts.{put-same}
+use Rattle.arrays.proofs.paste.Parts.{pasted-same}
 use Rattle.listing.proofs.write_runs.Statement.{statement}
 use Rattle.listing.proofs.write_runs.Tie as tie
 
@@ -67,7 +67,7 @@ returns c =
     let w = at-union .union .ensures in
     let few = held-few d s _ codes (at-union .union .result) w in
     let edges = held-edges d s _ codes (at-union .union .result) w (at-edges-of .edges-of .result) (at-edges-of .edges-of .ensures) (omega (arith, few, size)) in
-    put-same (ap runLines edges) (at-run-lines .run-lines .ensures .0)
+    pasted-same (ap runLines edges) (at-run-lines .run-lines .ensures .0)
 
 pub write-runs-spec : {M : Type 1} → statement M
 write-runs-spec =

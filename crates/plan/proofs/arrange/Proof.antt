@@ -2,6 +2,7 @@
 use mathlib.Core.Path.{refl}
 use native.Mathlib.Omega.{arith}
 use Rattle.plan.proofs.Arranging.{all-count, all-few, build-allowed, planned-of}
+use Rattle.arrays.proofs.paste.Parts.{front-count}
 use borrow.Author.Needs.{needs}
 use Rattle.plan.proofs.arrange.Statement.{statement}
 use Rattle.plan.proofs.arrange.Tie as tie
@@ -40,7 +41,7 @@ unpack-requires c κs =
     let w = c .before .before .before .before .union .ensures in
     let few = all-few _ _ _ _ p in
     let n = all-count _ _ _ _ p in
-    (omega (arith, few, n, w .count), omega (arith, few, n, w .count), omega (arith, few, n, w .count))
+    (omega (arith, few, n, front-count w), omega (arith, few, n, front-count w), omega (arith, few, n, front-count w))
 
 slice-aggregate-build : tie.Need-slice-aggregate-build
 slice-aggregate-build c = search needs
@@ -58,7 +59,7 @@ build-requires c κs =
     let u = c .before .before .before .before .before .unpack .ensures in
     let few = all-few _ _ _ _ p in
     let n = all-count _ _ _ _ p in
-    build-allowed _ _ _ _ p _ _ _ _ _ w u _ refl (omega (arith, few, n, w .count)) (omega (arith, few, n, w .count))
+    build-allowed _ _ _ _ p _ _ _ _ _ w u _ refl (omega (arith, few, n, front-count w)) (omega (arith, few, n, front-count w))
 
 returns : tie.Need-returns
 returns c =

@@ -11,7 +11,7 @@ use Rattle.questions.proofs.degree_of.Tie as tie
 use Rattle.questions.proofs.degree_of.Reads as reads
 use Rattle.questions.proofs.degree_of.Lts as lts
 use Rattle.arrays.proofs.sorted.has.Reads as has-reads
-use Rattle.arrays.proofs.sorted.place.Reads as place-reads
+use Rattle.arrays.proofs.sorted.index_of.Reads as index-of-reads
 use Rattle.tree.proofs.list.degree_of.Reads as degree-of-reads
 
 slice-aggregate-has : tie.Need-slice-aggregate-has
@@ -28,11 +28,11 @@ returns c = degree-none _ (c .before .before .before .before .before .pre) _ (sy
 slice-aggregate-degree-of : tie.Need-slice-aggregate-degree-of
 slice-aggregate-degree-of c = search needs
 
-slice-aggregate-place : tie.Need-slice-aggregate-place
-slice-aggregate-place c = search needs
+slice-aggregate-index-of : tie.Need-slice-aggregate-index-of
+slice-aggregate-index-of c = search needs
 
-place-requires : tie.Need-place-requires
-place-requires c κs =
+index-of-requires : tie.Need-index-of-requires
+index-of-requires c κs =
     let h : length (c .before .before .before .before .before .before .before .args .w .codes) ≡ 128 = search needs in
     omega (arith, c .before .before .before .before .before .before .before .pre .few, h)
 
@@ -44,7 +44,7 @@ degree-of-requires c κs =
 returns-2 : tie.Need-returns-2
 returns-2 c =
     let t = of-true (sym (c .before .before .before .before .before .has .ensures) ∙ not-false _ (c .before .before .before .before .if1 .left)) in
-    degree-there _ (c .before .before .before .before .before .before .before .before .before .pre) _ _ _ t (c .before .place .ensures) (c .degree-of .ensures)
+    degree-there _ (c .before .before .before .before .before .before .before .before .before .pre) _ _ _ t (c .before .index-of .ensures) (c .degree-of .ensures)
 
 pub degree-of-spec : {M : Type 1} → statement M
 degree-of-spec =
@@ -54,7 +54,7 @@ degree-of-spec =
     has-requires
     returns
     slice-aggregate-degree-of
-    slice-aggregate-place
-    place-requires
+    slice-aggregate-index-of
+    index-of-requires
     degree-of-requires
     returns-2)

@@ -3,7 +3,7 @@ use mathlib.Core.Path.{sym, ap}
 use borrow.Author.Needs.{needs}
 use Rattle.replies.specs.Replies.{answerText}
 use Rattle.ascii.proofs.Fitting.{front-none, front-put}
-use Rattle.ascii.proofs.Puts.{put-same}
+use Rattle.arrays.proofs.paste.Parts.{pasted-same}
 use Rattle.replies.proofs.Replying.{edge-again}
 use Rattle.replies.proofs.answer_line.Statement.{statement}
 use Rattle.replies.proofs.answer_line.Tie as tie
@@ -47,11 +47,11 @@ edge-line-requires c κs = search needs
 enum-told : tie.Need-enum-told
 enum-told c = search needs
 
-slice-aggregate-word : tie.Need-slice-aggregate-word
-slice-aggregate-word c = search needs
+slice-aggregate-put-bytes : tie.Need-slice-aggregate-put-bytes
+slice-aggregate-put-bytes c = search needs
 
-word-requires : tie.Need-word-requires
-word-requires c κs = search needs
+put-bytes-requires : tie.Need-put-bytes-requires
+put-bytes-requires c κs = search needs
 
 enum-known-answer-5 : tie.Need-enum-known-answer-5
 enum-known-answer-5 c = search needs
@@ -71,7 +71,7 @@ returns-2 c =
     let at-number-line = c .before .before in
     let at-answer = at-number-line .before .before .before .before in
     let at-if1 = at-answer .before .before in
-    front-put 128 _ _ _ _ (at-if1 .if1 .left) (put-same (sym (ap answerText (at-answer .answer .given .1))) (at-number-line .number-line .ensures))
+    front-put 128 _ _ _ _ (at-if1 .if1 .left) (pasted-same (sym (ap answerText (at-answer .answer .given .1))) (at-number-line .number-line .ensures))
 
 same-length-2 : tie.Need-same-length-2
 same-length-2 c = search needs
@@ -82,7 +82,7 @@ returns-3 c =
     let at-number-line2 = c .before .before in
     let at-answer2 = at-number-line2 .before .before .before .before in
     let at-if1 = at-answer2 .before .before in
-    front-put 128 _ _ _ _ (at-if1 .if1 .left) (put-same (sym (ap answerText (at-answer2 .answer2 .given .1))) (at-number-line2 .number-line2 .ensures))
+    front-put 128 _ _ _ _ (at-if1 .if1 .left) (pasted-same (sym (ap answerText (at-answer2 .answer2 .given .1))) (at-number-line2 .number-line2 .ensures))
 
 same-length-3 : tie.Need-same-length-3
 same-length-3 c = search needs
@@ -93,7 +93,7 @@ returns-4 c =
     let at-counts-line = c .before .before in
     let at-answer3 = at-counts-line .before .before .before in
     let at-if1 = at-answer3 .before .before in
-    front-put 128 _ _ _ _ (at-if1 .if1 .left) (put-same (sym (ap answerText (at-answer3 .answer3 .given .1))) (at-counts-line .counts-line .ensures))
+    front-put 128 _ _ _ _ (at-if1 .if1 .left) (pasted-same (sym (ap answerText (at-answer3 .answer3 .given .1))) (at-counts-line .counts-line .ensures))
 
 same-length-4 : tie.Need-same-length-4
 same-length-4 c = search needs
@@ -107,7 +107,7 @@ returns-5 c =
     let at-if1 = at-answer4 .before .before in
     let v = at-answer4 .answer4 .given .0 in
     let k = at-known-told4 .known-told4 .given in
-    front-put 128 _ _ _ _ (at-if1 .if1 .left) (put-same (sym (ap answerText (at-answer4 .answer4 .given .1)))
+    front-put 128 _ _ _ _ (at-if1 .if1 .left) (pasted-same (sym (ap answerText (at-answer4 .answer4 .given .1)))
     (edge-again (v .0) (v .1 .0) (v .1 .1 .0) (v .1 .1 .1 .0) (v .1 .1 .1 .1 .0)
     (record { sfits = k .0 .1 }) (record { sfits = k .1 .0 .1 }) (record { sfits = k .1 .1 .0 .1 }) (record { sfits = k .1 .1 .1 .0 .1 }) (at-edge-line .edge-line .ensures)))
 
@@ -120,7 +120,7 @@ returns-6 c =
     let at-word = c .before .before in
     let at-enum-told = at-word .before .before .before in
     let at-if1 = at-enum-told .before .before in
-    front-put 128 _ _ _ _ (at-if1 .if1 .left) (put-same (sym (ap answerText (at-enum-told .enum-told .given .1))) (at-word .word .ensures))
+    front-put 128 _ _ _ _ (at-if1 .if1 .left) (pasted-same (sym (ap answerText (at-enum-told .enum-told .given .1))) (at-word .put-bytes .ensures))
 
 same-length-6 : tie.Need-same-length-6
 same-length-6 c = search needs
@@ -131,7 +131,7 @@ returns-7 c =
     let at-number-line3 = c .before .before in
     let at-answer5 = at-number-line3 .before .before .before .before in
     let at-if1 = at-answer5 .before .before in
-    front-put 128 _ _ _ _ (at-if1 .if1 .left) (put-same (sym (ap answerText (at-answer5 .answer5 .given .1))) (at-number-line3 .number-line3 .ensures))
+    front-put 128 _ _ _ _ (at-if1 .if1 .left) (pasted-same (sym (ap answerText (at-answer5 .answer5 .given .1))) (at-number-line3 .number-line3 .ensures))
 
 pub answer-line-spec : {M : Type 1} → statement M
 answer-line-spec =
@@ -150,8 +150,8 @@ answer-line-spec =
     enum-known-answer-4
     edge-line-requires
     enum-told
-    slice-aggregate-word
-    word-requires
+    slice-aggregate-put-bytes
+    put-bytes-requires
     enum-known-answer-5
     slice-aggregate-number-line-3
     number-line-requires-3

@@ -1,16 +1,16 @@
 -- `replies::edge_line` meets its contract.
 use native.Mathlib.Omega.{arith}
 use borrow.Author.Needs.{needs}
-use Rattle.ascii.proofs.Puts.{put-then}
+use Rattle.arrays.proofs.paste.Parts.{pasted-then}
 use Rattle.replies.proofs.Replying.{ends-again}
 use Rattle.replies.proofs.edge_line.Statement.{statement}
 use Rattle.replies.proofs.edge_line.Tie as tie
 
-slice-aggregate-word : tie.Need-slice-aggregate-word
-slice-aggregate-word c = search needs
+slice-aggregate-put-bytes : tie.Need-slice-aggregate-put-bytes
+slice-aggregate-put-bytes c = search needs
 
-word-requires : tie.Need-word-requires
-word-requires c κs = search needs
+put-bytes-requires : tie.Need-put-bytes-requires
+put-bytes-requires c κs = search needs
 
 ends-fields-requires : tie.Need-ends-fields-requires
 ends-fields-requires c κs = search needs
@@ -27,16 +27,16 @@ returns c =
     let at-ends-fields = at-decimal-field .before .before .before .before in
     let at-word = at-ends-fields .before .before .before .before in
     let at-start = at-word .before .before .before .before in
-    put-then (at-word .word .ensures) (omega arith)
-    (put-then (ends-again _ _ _ _ (at-start .fits .x) (at-start .fits .y) (at-start .fits .u) (at-start .fits .v) (at-ends-fields .ends-fields .ensures .0)) (omega arith)
+    pasted-then (at-word .put-bytes .ensures) (omega arith)
+    (pasted-then (ends-again _ _ _ _ (at-start .fits .x) (at-start .fits .y) (at-start .fits .u) (at-start .fits .v) (at-ends-fields .ends-fields .ensures .0)) (omega arith)
     (at-decimal-field .decimal-field .ensures .0))
 
 pub edge-line-spec : {M : Type 1} → statement M
 edge-line-spec =
     tie.close
     (tie.spec
-    slice-aggregate-word
-    word-requires
+    slice-aggregate-put-bytes
+    put-bytes-requires
     ends-fields-requires
     decimal-field-requires
     same-length

@@ -1,7 +1,7 @@
 -- `replies::ends_fields` meets its contract.
 use native.Mathlib.Omega.{arith}
 use borrow.Author.Needs.{needs}
-use Rattle.ascii.proofs.Puts.{put-then}
+use Rattle.arrays.proofs.paste.Parts.{pasted-then}
 use Rattle.ascii.proofs.Signs.{field-again}
 use Rattle.replies.proofs.ends_fields.Statement.{statement}
 use Rattle.replies.proofs.ends_fields.Tie as tie
@@ -28,9 +28,9 @@ returns c =
     let at-signed-field2 = at-signed-field3 .before .before .before .before in
     let at-signed-field = at-signed-field2 .before .before .before .before in
     let at-start = at-signed-field .before .before .before in (
-      put-then (field-again _ (at-start .fits .x) (at-signed-field .signed-field .ensures .0)) (omega arith)
-          (put-then (field-again _ (at-start .fits .y) (at-signed-field2 .signed-field2 .ensures .0)) (omega arith)
-          (put-then (field-again _ (at-start .fits .u) (at-signed-field3 .signed-field3 .ensures .0)) (omega arith)
+      pasted-then (field-again _ (at-start .fits .x) (at-signed-field .signed-field .ensures .0)) (omega arith)
+          (pasted-then (field-again _ (at-start .fits .y) (at-signed-field2 .signed-field2 .ensures .0)) (omega arith)
+          (pasted-then (field-again _ (at-start .fits .u) (at-signed-field3 .signed-field3 .ensures .0)) (omega arith)
           (field-again _ (at-start .fits .v) (at-signed-field4 .signed-field4 .ensures .0)))),
       omega arith,
     )

@@ -1,16 +1,16 @@
 -- `replies::fall_line` meets its contract.
 use native.Mathlib.Omega.{arith}
 use borrow.Author.Needs.{needs}
-use Rattle.ascii.proofs.Puts.{put-then}
+use Rattle.arrays.proofs.paste.Parts.{pasted-then}
 use Rattle.ascii.proofs.Signs.{field-again}
 use Rattle.replies.proofs.fall_line.Statement.{statement}
 use Rattle.replies.proofs.fall_line.Tie as tie
 
-slice-aggregate-word : tie.Need-slice-aggregate-word
-slice-aggregate-word c = search needs
+slice-aggregate-put-bytes : tie.Need-slice-aggregate-put-bytes
+slice-aggregate-put-bytes c = search needs
 
-word-requires : tie.Need-word-requires
-word-requires c κs = search needs
+put-bytes-requires : tie.Need-put-bytes-requires
+put-bytes-requires c κs = search needs
 
 signed-field-requires : tie.Need-signed-field-requires
 signed-field-requires c κs = search needs
@@ -18,11 +18,11 @@ signed-field-requires c κs = search needs
 signed-field-requires-2 : tie.Need-signed-field-requires-2
 signed-field-requires-2 c κs = search needs
 
-slice-aggregate-word-2 : tie.Need-slice-aggregate-word-2
-slice-aggregate-word-2 c = search needs
+slice-aggregate-put-bytes-2 : tie.Need-slice-aggregate-put-bytes-2
+slice-aggregate-put-bytes-2 c = search needs
 
-word-requires-2 : tie.Need-word-requires-2
-word-requires-2 c κs = search needs
+put-bytes-requires-2 : tie.Need-put-bytes-requires-2
+put-bytes-requires-2 c κs = search needs
 
 decimal-field-requires : tie.Need-decimal-field-requires
 decimal-field-requires c κs = search needs
@@ -38,21 +38,21 @@ returns c =
     let at-signed-field = at-signed-field2 .before .before .before .before in
     let at-word = at-signed-field .before .before .before .before in
     let at-start = at-word .before .before .before .before in
-    put-then (at-word .word .ensures) (omega arith)
-    (put-then (field-again _ (at-start .fits .x) (at-signed-field .signed-field .ensures .0)) (omega arith)
-    (put-then (field-again _ (at-start .fits .y) (at-signed-field2 .signed-field2 .ensures .0)) (omega arith)
-    (put-then (at-word2 .word2 .ensures) (omega arith) (at-decimal-field .decimal-field .ensures .0))))
+    pasted-then (at-word .put-bytes .ensures) (omega arith)
+    (pasted-then (field-again _ (at-start .fits .x) (at-signed-field .signed-field .ensures .0)) (omega arith)
+    (pasted-then (field-again _ (at-start .fits .y) (at-signed-field2 .signed-field2 .ensures .0)) (omega arith)
+    (pasted-then (at-word2 .put-bytes2 .ensures) (omega arith) (at-decimal-field .decimal-field .ensures .0))))
 
 pub fall-line-spec : {M : Type 1} → statement M
 fall-line-spec =
     tie.close
     (tie.spec
-    slice-aggregate-word
-    word-requires
+    slice-aggregate-put-bytes
+    put-bytes-requires
     signed-field-requires
     signed-field-requires-2
-    slice-aggregate-word-2
-    word-requires-2
+    slice-aggregate-put-bytes-2
+    put-bytes-requires-2
     decimal-field-requires
     same-length
     returns)

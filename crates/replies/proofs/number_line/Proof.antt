@@ -1,12 +1,12 @@
 -- `replies::number_line` meets its contract.
 use native.Mathlib.Omega.{arith}
 use borrow.Author.Needs.{needs}
-use Rattle.ascii.proofs.Puts.{put-then}
+use Rattle.arrays.proofs.paste.Parts.{pasted-then}
 use Rattle.replies.proofs.number_line.Statement.{statement}
 use Rattle.replies.proofs.number_line.Tie as tie
 
-word-requires : tie.Need-word-requires
-word-requires c κs = search needs
+put-bytes-requires : tie.Need-put-bytes-requires
+put-bytes-requires c κs = search needs
 
 decimal-field-requires : tie.Need-decimal-field-requires
 decimal-field-requires c κs = search needs
@@ -15,7 +15,7 @@ same-length : tie.Need-same-length
 same-length c = search needs
 
 returns : tie.Need-returns
-returns c = put-then (c .before .before .before .before .before .before .word .ensures) (omega arith) (c .before .before .decimal-field .ensures .0)
+returns c = pasted-then (c .before .before .before .before .before .before .put-bytes .ensures) (omega arith) (c .before .before .decimal-field .ensures .0)
 
 pub number-line-spec : {M : Type 1} → statement M
-number-line-spec = tie.close (tie.spec word-requires decimal-field-requires same-length returns)
+number-line-spec = tie.close (tie.spec put-bytes-requires decimal-field-requires same-length returns)

@@ -3,7 +3,7 @@ use mathlib.Core.Path.{sym, ap}
 use borrow.Author.Needs.{needs}
 use Rattle.replies.specs.Replies.{replyText}
 use Rattle.ascii.proofs.Fitting.{front-none, front-put}
-use Rattle.ascii.proofs.Puts.{put-same}
+use Rattle.arrays.proofs.paste.Parts.{pasted-same}
 use Rattle.replies.proofs.Replying.{fall-again}
 use Rattle.replies.proofs.reply_line.Statement.{statement}
 use Rattle.replies.proofs.reply_line.Tie as tie
@@ -14,11 +14,11 @@ returns c = front-none 128 _ _ (c .if1 .taken)
 enum-told : tie.Need-enum-told
 enum-told c = search needs
 
-slice-aggregate-word : tie.Need-slice-aggregate-word
-slice-aggregate-word c = search needs
+slice-aggregate-put-bytes : tie.Need-slice-aggregate-put-bytes
+slice-aggregate-put-bytes c = search needs
 
-word-requires : tie.Need-word-requires
-word-requires c κs = search needs
+put-bytes-requires : tie.Need-put-bytes-requires
+put-bytes-requires c κs = search needs
 
 enum-known-reply : tie.Need-enum-known-reply
 enum-known-reply c = search needs
@@ -35,11 +35,11 @@ number-line-requires c κs = search needs
 enum-told-2 : tie.Need-enum-told-2
 enum-told-2 c = search needs
 
-slice-aggregate-word-2 : tie.Need-slice-aggregate-word-2
-slice-aggregate-word-2 c = search needs
+slice-aggregate-put-bytes-2 : tie.Need-slice-aggregate-put-bytes-2
+slice-aggregate-put-bytes-2 c = search needs
 
-word-requires-2 : tie.Need-word-requires-2
-word-requires-2 c κs = search needs
+put-bytes-requires-2 : tie.Need-put-bytes-requires-2
+put-bytes-requires-2 c κs = search needs
 
 enum-known-reply-2 : tie.Need-enum-known-reply-2
 enum-known-reply-2 c = search needs
@@ -65,7 +65,7 @@ returns-2 c =
     let at-word = c .before .before in
     let at-enum-told = at-word .before .before .before in
     let at-if1 = at-enum-told .before .before in
-    front-put 128 _ _ _ _ (at-if1 .if1 .left) (put-same (sym (ap replyText (at-enum-told .enum-told .given .1))) (at-word .word .ensures))
+    front-put 128 _ _ _ _ (at-if1 .if1 .left) (pasted-same (sym (ap replyText (at-enum-told .enum-told .given .1))) (at-word .put-bytes .ensures))
 
 same-length-2 : tie.Need-same-length-2
 same-length-2 c = search needs
@@ -76,7 +76,7 @@ returns-3 c =
     let at-number-line = c .before .before in
     let at-reply = at-number-line .before .before .before .before in
     let at-if1 = at-reply .before .before in
-    front-put 128 _ _ _ _ (at-if1 .if1 .left) (put-same (sym (ap replyText (at-reply .reply .given .1))) (at-number-line .number-line .ensures))
+    front-put 128 _ _ _ _ (at-if1 .if1 .left) (pasted-same (sym (ap replyText (at-reply .reply .given .1))) (at-number-line .number-line .ensures))
 
 same-length-3 : tie.Need-same-length-3
 same-length-3 c = search needs
@@ -87,7 +87,7 @@ returns-4 c =
     let at-word2 = c .before .before in
     let at-enum-told2 = at-word2 .before .before .before in
     let at-if1 = at-enum-told2 .before .before in
-    front-put 128 _ _ _ _ (at-if1 .if1 .left) (put-same (sym (ap replyText (at-enum-told2 .enum-told2 .given .1))) (at-word2 .word2 .ensures))
+    front-put 128 _ _ _ _ (at-if1 .if1 .left) (pasted-same (sym (ap replyText (at-enum-told2 .enum-told2 .given .1))) (at-word2 .put-bytes2 .ensures))
 
 same-length-4 : tie.Need-same-length-4
 same-length-4 c = search needs
@@ -101,7 +101,7 @@ returns-5 c =
     let at-if1 = at-reply2 .before .before in
     let v = at-reply2 .reply2 .given .0 in
     let k = at-known-told2 .known-told2 .given in
-    front-put 128 _ _ _ _ (at-if1 .if1 .left) (put-same (sym (ap replyText (at-reply2 .reply2 .given .1)))
+    front-put 128 _ _ _ _ (at-if1 .if1 .left) (pasted-same (sym (ap replyText (at-reply2 .reply2 .given .1)))
     (fall-again (v .0) (v .1 .0) (v .1 .1 .0)
     (record { sfits = k .0 .1 }) (record { sfits = k .1 .0 .1 }) (at-fall-line .fall-line .ensures)))
 
@@ -114,7 +114,7 @@ returns-6 c =
     let at-number-line2 = c .before .before in
     let at-reply3 = at-number-line2 .before .before .before .before in
     let at-if1 = at-reply3 .before .before in
-    front-put 128 _ _ _ _ (at-if1 .if1 .left) (put-same (sym (ap replyText (at-reply3 .reply3 .given .1))) (at-number-line2 .number-line2 .ensures))
+    front-put 128 _ _ _ _ (at-if1 .if1 .left) (pasted-same (sym (ap replyText (at-reply3 .reply3 .given .1))) (at-number-line2 .number-line2 .ensures))
 
 pub reply-line-spec : {M : Type 1} → statement M
 reply-line-spec =
@@ -122,15 +122,15 @@ reply-line-spec =
     (tie.spec
     returns
     enum-told
-    slice-aggregate-word
-    word-requires
+    slice-aggregate-put-bytes
+    put-bytes-requires
     enum-known-reply
     slice-aggregate-number-line
     cast-number-line
     number-line-requires
     enum-told-2
-    slice-aggregate-word-2
-    word-requires-2
+    slice-aggregate-put-bytes-2
+    put-bytes-requires-2
     enum-known-reply-2
     fall-line-requires
     enum-known-reply-3

@@ -2,14 +2,17 @@
 //! agree on the taps, the length and the number of rounds: 1, the published
 //! method with each tree afresh from all pairs sorted; 2, with each tree afresh
 //! by Prim's method; 3, the planner's algorithm written by hand; 4, the proved
-//! planner.
+//! planner. Then what planner_plan takes for the plain files of the same decks,
+//! beside the run to the end alone.
 
 use compare::by_hand_run::run_to_end;
 use compare::cpu_time::timed;
 use compare::deck::Deck;
 use compare::points::on_grid;
+use compare::proved_planner::plan;
 use compare::runs::{ended, run_afresh, run_proved, Ended};
 use compare::{prim, sorted_pairs};
+use reference::file::{read, write_plain, LONGEST};
 use reference::generate::Random;
 use reference::plane::Point;
 use reference::session::State;
@@ -69,29 +72,39 @@ struct Run {
     prim: f64,
     by_hand: f64,
     proved: f64,
+    file: Vec<u8>,
+    planned: f64,
 }
 
 impl Run {
     fn new(pins: Vec<Point>) -> Run {
         Run {
             deck: Deck::of(&State::new(pins.clone(), Vec::new())),
+            file: write_plain(&pins),
             pins,
             rounds: 0,
             sorted: None,
             prim: 0.0,
             by_hand: f64::INFINITY,
             proved: f64::INFINITY,
+            planned: f64::INFINITY,
         }
     }
 
-    /// One turn of the last two ways; their least times are kept.
+    /// One turn of the last two ways and of planner_plan; their least times are
+    /// kept.
     fn turn(&mut self) -> Ended {
+        let mut out = [0; LONGEST];
         let (run, proved) = timed(|| run_proved(black_box(&self.deck)));
         let (found, by_hand) = timed(|| run_to_end(black_box(&self.pins)));
+        let (length, planned) = timed(|| plan(black_box(&self.file), black_box(&mut out)));
         self.proved = self.proved.min(proved);
         self.by_hand = self.by_hand.min(by_hand);
+        self.planned = self.planned.min(planned);
         let ended = ended(&run);
         assert_eq!(found, ended, "by hand, and the planner");
+        let written = read(&out[..length]).expect("a deck file");
+        assert_eq!(written.steiner, ended.taps, "planner_plan, and the planner");
         ended
     }
 
@@ -123,9 +136,9 @@ fn milliseconds(runs: &[Run], of: impl Fn(&Run) -> f64) -> f64 {
     mean(runs, of) / 1e6
 }
 
-/// Measures a case and prints its line. The first way's ratio is over the decks
-/// that it runs on.
-fn measure(case: &Case, random: &mut Random) {
+/// Measures a case and prints its line; the line of planner_plan is for later.
+/// The first way's ratio is over the decks that it runs on.
+fn measure(case: &Case, random: &mut Random) -> String {
     let mut next = || on_grid(random, case.pins, case.columns, case.columns, case.pitch);
     let mut runs: Vec<Run> = (0..case.decks).map(|_| Run::new(next())).collect();
     for (place, run) in runs.iter_mut().enumerate() {
@@ -146,6 +159,12 @@ fn measure(case: &Case, random: &mut Random) {
         prim / proved,
         proved / by_hand
     );
+    let planned = milliseconds(&runs, |run| run.planned);
+    format!(
+        "| {} | {proved:.3} | {planned:.3} | {:.2} |",
+        case.name,
+        planned / proved
+    )
 }
 
 fn main() {
@@ -153,7 +172,11 @@ fn main() {
     println!("Milliseconds per deck. In brackets, the decks that 1 runs on.\n");
     println!("| pins | decks | rounds | 1: sorted pairs | 2: Prim | 3: by hand | 4: proved | 1 / 4 | 2 / 4 | 4 / 3 |");
     println!("|---|---:|---:|---:|---:|---:|---:|---:|---:|---:|");
-    for case in &CASES {
-        measure(case, &mut random);
+    let lines: Vec<String> = CASES.iter().map(|case| measure(case, &mut random)).collect();
+    println!("\nMilliseconds per deck: the run to the end alone, and planner_plan on the plain file.\n");
+    println!("| pins | 4: proved | planner_plan | planner_plan / 4 |");
+    println!("|---|---:|---:|---:|");
+    for line in &lines {
+        println!("{line}");
     }
 }

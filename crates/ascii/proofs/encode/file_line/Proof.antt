@@ -1,16 +1,16 @@
 -- `ascii::encode::file_line` meets its contract: the word, the length and the digits, one behind the other.
 use native.Mathlib.Omega.{arith}
 use Rattle.ascii.proofs.Spelling.{file-small, file-short, file-long}
-use Rattle.ascii.proofs.Puts.{put-then}
+use Rattle.arrays.proofs.paste.Parts.{pasted-then}
 use borrow.Author.Needs.{needs}
 use Rattle.ascii.proofs.encode.file_line.Statement.{statement}
 use Rattle.ascii.proofs.encode.file_line.Tie as tie
 use Rattle.ascii.proofs.encode.file_line.Reads as reads
 use Rattle.ascii.proofs.encode.file_line.Lts as lts
 use Rattle.ascii.proofs.encode.pairs.Reads as pairs-reads
-use Rattle.ascii.proofs.byte.Reads as byte-reads
+use Rattle.arrays.proofs.paste.put_byte.Reads as byte-reads
 use Rattle.ascii.proofs.decimal_field.Reads as decimal-field-reads
-use Rattle.ascii.proofs.word.Reads as word-reads
+use Rattle.arrays.proofs.paste.put_bytes.Reads as word-reads
 
 returns : tie.Need-returns
 returns c = file-small (c .before .before .before .args .file .now) _ (c .if1 .taken)
@@ -21,17 +21,17 @@ sub-if2 c = search needs
 returns-2 : tie.Need-returns-2
 returns-2 c = file-short (c .before .before .before .before .args .file .now) _ (c .before .if1 .left) (c .if2 .taken)
 
-slice-aggregate-word : tie.Need-slice-aggregate-word
-slice-aggregate-word c = search needs
+slice-aggregate-put-bytes : tie.Need-slice-aggregate-put-bytes
+slice-aggregate-put-bytes c = search needs
 
-word-requires : tie.Need-word-requires
-word-requires c κs = search needs
+put-bytes-requires : tie.Need-put-bytes-requires
+put-bytes-requires c κs = search needs
 
 decimal-field-requires : tie.Need-decimal-field-requires
 decimal-field-requires c κs = search needs
 
-byte-requires : tie.Need-byte-requires
-byte-requires c κs = search needs
+put-byte-requires : tie.Need-put-byte-requires
+put-byte-requires c κs = search needs
 
 pairs-requires : tie.Need-pairs-requires
 pairs-requires c κs = search needs
@@ -42,7 +42,7 @@ same-length c = search needs
 returns-3 : tie.Need-returns-3
 returns-3 c =
     file-long (c .before .before .before .before .before .before .before .before .before .before .before .before .before .before .before .before .before .before .before .before .before .args .file .now) _ (c .before .before .before .before .before .before .before .before .before .before .before .before .before .before .before .before .before .before .if1 .left) (c .before .before .before .before .before .before .before .before .before .before .before .before .before .before .before .before .before .if2 .left)
-    (put-then (c .before .before .before .before .before .before .before .before .before .before .before .before .before .before .word .ensures) (omega arith) (put-then (c .before .before .before .before .before .before .before .before .before .before .decimal-field .ensures .0) (omega arith) (put-then (c .before .before .before .before .before .before .byte .ensures) (omega arith) (c .before .before .pairs .ensures))))
+    (pasted-then (c .before .before .before .before .before .before .before .before .before .before .before .before .before .before .put-bytes .ensures) (omega arith) (pasted-then (c .before .before .before .before .before .before .before .before .before .before .decimal-field .ensures .0) (omega arith) (pasted-then (c .before .before .before .before .before .before .put-byte .ensures) (omega arith) (c .before .before .pairs .ensures))))
 
 pub file-line-spec : {M : Type 1} → statement M
 file-line-spec =
@@ -51,10 +51,10 @@ file-line-spec =
     returns
     sub-if2
     returns-2
-    slice-aggregate-word
-    word-requires
+    slice-aggregate-put-bytes
+    put-bytes-requires
     decimal-field-requires
-    byte-requires
+    put-byte-requires
     pairs-requires
     same-length
     returns-3)

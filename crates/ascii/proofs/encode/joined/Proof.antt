@@ -6,8 +6,8 @@ use lib.ListN.{length}
 use borrow.Author.Needs.{needs}
 use Rattle.ascii.specs.Encoding.{spread, joinedLines}
 use Rattle.ascii.proofs.Fitting.{front-none, front-put}
-use Rattle.ascii.proofs.Puts.{put-same}
-use Rattle.ascii.proofs.Spelling.{spelledTo}
+use Rattle.arrays.proofs.paste.Parts.{pasted-same}
+use Rattle.arrays.proofs.paste.Lines.{eachTo}
 use Rattle.ascii.proofs.encode.joined.Statement.{statement}
 use Rattle.ascii.proofs.encode.joined.Tie as tie
 
@@ -31,7 +31,7 @@ returns-2 c =
     let at-body-length = at-spread-all .before .before in
     let at-start = at-body-length .before .before .before .before in
     front-put (3 * length (at-start .args .lines .now)) (at-start .args .out .now) _ (joinedLines (at-start .args .lines .now)) _ (omega arith)
-    (put-same (ap (spelledTo spread (at-start .args .lines .now)) (at-body-length .body-length .ensures .0)) (at-spread-all .spread-all .ensures))
+    (pasted-same (ap (eachTo spread (at-start .args .lines .now)) (at-body-length .body-length .ensures .0)) (at-spread-all .spread-all .ensures))
 
 pub joined-spec : {M : Type 1} → statement M
 joined-spec =

@@ -4,14 +4,13 @@ use native.Mathlib.Omega.{arith}
 use lib.ListN.{length}
 use borrow.Author.Needs.{needs}
 use Rattle.ascii.specs.Encoding.{hexPair}
-use Rattle.ascii.proofs.Lines.{Lined, lined-none, lined-more, lined-end}
-use Rattle.ascii.proofs.Puts.{put-same}
-use Rattle.ascii.proofs.Spelling.{spelledTo, spelled-none, spelled-more, spelled-all}
+use Rattle.arrays.proofs.paste.Lines.{PutFirst, first-none, first-more, first-end, eachTo, each-none, each-more, each-all}
+use Rattle.arrays.proofs.paste.Parts.{pasted-same}
 use Rattle.ascii.proofs.encode.pairs.Statement.{statement}
 use Rattle.ascii.proofs.encode.pairs.Tie as tie
 
 abbrev Inv-loop : tie.InvT-loop
-Inv-loop bytes out₀ at next₀ i₀ out next i = Lined (spelledTo hexPair bytes) 2 (length bytes) out₀ out next₀ next i
+Inv-loop bytes out₀ at next₀ i₀ out next i = PutFirst (eachTo hexPair bytes) 2 (length bytes) out₀ out next₀ next i
 
 abbrev μ-loop : tie.MeasureT-loop
 μ-loop bytes out₀ at next₀ i₀ out next i = length bytes - i
@@ -19,7 +18,7 @@ abbrev μ-loop : tie.MeasureT-loop
 loop-holds : tie.Need-loop-holds Inv-loop μ-loop
 loop-holds c =
     let at-start = c .before .before in
-    lined-none (spelledTo hexPair (at-start .args .bytes .now)) 2 _ _ _ (spelled-none hexPair (at-start .args .bytes .now))
+    first-none (eachTo hexPair (at-start .args .bytes .now)) 2 _ _ _ (each-none hexPair (at-start .args .bytes .now))
 
 shared-slice-read-pair : tie.Need-shared-slice-read-pair Inv-loop μ-loop
 shared-slice-read-pair c = search needs
@@ -39,8 +38,8 @@ loop-again c =
     let at-loop-test = at-pair .before .before .before in
     let at-loop = at-loop-test .before in
     let at-start = at-loop .before .before .before in
-    lined-more (spelledTo hexPair (at-start .args .bytes .now)) 2 _ _ _ _ _ _ _ _ _ (at-loop .loop .inv) (at-loop-test .loop-test .taken)
-    (spelled-more hexPair (at-start .args .bytes .now) (at-loop .loop .i) (at-loop-test .loop-test .taken)) (omega arith)
+    first-more (eachTo hexPair (at-start .args .bytes .now)) 2 _ _ _ _ _ _ _ _ _ (at-loop .loop .inv) (at-loop-test .loop-test .taken)
+    (each-more hexPair (at-start .args .bytes .now) (at-loop .loop .i) (at-loop-test .loop-test .taken)) (omega arith)
     (at-pair .pair .ensures .0) (at-pair .pair .ensures .1) (at-pair .pair .kept .0)
 
 same-length : tie.Need-same-length Inv-loop μ-loop
@@ -50,7 +49,7 @@ returns : tie.Need-returns Inv-loop μ-loop
 returns c =
     let at-loop = c .before in
     let at-start = at-loop .before .before .before in
-    put-same (spelled-all hexPair (at-start .args .bytes .now)) (lined-end (spelledTo hexPair (at-start .args .bytes .now)) 2 _ _ _ _ _ _ (at-loop .loop .inv) (c .loop-test .left) .0)
+    pasted-same (each-all hexPair (at-start .args .bytes .now)) (first-end (eachTo hexPair (at-start .args .bytes .now)) 2 _ _ _ _ _ _ (at-loop .loop .inv) (c .loop-test .left) .0)
 
 pub pairs-spec : {M : Type 1} → statement M
 pairs-spec =

@@ -3,19 +3,18 @@ use Prim.Native.Nat.{_-_}
 use native.Mathlib.Omega.{arith}
 use borrow.Author.Needs.{needs}
 use Rattle.ascii.specs.Encoding.{spread}
-use Rattle.ascii.proofs.Lines.{Lined, lined-none, lined-more, lined-end}
-use Rattle.ascii.proofs.Spelling.{spelledTo, spelled-none, spelled-more}
+use Rattle.arrays.proofs.paste.Lines.{PutFirst, first-none, first-more, first-end, eachTo, each-none, each-more}
 use Rattle.ascii.proofs.encode.spread_all.Statement.{statement}
 use Rattle.ascii.proofs.encode.spread_all.Tie as tie
 
 abbrev Inv-loop : tie.InvT-loop
-Inv-loop lines n out₀ next₀ i₀ out next i = Lined (spelledTo spread lines) 3 n out₀ out 0 next i
+Inv-loop lines n out₀ next₀ i₀ out next i = PutFirst (eachTo spread lines) 3 n out₀ out 0 next i
 
 abbrev μ-loop : tie.MeasureT-loop
 μ-loop lines n out₀ next₀ i₀ out next i = n - i
 
 loop-holds : tie.Need-loop-holds Inv-loop μ-loop
-loop-holds c = lined-none (spelledTo spread (c .before .before .args .lines .now)) 3 _ _ _ (spelled-none spread (c .before .before .args .lines .now))
+loop-holds c = first-none (eachTo spread (c .before .before .args .lines .now)) 3 _ _ _ (each-none spread (c .before .before .args .lines .now))
 
 shared-slice-read-spread : tie.Need-shared-slice-read-spread Inv-loop μ-loop
 shared-slice-read-spread c = search needs
@@ -35,8 +34,8 @@ loop-again c =
     let at-loop-test = at-spread .before .before .before in
     let at-loop = at-loop-test .before in
     let at-start = at-loop .before .before .before in
-    lined-more (spelledTo spread (at-start .args .lines .now)) 3 _ _ _ _ _ _ _ _ _ (at-loop .loop .inv) (at-loop-test .loop-test .taken)
-    (spelled-more spread (at-start .args .lines .now) (at-loop .loop .i) (omega (arith, at-start .pre .0, at-loop-test .loop-test .taken))) (omega arith)
+    first-more (eachTo spread (at-start .args .lines .now)) 3 _ _ _ _ _ _ _ _ _ (at-loop .loop .inv) (at-loop-test .loop-test .taken)
+    (each-more spread (at-start .args .lines .now) (at-loop .loop .i) (omega (arith, at-start .pre .0, at-loop-test .loop-test .taken))) (omega arith)
     (at-spread .spread .ensures .0) (at-spread .spread .ensures .1) (at-spread .spread .kept .0)
 
 same-length : tie.Need-same-length Inv-loop μ-loop
@@ -46,7 +45,7 @@ returns : tie.Need-returns Inv-loop μ-loop
 returns c =
     let at-loop = c .before in
     let at-start = at-loop .before .before .before in
-    lined-end (spelledTo spread (at-start .args .lines .now)) 3 _ _ _ _ _ _ (at-loop .loop .inv) (c .loop-test .left) .0
+    first-end (eachTo spread (at-start .args .lines .now)) 3 _ _ _ _ _ _ (at-loop .loop .inv) (c .loop-test .left) .0
 
 pub spread-all-spec : {M : Type 1} → statement M
 spread-all-spec =

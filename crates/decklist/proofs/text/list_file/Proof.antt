@@ -4,7 +4,8 @@ use native.Mathlib.Omega.{arith}
 use borrow.Author.Needs.{needs}
 use Rattle.deck.specs.declared.Outcome.{Outcome}
 use Rattle.calls.specs.Changes.{refusalNumber}
-use Rattle.ascii.proofs.Fitting.{front-none, front-counted}
+use Rattle.ascii.proofs.Fitting.{front-none}
+use Rattle.arrays.proofs.paste.Parts.{front-within}
 use Rattle.decklist.proofs.Printing.{none-counted, roomy, printed-refusal, printed-deck}
 use Rattle.decklist.proofs.text.list_file.Statement.{statement}
 use Rattle.decklist.proofs.text.list_file.Tie as tie
@@ -28,7 +29,7 @@ returns-2 : tie.Need-returns-2
 returns-2 c =
     let e = printed-refusal (c .before .before .before .before .before .before .before .before .before .before .args .file .now) _ (c .before .before .before .before .before .refusal-number .ensures ∙ ap (λ (o : Outcome). refusalNumber (o .reply)) (c .before .before .before .before .before .before .read .ensures)) (c .before .before .before .before .if2 .taken) in
     let f = roomy 128 _ _ _ _ _ (omega arith) (c .before .before .before .before .before .before .before .if1 .left) e (c .before .before .list-refusal .ensures) in
-    (f, front-counted _ _ _ _ f)
+    (f, front-within f)
 
 run-to-end-requires : tie.Need-run-to-end-requires
 run-to-end-requires c κs = tt
@@ -43,7 +44,7 @@ returns-3 : tie.Need-returns-3
 returns-3 c =
     let e = printed-deck (c .before .before .before .before .before .before .before .before .before .before .before .before .before .args .file .now) _ (c .before .before .before .before .before .before .before .before .refusal-number .ensures ∙ ap (λ (o : Outcome). refusalNumber (o .reply)) (c .before .before .before .before .before .before .before .before .before .read .ensures)) (c .before .before .before .before .before .before .before .if2 .left) _ _ (ap (λ (o : Outcome). o .next) (c .before .before .before .before .before .before .before .before .before .read .ensures)) (ap (λ (o : Outcome). o .next) (c .before .before .before .before .before .run-to-end .ensures)) in
     let f = roomy 8192 _ _ _ _ _ (omega arith) (c .before .before .before .before .before .before .before .before .before .before .if1 .left) e (c .before .before .list .ensures) in
-    (f, front-counted _ _ _ _ f)
+    (f, front-within f)
 
 pub list-file-spec : {M : Type 1} → statement M
 list-file-spec =

@@ -5,7 +5,8 @@ use lib.ListN.{length}
 use Rattle.script.proofs.Fitting.{read-fits}
 use Rattle.deckfile.specs.Reading.{reading}
 use Rattle.deckplay.specs.Play.{changes}
-use Rattle.deckplay.proofs.Playing.{plays-same, filled-within, filled-file}
+use Rattle.arrays.proofs.paste.Parts.{front-within}
+use Rattle.deckplay.proofs.Playing.{plays-same, filled-file}
 use borrow.Author.Needs.{needs}
 use Rattle.deckplay.proofs.answer.read.Statement.{statement}
 use Rattle.deckplay.proofs.answer.read.Tie as tie
@@ -18,13 +19,11 @@ bytes-of-requires c κs = tt
 
 array-share-prefix-file : tie.Need-array-share-prefix-file
 array-share-prefix-file c =
-    let h : length (c .before .bytes-of .last .1 .0) ≡ 1000 = search needs in
-    filled-within _ _ _ _ (c .before .bytes-of .ensures) h .0
+    front-within (c .before .bytes-of .ensures) .0
 
 slice-aggregate-read : tie.Need-slice-aggregate-read
 slice-aggregate-read c =
-    let h : length (c .before .before .bytes-of .last .1 .0) ≡ 1000 = search needs in
-    filled-within _ _ _ _ (c .before .before .bytes-of .ensures) h .1
+    front-within (c .before .before .bytes-of .ensures) .1
 
 read-requires : tie.Need-read-requires
 read-requires c κs = tt

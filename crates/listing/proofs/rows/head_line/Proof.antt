@@ -1,15 +1,15 @@
 -- `listing::rows::head_line` meets its contract.
 use native.Mathlib.Omega.{arith}
 use borrow.Author.Needs.{needs}
-use Rattle.ascii.proofs.Puts.{put-then}
+use Rattle.arrays.proofs.paste.Parts.{pasted-then}
 use Rattle.listing.proofs.rows.head_line.Statement.{statement}
 use Rattle.listing.proofs.rows.head_line.Tie as tie
 
-slice-aggregate-word : tie.Need-slice-aggregate-word
-slice-aggregate-word c = search needs
+slice-aggregate-put-bytes : tie.Need-slice-aggregate-put-bytes
+slice-aggregate-put-bytes c = search needs
 
-word-requires : tie.Need-word-requires
-word-requires c κs = search needs
+put-bytes-requires : tie.Need-put-bytes-requires
+put-bytes-requires c κs = search needs
 
 decimal-field-requires : tie.Need-decimal-field-requires
 decimal-field-requires c κs = search needs
@@ -20,8 +20,8 @@ decimal-field-requires-2 c κs = search needs
 decimal-field-requires-3 : tie.Need-decimal-field-requires-3
 decimal-field-requires-3 c κs = search needs
 
-byte-requires : tie.Need-byte-requires
-byte-requires c κs = search needs
+put-byte-requires : tie.Need-put-byte-requires
+put-byte-requires c κs = search needs
 
 same-length : tie.Need-same-length
 same-length c = search needs
@@ -33,10 +33,10 @@ returns c =
     let at-decimal-field2 = at-decimal-field3 .before .before .before .before in
     let at-decimal-field = at-decimal-field2 .before .before .before .before in
     let at-word = at-decimal-field .before .before .before .before in (
-      put-then (at-word .word .ensures) (omega arith)
-          (put-then (at-decimal-field .decimal-field .ensures .0) (omega arith)
-          (put-then (at-decimal-field2 .decimal-field2 .ensures .0) (omega arith)
-          (put-then (at-decimal-field3 .decimal-field3 .ensures .0) (omega arith) (at-byte .byte .ensures)))),
+      pasted-then (at-word .put-bytes .ensures) (omega arith)
+          (pasted-then (at-decimal-field .decimal-field .ensures .0) (omega arith)
+          (pasted-then (at-decimal-field2 .decimal-field2 .ensures .0) (omega arith)
+          (pasted-then (at-decimal-field3 .decimal-field3 .ensures .0) (omega arith) (at-byte .put-byte .ensures)))),
       omega arith,
     )
 
@@ -44,11 +44,11 @@ pub head-line-spec : {M : Type 1} → statement M
 head-line-spec =
     tie.close
     (tie.spec
-    slice-aggregate-word
-    word-requires
+    slice-aggregate-put-bytes
+    put-bytes-requires
     decimal-field-requires
     decimal-field-requires-2
     decimal-field-requires-3
-    byte-requires
+    put-byte-requires
     same-length
     returns)

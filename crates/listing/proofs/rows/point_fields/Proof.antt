@@ -1,7 +1,7 @@
 -- `listing::rows::point_fields` meets its contract.
 use native.Mathlib.Omega.{arith}
 use borrow.Author.Needs.{needs}
-use Rattle.ascii.proofs.Puts.{put-then}
+use Rattle.arrays.proofs.paste.Parts.{pasted-then}
 use Rattle.listing.proofs.rows.point_fields.Statement.{statement}
 use Rattle.listing.proofs.rows.point_fields.Tie as tie
 
@@ -24,7 +24,7 @@ returns : tie.Need-returns
 returns c =
     let at-coordinate-field2 = c .before .before in
     let at-coordinate-field = at-coordinate-field2 .before .before .before .before in
-    (put-then (at-coordinate-field .coordinate-field .ensures .0) (omega arith) (at-coordinate-field2 .coordinate-field2 .ensures .0), omega arith)
+    (pasted-then (at-coordinate-field .coordinate-field .ensures .0) (omega arith) (at-coordinate-field2 .coordinate-field2 .ensures .0), omega arith)
 
 pub point-fields-spec : {M : Type 1} → statement M
 point-fields-spec =

@@ -4,15 +4,15 @@ use Prim.Native.Nat.{ℕ}
 use native.Mathlib.Omega.{arith}
 use borrow.Author.Needs.{needs}
 use Rattle.model.specs.Listing.{field, decimal}
-use Rattle.ascii.proofs.Puts.{put-then, put-same}
+use Rattle.arrays.proofs.paste.Parts.{pasted-then, pasted-same}
 use Rattle.listing.proofs.rows.run_line.Statement.{statement}
 use Rattle.listing.proofs.rows.run_line.Tie as tie
 
-slice-aggregate-word : tie.Need-slice-aggregate-word
-slice-aggregate-word c = search needs
+slice-aggregate-put-bytes : tie.Need-slice-aggregate-put-bytes
+slice-aggregate-put-bytes c = search needs
 
-word-requires : tie.Need-word-requires
-word-requires c κs = search needs
+put-bytes-requires : tie.Need-put-bytes-requires
+put-bytes-requires c κs = search needs
 
 point-fields-requires : tie.Need-point-fields-requires
 point-fields-requires c κs = search needs
@@ -26,8 +26,8 @@ distance-of-requires c κs = search needs
 decimal-field-requires : tie.Need-decimal-field-requires
 decimal-field-requires c κs = search needs
 
-byte-requires : tie.Need-byte-requires
-byte-requires c κs = search needs
+put-byte-requires : tie.Need-put-byte-requires
+put-byte-requires c κs = search needs
 
 same-length : tie.Need-same-length
 same-length c = search needs
@@ -40,11 +40,11 @@ returns c =
     let at-point-fields2 = at-distance-of .before .before .before .before in
     let at-point-fields = at-point-fields2 .before .before .before .before in
     let at-word = at-point-fields .before .before .before .before in (
-      put-then (at-word .word .ensures) (omega arith)
-          (put-then (at-point-fields .point-fields .ensures .0) (omega arith)
-          (put-then (at-point-fields2 .point-fields2 .ensures .0) (omega arith)
-          (put-then (put-same (ap (λ (k : ℕ). field (decimal k)) (at-distance-of .distance-of .ensures)) (at-decimal-field .decimal-field .ensures .0)) (omega arith)
-          (at-byte .byte .ensures)))),
+      pasted-then (at-word .put-bytes .ensures) (omega arith)
+          (pasted-then (at-point-fields .point-fields .ensures .0) (omega arith)
+          (pasted-then (at-point-fields2 .point-fields2 .ensures .0) (omega arith)
+          (pasted-then (pasted-same (ap (λ (k : ℕ). field (decimal k)) (at-distance-of .distance-of .ensures)) (at-decimal-field .decimal-field .ensures .0)) (omega arith)
+          (at-byte .put-byte .ensures)))),
       omega arith,
     )
 
@@ -52,12 +52,12 @@ pub run-line-spec : {M : Type 1} → statement M
 run-line-spec =
     tie.close
     (tie.spec
-    slice-aggregate-word
-    word-requires
+    slice-aggregate-put-bytes
+    put-bytes-requires
     point-fields-requires
     point-fields-requires-2
     distance-of-requires
     decimal-field-requires
-    byte-requires
+    put-byte-requires
     same-length
     returns)

@@ -2,13 +2,13 @@
 use Prim.Native.Nat.{_-_}
 use native.Mathlib.Omega.{arith}
 use borrow.Author.Needs.{needs}
-use Rattle.ascii.proofs.Lines.{Lined, lined-none, lined-more, lined-end}
+use Rattle.arrays.proofs.paste.Lines.{PutFirst, first-none, first-more, first-end}
 use Rattle.listing.proofs.Lining.{runText, run-none, run-more}
 use Rattle.listing.proofs.rows.run_lines.Statement.{statement}
 use Rattle.listing.proofs.rows.run_lines.Tie as tie
 
 abbrev Inv-loop : tie.InvT-loop
-Inv-loop out₀ at codes n ends m next₀ i₀ out next i = Lined (runText codes ends) 53 m out₀ out at next i
+Inv-loop out₀ at codes n ends m next₀ i₀ out next i = PutFirst (runText codes ends) 53 m out₀ out at next i
 
 abbrev μ-loop : tie.MeasureT-loop
 μ-loop out₀ at codes n ends m next₀ i₀ out next i = m - i
@@ -16,7 +16,7 @@ abbrev μ-loop : tie.MeasureT-loop
 loop-holds : tie.Need-loop-holds Inv-loop μ-loop
 loop-holds c =
     let at-start = c .before .before .before in
-    lined-none (runText (at-start .args .codes .now) (at-start .args .ends .now)) 53 _ _ _ (run-none (at-start .args .codes .now) (at-start .args .ends .now))
+    first-none (runText (at-start .args .codes .now) (at-start .args .ends .now)) 53 _ _ _ (run-none (at-start .args .codes .now) (at-start .args .ends .now))
 
 mul-e : tie.Need-mul-e Inv-loop μ-loop
 mul-e c = search needs
@@ -72,7 +72,7 @@ loop-again c =
     let at-loop-test = at-run-line .before .before .before .before .before in
     let at-loop = at-loop-test .before in
     let at-start = at-loop .before .before .before .before in
-    lined-more (runText (at-start .args .codes .now) (at-start .args .ends .now)) 53 _ _ _ _ _ _ _ _ _ (at-loop .loop .inv) (at-loop-test .loop-test .taken)
+    first-more (runText (at-start .args .codes .now) (at-start .args .ends .now)) 53 _ _ _ _ _ _ _ _ _ (at-loop .loop .inv) (at-loop-test .loop-test .taken)
     (run-more (at-start .args .codes .now) (at-start .args .ends .now) (at-loop .loop .i) (omega (arith, at-start .pre .1 .1 .within, at-loop-test .loop-test .taken))) (omega arith)
     (at-run-line .run-line .ensures .0) (at-run-line .run-line .ensures .1) (at-run-line .run-line .kept .0)
 
@@ -83,7 +83,7 @@ returns : tie.Need-returns Inv-loop μ-loop
 returns c =
     let at-loop = c .before in
     let at-start = at-loop .before .before .before .before in
-    lined-end (runText (at-start .args .codes .now) (at-start .args .ends .now)) 53 _ _ _ _ _ _ (at-loop .loop .inv) (c .loop-test .left)
+    first-end (runText (at-start .args .codes .now) (at-start .args .ends .now)) 53 _ _ _ _ _ _ (at-loop .loop .inv) (c .loop-test .left)
 
 pub run-lines-spec : {M : Type 1} → statement M
 run-lines-spec =

@@ -1,21 +1,21 @@
 -- `listing::rows::tap_line` meets its contract.
 use native.Mathlib.Omega.{arith}
 use borrow.Author.Needs.{needs}
-use Rattle.ascii.proofs.Puts.{put-then}
+use Rattle.arrays.proofs.paste.Parts.{pasted-then}
 use Rattle.listing.proofs.rows.tap_line.Statement.{statement}
 use Rattle.listing.proofs.rows.tap_line.Tie as tie
 
-slice-aggregate-word : tie.Need-slice-aggregate-word
-slice-aggregate-word c = search needs
+slice-aggregate-put-bytes : tie.Need-slice-aggregate-put-bytes
+slice-aggregate-put-bytes c = search needs
 
-word-requires : tie.Need-word-requires
-word-requires c κs = search needs
+put-bytes-requires : tie.Need-put-bytes-requires
+put-bytes-requires c κs = search needs
 
 point-fields-requires : tie.Need-point-fields-requires
 point-fields-requires c κs = search needs
 
-byte-requires : tie.Need-byte-requires
-byte-requires c κs = search needs
+put-byte-requires : tie.Need-put-byte-requires
+put-byte-requires c κs = search needs
 
 same-length : tie.Need-same-length
 same-length c = search needs
@@ -25,8 +25,8 @@ returns c =
     let at-byte = c .before .before in
     let at-point-fields = at-byte .before .before .before .before in
     let at-word = at-point-fields .before .before .before .before in (
-      put-then (at-word .word .ensures) (omega arith)
-          (put-then (at-point-fields .point-fields .ensures .0) (omega arith) (at-byte .byte .ensures)),
+      pasted-then (at-word .put-bytes .ensures) (omega arith)
+          (pasted-then (at-point-fields .point-fields .ensures .0) (omega arith) (at-byte .put-byte .ensures)),
       omega arith,
     )
 
@@ -34,9 +34,9 @@ pub tap-line-spec : {M : Type 1} → statement M
 tap-line-spec =
     tie.close
     (tie.spec
-    slice-aggregate-word
-    word-requires
+    slice-aggregate-put-bytes
+    put-bytes-requires
     point-fields-requires
-    byte-requires
+    put-byte-requires
     same-length
     returns)

@@ -2,19 +2,19 @@
 use Prim.Native.Nat.{_-_}
 use native.Mathlib.Omega.{arith}
 use borrow.Author.Needs.{needs}
-use Rattle.ascii.proofs.Lines.{Lined, lined-none, lined-more, lined-end}
+use Rattle.arrays.proofs.paste.Lines.{PutFirst, first-none, first-more, first-end}
 use Rattle.listing.proofs.Lining.{tapText, tap-none, tap-more}
 use Rattle.listing.proofs.rows.tap_lines.Statement.{statement}
 use Rattle.listing.proofs.rows.tap_lines.Tie as tie
 
 abbrev Inv-loop : tie.InvT-loop
-Inv-loop out₀ at codes n next₀ i₀ out next i = Lined (tapText codes) 18 n out₀ out at next i
+Inv-loop out₀ at codes n next₀ i₀ out next i = PutFirst (tapText codes) 18 n out₀ out at next i
 
 abbrev μ-loop : tie.MeasureT-loop
 μ-loop out₀ at codes n next₀ i₀ out next i = n - i
 
 loop-holds : tie.Need-loop-holds Inv-loop μ-loop
-loop-holds c = lined-none (tapText (c .before .before .args .codes .now)) 18 _ _ _ (tap-none (c .before .before .args .codes .now))
+loop-holds c = first-none (tapText (c .before .before .args .codes .now)) 18 _ _ _ (tap-none (c .before .before .args .codes .now))
 
 mul-tap-line : tie.Need-mul-tap-line Inv-loop μ-loop
 mul-tap-line c = search needs
@@ -37,7 +37,7 @@ loop-again c =
     let at-loop-test = at-tap-line .before .before .before in
     let at-loop = at-loop-test .before in
     let at-start = at-loop .before .before .before in
-    lined-more (tapText (at-start .args .codes .now)) 18 _ _ _ _ _ _ _ _ _ (at-loop .loop .inv) (at-loop-test .loop-test .taken)
+    first-more (tapText (at-start .args .codes .now)) 18 _ _ _ _ _ _ _ _ _ (at-loop .loop .inv) (at-loop-test .loop-test .taken)
     (tap-more (at-start .args .codes .now) (at-loop .loop .i) (omega (arith, at-start .pre .1 .within, at-loop-test .loop-test .taken))) (omega arith)
     (at-tap-line .tap-line .ensures .0) (at-tap-line .tap-line .ensures .1) (at-tap-line .tap-line .kept .0)
 
@@ -45,7 +45,7 @@ same-length : tie.Need-same-length Inv-loop μ-loop
 same-length c = c .before .loop .inv .same
 
 returns : tie.Need-returns Inv-loop μ-loop
-returns c = lined-end (tapText (c .before .before .before .before .args .codes .now)) 18 _ _ _ _ _ _ (c .before .loop .inv) (c .loop-test .left)
+returns c = first-end (tapText (c .before .before .before .before .args .codes .now)) 18 _ _ _ _ _ _ (c .before .loop .inv) (c .loop-test .left)
 
 pub tap-lines-spec : {M : Type 1} → statement M
 tap-lines-spec =

@@ -8,7 +8,7 @@ use Rattle.plan.proofs.prune.first_weak.Statement.{statement}
 use Rattle.plan.proofs.prune.first_weak.Tie as tie
 use Rattle.plan.proofs.prune.first_weak.Reads as reads
 use Rattle.plan.proofs.prune.first_weak.Lts as lts
-use Rattle.arrays.proofs.sorted.place.Reads as place-reads
+use Rattle.arrays.proofs.sorted.index_of.Reads as index-of-reads
 use Rattle.tree.proofs.list.degree_of.Reads as degree-of-reads
 
 abbrev Inv-loop : tie.InvT-loop
@@ -20,14 +20,14 @@ abbrev μ-loop : tie.MeasureT-loop
 loop-holds : tie.Need-loop-holds Inv-loop μ-loop
 loop-holds c = strong-none _ _ _ _
 
-mul-place : tie.Need-mul-place Inv-loop μ-loop
-mul-place c = search needs
+mul-index-of : tie.Need-mul-index-of Inv-loop μ-loop
+mul-index-of c = search needs
 
-shared-slice-read-place : tie.Need-shared-slice-read-place Inv-loop μ-loop
-shared-slice-read-place c = search needs
+shared-slice-read-index-of : tie.Need-shared-slice-read-index-of Inv-loop μ-loop
+shared-slice-read-index-of c = search needs
 
-place-requires : tie.Need-place-requires Inv-loop μ-loop
-place-requires c κs = search needs
+index-of-requires : tie.Need-index-of-requires Inv-loop μ-loop
+index-of-requires c κs = search needs
 
 degree-of-requires : tie.Need-degree-of-requires Inv-loop μ-loop
 degree-of-requires c κs = search needs
@@ -35,7 +35,7 @@ degree-of-requires c κs = search needs
 returns : tie.Need-returns Inv-loop μ-loop
 returns c =
     let l = c .before .before .before .before .before in
-    strong-found _ _ _ _ _ _ _ (l .loop .inv) (omega arith) (l .before .before .before .before .pre .2) (c .before .before .place .ensures) (c .before .degree-of .ensures) (omega arith)
+    strong-found _ _ _ _ _ _ _ (l .loop .inv) (omega arith) (l .before .before .before .before .pre .2) (c .before .before .index-of .ensures) (c .before .degree-of .ensures) (omega arith)
 
 add-j : tie.Need-add-j Inv-loop μ-loop
 add-j c = search needs
@@ -46,7 +46,7 @@ loop-less c = search needs
 loop-again : tie.Need-loop-again Inv-loop μ-loop
 loop-again c =
     let l = c .before .before .before .before .before in
-    strong-more _ _ _ _ _ _ _ (l .loop .inv) (omega arith) (l .before .before .before .before .pre .2) (c .before .before .place .ensures) (c .before .degree-of .ensures) (omega arith)
+    strong-more _ _ _ _ _ _ _ (l .loop .inv) (omega arith) (l .before .before .before .before .pre .2) (c .before .before .index-of .ensures) (c .before .degree-of .ensures) (omega arith)
 
 returns-2 : tie.Need-returns-2 Inv-loop μ-loop
 returns-2 c = strong-end _ _ _ _ _ (c .before .loop .inv) (c .loop-test .left) (c .before .before .before .before .before .pre .2)
@@ -58,9 +58,9 @@ first-weak-spec =
     Inv-loop
     μ-loop
     loop-holds
-    mul-place
-    shared-slice-read-place
-    place-requires
+    mul-index-of
+    shared-slice-read-index-of
+    index-of-requires
     degree-of-requires
     returns
     add-j

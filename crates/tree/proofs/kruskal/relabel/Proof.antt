@@ -3,7 +3,7 @@ use mathlib.Core.Path.{sym, ap, _∙_}
 use Prim.Native.Nat.{_-_}
 use native.Mathlib.Omega.{arith}
 use lib.ListN.{getD}
-use Rattle.tree.specs.Front.{moved}
+use Rattle.tree.specs.Labels.{moved}
 use Rattle.tree.proofs.Labels.{Filled, fill-none, fill-more, fill-all}
 use Rattle.tree.proofs.kruskal.relabel.Statement.{statement}
 use Rattle.tree.proofs.kruskal.relabel.Tie as tie

@@ -1,7 +1,7 @@
 -- `tree_entries::lengths::lengths` meets its contract.
 use mathlib.Core.Path.{_∙_}
 use native.Mathlib.Omega.{arith}
-use Rattle.tree.proofs.Front.{front-take}
+use Rattle.arrays.proofs.paste.Parts.{front-take}
 use Rattle.score.proofs.TreeKeys.{tree-filling}
 use Rattle.tree_entries.proofs.Rows.{keys-few, tree-measured}
 use borrow.Author.Needs.{needs}

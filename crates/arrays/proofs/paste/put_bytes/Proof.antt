@@ -1,16 +1,16 @@
--- `ascii::word` meets its contract. The invariant: the bytes passed are written.
+-- `arrays::paste::put_bytes` meets its contract. The invariant: the bytes passed are written.
 use Prim.Native.Nat.{_-_}
 use lib.ListN.{length}
 use borrow.Author.Needs.{needs}
-use Rattle.ascii.proofs.Puts.{Copied, copied-none, copied-more, copied-end}
-use Rattle.ascii.proofs.word.Statement.{statement}
-use Rattle.ascii.proofs.word.Tie as tie
+use Rattle.arrays.proofs.paste.Copy.{Copied, copied-none, copied-more, copied-end}
+use Rattle.arrays.proofs.paste.put_bytes.Statement.{statement}
+use Rattle.arrays.proofs.paste.put_bytes.Tie as tie
 
 abbrev Inv-loop : tie.InvT-loop
-Inv-loop out₀ at w i₀ out i = Copied w out₀ out at i
+Inv-loop out₀ at items i₀ out i = Copied items out₀ out at i
 
 abbrev μ-loop : tie.MeasureT-loop
-μ-loop out₀ at w i₀ out i = length w - i
+μ-loop out₀ at items i₀ out i = length items - i
 
 loop-holds : tie.Need-loop-holds Inv-loop μ-loop
 loop-holds c = copied-none _ _ _
@@ -42,8 +42,8 @@ same-length c = c .before .loop .inv .same
 returns : tie.Need-returns Inv-loop μ-loop
 returns c = copied-end _ _ _ _ _ (c .before .loop .inv) (c .before .before .pre) (c .loop-test .left)
 
-pub word-spec : {M : Type 1} → statement M
-word-spec =
+pub put-bytes-spec : {M : Type 1} → statement M
+put-bytes-spec =
     tie.close
     (tie.spec
     Inv-loop

@@ -1,0 +1,69 @@
+-- Texts put one behind the other: those of the first items, then one more; and what stands for each number of a list.
+use mathlib.Core.Path.{_≡_, refl, sym, ap, _∙_, subst}
+use mathlib.Core.List.{List, [], _∷_, _++_, append-assoc, append-nil}
+use Prim.Native.Nat.{ℕ, _+_, _*_, _≤_, _<_}
+use native.Mathlib.Nat.{mul-suc}
+use native.Mathlib.Numerals.{add-one}
+use native.Mathlib.Omega.{arith}
+use lib.ListN.{length, take, getD, length-append}
+use lib.Seq.{take-suc, take-length}
+use Rattle.arrays.specs.Paste.{Pasted, each}
+use Rattle.arrays.proofs.paste.Parts.{pasted-none, pasted-then, pasted-same}
+
+-- The texts of the first i items stand from place `at` on, up to the place `next`, at most w bytes each.
+pub record PutFirst (text : ℕ → List ℕ) (w n : ℕ) (l m : List ℕ) (at next i : ℕ) : Type 0 where
+  pub within : i ≤ n
+  pub put : Pasted (text i) l m at next
+  pub same : length m ≡ length l
+  pub most : next ≤ at + w * i
+
+module _ (text : ℕ → List ℕ) (w n : ℕ) (l : List ℕ) (at : ℕ) where
+  pub first-none : text 0 ≡ [] → PutFirst text w n l l at at 0
+  first-none e = record { within = omega arith; put = first; same = refl; most = omega arith }
+    where
+      zero-more : at + 0 ≡ at
+      zero-more = omega arith
+
+      first : Pasted (text 0) l l at at
+      first = pasted-same (sym e) (subst (λ (k : ℕ). Pasted [] l l at k) zero-more (pasted-none l at))
+
+  pub first-more : (line m m′ : List ℕ) (next next′ i : ℕ) → PutFirst text w n l m at next i → i < n → text (i + 1) ≡ text i ++ line → next ≤ length m
+      → Pasted line m m′ next next′ → next′ ≤ next + w → length m′ ≡ length m → PutFirst text w n l m′ at next′ (i + 1)
+  first-more line m m′ next next′ i p h e fits q few size =
+      record {
+        within = omega arith;
+        put = pasted-same (sym e) (pasted-then (p .put) (omega (arith, p .same)) q);
+        same = size ∙ p .same;
+        most = omega (arith, p .most, mul-suc w i, ap (λ (k : ℕ). w * k) (add-one i));
+      }
+
+-- The loops' ends: every item is written.
+pub first-end : (text : ℕ → List ℕ) (w n : ℕ) (l m : List ℕ) (at next i : ℕ) → PutFirst text w n l m at next i → n ≤ i → Pasted (text n) l m at next × (next ≤ at + w * n)
+first-end text w n l m at next i p h =
+    let e : i ≡ n = omega (arith, p .within) in
+    (pasted-same (ap text e) (p .put), omega (arith, p .most, ap (λ (k : ℕ). w * k) e))
+
+-- What f makes of each of the first i numbers of a list.
+abbrev pub eachTo : (ℕ → List ℕ) → List ℕ → ℕ → List ℕ
+eachTo f l i = each f (take i l)
+
+each-snoc : (f : ℕ → List ℕ) (l : List ℕ) (k : ℕ) → each f (l ++ (k ∷ [])) ≡ each f l ++ f k
+unfolding each
+each-snoc f [] k = append-nil (f k)
+each-snoc f (a ∷ l) k = ap (λ (t : List ℕ). f a ++ t) (each-snoc f l k) ∙ sym (append-assoc (f a) (each f l) (f k))
+
+pub each-none : (f : ℕ → List ℕ) (l : List ℕ) → eachTo f l 0 ≡ []
+unfolding each
+each-none f l = refl
+
+pub each-more : (f : ℕ → List ℕ) (l : List ℕ) (i : ℕ) → i < length l → eachTo f l (i + 1) ≡ eachTo f l i ++ f (getD l i 0)
+each-more f l i h =
+    ap (λ (k : ℕ). eachTo f l k) (add-one i) ∙ ap (each f) (take-suc l i 0 h) ∙ each-snoc f (take i l) (getD l i 0)
+
+pub each-all : (f : ℕ → List ℕ) (l : List ℕ) → eachTo f l (length l) ≡ each f l
+each-all f l = ap (each f) (take-length l)
+
+pub each-length : (f : ℕ → List ℕ) (w : ℕ) → ((k : ℕ) → length (f k) ≡ w) → (l : List ℕ) → length (each f l) ≡ w * length l
+unfolding each
+each-length f w h [] = omega arith
+each-length f w h (k ∷ l) = omega (arith, length-append (f k) (each f l), h k, each-length f w h l)
