@@ -1,15 +1,13 @@
 -- Bytes put over a part of a buffer: stores one after the other, parts one after the other, and the bytes of each number of a list.
 use mathlib.Core.Path.{_≡_, refl, sym, ap, ap₂, _∙_}
 use mathlib.Core.List.{List, [], _∷_, _++_, append-assoc, append-nil}
-use Prim.Native.Nat.{ℕ, suc, _+_, _*_, _/_, _%_, _≤_, _<_}
+use Prim.Native.Nat.{ℕ, suc, _+_, _*_, _≤_, _<_}
 use native.Mathlib.Nat.{mul-add, mul-one, mul-le-mul-left}
 use native.Mathlib.Numerals.{add-one}
 use native.Mathlib.Omega.{arith}
 use lib.ListN.{length, take, drop, getD, set, length-append, length-drop, take-append-drop}
 use lib.Seq.{sets-eq, length-take-le, take-all, take-suc, take-at, drop-drop, drop-append-add}
-use Rattle.plane.specs.Coordinate.{coordinate, word16}
-use Rattle.plane.specs.Stored.{pointAt}
-use Rattle.model.specs.File.{magic, bytes2, bytes4, pointBytes, header}
+use Rattle.model.specs.File.{magic, bytes2, bytes4, header}
 use Rattle.sections.specs.Bytes.{each, over}
 
 module _ (at : ℕ) (l : List ℕ) where
@@ -124,22 +122,6 @@ unfolding over
 over-text text old new i h k e =
     let q : i ≡ 0 + length text = omega arith in
     e ∙ ap₂ _++_ (take-all i text k) (ap (λ (z : ℕ). drop z old) q)
-
-small : (x : ℕ) → word16 (coordinate x) < 65536
-unfolding word16
-small x = omega arith
-
--- The four bytes of a point, from those of its stored coordinates.
-pub point-bytes : (x y a b c d : ℕ) → a ≡ word16 (coordinate x) % 256 → b ≡ word16 (coordinate x) / 256 → c ≡ word16 (coordinate y) % 256 → d ≡ word16 (coordinate y) / 256
-    → a ∷ b ∷ c ∷ d ∷ [] ≡ pointBytes (pointAt x y)
-point-bytes x y a b c d e f g h = go (word16 (coordinate x)) (word16 (coordinate y)) (small x) (small y) e f g h
-  where
-    go : (m n : ℕ) → m < 65536 → n < 65536 → a ≡ m % 256 → b ≡ m / 256 → c ≡ n % 256 → d ≡ n / 256
-        → a ∷ b ∷ c ∷ d ∷ [] ≡ m % 256 ∷ m / 256 % 256 ∷ n % 256 ∷ n / 256 % 256 ∷ []
-    go m n p q r s t u =
-        let v : b ≡ m / 256 % 256 = omega arith in
-        let w : d ≡ n / 256 % 256 = omega arith in
-        cc
 
 -- The header, part after part.
 module _ (pins steiner edges : ℕ) (old : List ℕ) (h : 30 ≤ length old) where

@@ -1,6 +1,9 @@
 // The header and the sections of a deck file put into a buffer.
 pub mod file;
 
+use plane::codes::x_of;
+use plane::codes::y_of;
+use plane::word_of;
 ghost use mathlib.Core.Path.{_≡_};
 ghost use mathlib.Core.List.{_++_};
 ghost use Prim.Native.Nat.{_+_, _*_, _≤_};
@@ -66,12 +69,8 @@ fn put_point(k: u64, out: &mut [u8], at: usize)
     requires { ⌜ at + 4 ≤ length (now out) ⌝ }
     ensures { λ _. ⌜ now (out .exit) ≡ over at (pointFour k) (now (out .entry)) ⌝ }
 {
-    let x = (k / 65536 % 65536) as u16;
-    let y = (k % 65536) as u16;
-    out[at] = plane::low_byte(x);
-    out[at + 1] = plane::high_byte(x);
-    out[at + 2] = plane::low_byte(y);
-    out[at + 3] = plane::high_byte(y);
+    put2(word_of(x_of(k)), out, at);
+    put2(word_of(y_of(k)), out, at + 2);
 }
 
 // Puts an edge.

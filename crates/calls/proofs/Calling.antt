@@ -15,10 +15,11 @@ use Rattle.model.specs.State.{State, Valid, maxPins, insert, remove}
 use Rattle.model.specs.Call as call
 use Rattle.arrays.proofs.Set.{has-in}
 use Rattle.plan.specs.declared.Plan.{Plan}
-use Rattle.plan.specs.Code.{pointOf, isCode}
+use Rattle.plane.specs.Code.{pointOf, isCode}
 use Rattle.plan.specs.Work.{Planned, stateOf}
 use Rattle.plan.proofs.Arranging.{codes-count}
-use Rattle.plan.proofs.Codes.{points-has, range-code}
+use Rattle.plane.proofs.codes.Points.{code-in-range}
+use Rattle.plane.proofs.codes.Sets.{points-has}
 use Rattle.arrays.proofs.Test.{true-of, false-of}
 use Rattle.calls.specs.declared.Changed.{Changed}
 use Rattle.calls.specs.declared.Reply.the-variants.{Done}
@@ -43,7 +44,7 @@ pub by-point : (w : Plan) (f : Point → call.Call) (p q : Point) → p ≡ q �
 by-point w f p q e r c = subst (λ (z : Point). ChangedBy w (f z) r) e c
 
 pub in-range : (k : ℕ) → T (isCode k) → inRange (pointOf k) ≡ true
-in-range k t = range-code k ∙ true-of (isCode k) t
+in-range k t = true-of (inRange (pointOf k)) (code-in-range k t)
 
 -- Adding.
 module _ (p : Point) (s : State) where
@@ -91,8 +92,8 @@ module _ (p : Point) (s : State) where
 
 -- What a working form says of its pins.
 module _ (w : Plan) (p : Planned w) where
-  pub pin-there : (k : ℕ) → has ltb k (take (w .npins) (w .pins)) ≡ call.holdsPin (pointOf k) (stateOf w)
-  pin-there k = points-has k (take (w .npins) (w .pins))
+  pub pin-there : (k : ℕ) → T (isCode k) → has ltb k (take (w .npins) (w .pins)) ≡ call.holdsPin (pointOf k) (stateOf w)
+  pin-there k t = points-has k t (take (w .npins) (w .pins)) (p .arranged .pinCodes .codes)
 
   pub pin-count : w .npins ≡ length (stateOf w .pins)
   pin-count = codes-count (w .pins) (w .npins) (p .arranged .pinCodes)

@@ -8,7 +8,7 @@ ghost use mathlib.Core.Path.{_≡_};
 ghost use lib.Dec.{T};
 ghost use Rattle.model.specs.State.{Valid};
 ghost use Rattle.model.specs.Call as call;
-ghost use Rattle.plan.specs.Code.{pointOf, isCode};
+ghost use Rattle.plane.specs.Code.{pointOf, isCode};
 ghost use Rattle.plan.specs.Work.{Planned, stateOf};
 ghost use Rattle.calls.specs.Changes.{refusing, refusalNumber, stepReply, ChangedBy};
 
@@ -87,6 +87,7 @@ fn add_at(w: Plan, k: u64) -> Changed
 // Withdraws a pin at a place in range.
 fn withdraw_at(w: Plan, k: u64) -> Changed
     requires { ⌜ Planned w ⌝ }
+    requires { ⌜ T (isCode k) ⌝ }
     ensures { λ r. ⌜ ChangedBy w (call.withdraw (pointOf k)) r ⌝ }
 {
     let pins = w.pins;

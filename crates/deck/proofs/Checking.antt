@@ -8,7 +8,7 @@ use native.Mathlib.Omega.{arith}
 use lib.Dec.{T, ltb, leb}
 use borrow.Author.Tests.{leb-true, le-leb}
 use lib.ListN.{length, take, drop, replicate, length-map, length-drop}
-use Rattle.plane.specs.Point.{Point, inRange, lower}
+use Rattle.plane.specs.Point.{Point, lower}
 use Rattle.arrays.proofs.Test.{and-parts, and-both, true-of, of-true, false-of}
 use Rattle.arrays.proofs.Order.{nat-order}
 use Rattle.plane.proofs.Order.{lower-order}
@@ -20,9 +20,10 @@ use Rattle.model.proofs.Candidate.{map-in}
 use Rattle.arrays.proofs.same.Alike.{same-refl}
 use Rattle.arrays.specs.Array.{noneIn, allZero}
 use Rattle.arrays.proofs.sorted.Search.{all-zero}
-use Rattle.plan.specs.Code.{code, pointOf, isCode}
+use Rattle.plane.specs.Code.{code, pointOf, isCode}
 use Rattle.plan.specs.Work as work
-use Rattle.plan.proofs.Codes.{code-is, map-codes, points-rising}
+use Rattle.plane.proofs.codes.Points.{AllInRange, map-codes, codes-are}
+use Rattle.plane.proofs.codes.Sets.{points-rising}
 use Rattle.deck.specs.declared.Deck.{Deck}
 use Rattle.deck.specs.declared.check.Checked.{Checked}
 use Rattle.deck.specs.Form.{row, deckOf, stateOf, Sound}
@@ -66,14 +67,14 @@ none-apart a b = (
 )
 
 -- The row of a list of points in range is a set of codes.
-row-codes : (l : List Point) → ((p : Point) → List·Memᴰ p l → T (inRange p)) → length l ≤ 64 → T (rising lower l)
+row-codes : (l : List Point) → AllInRange l → length l ≤ 64 → T (rising lower l)
     → work.Codes (row 64 (map code l)) (length l) 64
 row-codes l range few rise =
     record {
       size = row-length 64 (map code l) (omega (arith, length-map l code));
       few = few;
-      codes = λ k i. let m = map-in code l k .0 (subst (λ (z : List ℕ). List·Memᴰ k z) part i) in subst⁻¹ (λ (z : ℕ). T (isCode z)) (m .2) (code-is (m .0) (range (m .0) (m .1)));
-      rise = ap (rising ltb) part ∙ points-rising (map code l) ∙ ap (rising lower) (map-codes l range) ∙ true-of (rising lower l) rise;
+      codes = λ k i. codes-are l range k (subst (λ (z : List ℕ). List·Memᴰ k z) part i);
+      rise = ap (rising ltb) part ∙ points-rising (map code l) (codes-are l range) ∙ ap (rising lower) (map-codes l range) ∙ true-of (rising lower l) rise;
       rest = row-drop 64 (map code l) (length l) (length-map l code);
     }
   where

@@ -15,8 +15,8 @@ use Rattle.arrays.specs.Same.{sameList}
 use Rattle.model.proofs.Validity.{valid-is}
 use Rattle.arrays.proofs.same.Alike.{same-refl, same-eq}
 use Rattle.tree.specs.Keys.{endsAt}
-use Rattle.plan.specs.Code.{code, pointOf}
-use Rattle.plan.proofs.Codes.{map-codes}
+use Rattle.plane.specs.Code.{code, pointOf}
+use Rattle.plane.proofs.codes.Points.{map-codes}
 use Rattle.deck.specs.declared.Deck.{Deck}
 use Rattle.deck.specs.Form.{row, deckOf, stateOf, Sound, sameDeck, sound}
 

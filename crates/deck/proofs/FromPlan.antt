@@ -16,19 +16,19 @@ use Rattle.arrays.proofs.paste.Parts.{front-is}
 use Rattle.tree.specs.Held.{held}
 use Rattle.tree.specs.Keys.{endsOf, endsAt}
 use Rattle.tree.proofs.Numbers.{ends-listed}
-use Rattle.plan.specs.Code.{code, pointOf}
+use Rattle.plane.specs.Code.{code, pointOf}
 use Rattle.plan.specs.declared.Plan.{Plan}
 use Rattle.plan.specs.Work as work
 use Rattle.plan.proofs.Arranging.{codes-count}
 use Rattle.plan.proofs.Changing.{drop-zeros}
-use Rattle.plan.proofs.Codes.{map-points}
+use Rattle.plane.proofs.codes.Points.{map-points}
 use Rattle.deck.specs.Form.{row, deckOf}
 
 -- A set of codes with zeros behind is the row of its points' codes.
 pub codes-row : (a : List ℕ) (n : ℕ) → work.Codes a n 64 → a ≡ row 64 (map code (map pointOf (take n a)))
 codes-row a n c =
     sym (take-append-drop n a) ∙ ap (λ (l : List ℕ). take n a ++ l) (c .rest) ∙ ap (λ (z : ℕ). take n a ++ replicate (64 - z) 0) (sym full)
-    ∙ ap (row 64) (sym (map-points (take n a)))
+    ∙ ap (row 64) (sym (map-points (take n a) (c .codes)))
   where
     full : length (take n a) ≡ n
     full = length-take-le n a (omega (arith, c .few, c .size))

@@ -9,7 +9,7 @@ use Rattle.arrays.specs.Test.{if}
 use Rattle.arrays.specs.Set.{rising, all}
 use Rattle.model.specs.State.{empty, valid}
 use Rattle.arrays.specs.Array.{noneIn, allZero}
-use Rattle.plan.specs.Code.{isCode}
+use Rattle.plane.specs.Code.{isCode}
 use Rattle.plan.specs.Work as work
 use Rattle.deck.specs.declared.Deck.{Deck}
 use Rattle.deck.specs.declared.build.Built.{Built}

@@ -1,15 +1,15 @@
 -- The struct of a deck and the state that it stands for.
 use mathlib.Core.Path.{_≡_}
 use mathlib.Core.Bool.{Bool, _&&_}
-use mathlib.Core.List.{List, [], _∷_, _++_, map}
+use mathlib.Core.List.{List, _++_, map}
 use Prim.Native.Nat.{ℕ, _-_}
-use lib.Dec.{T, eqb}
-use lib.ListN.{length, take, replicate}
+use lib.Dec.{eqb}
+use lib.ListN.{length, replicate}
 use Rattle.model.specs.State.{State, points, Valid, valid}
 use Rattle.model.specs.Question.{listed}
 use Rattle.arrays.specs.Same.{sameList}
 use Rattle.tree.specs.Keys.{endsAt}
-use Rattle.plan.specs.Code.{code}
+use Rattle.plane.specs.Code.{code}
 use Rattle.plan.specs.Work.{stateAt}
 use Rattle.deck.specs.declared.Deck.{Deck}
 

@@ -2,14 +2,12 @@
 use super::Deck;
 use plan::Plan;
 ghost use mathlib.Core.Path.{_≡_};
-ghost use mathlib.Core.Bool.{Bool, _&&_};
+ghost use mathlib.Core.Bool.{Bool};
 ghost use Prim.Native.Nat.{_≤_};
-ghost use lib.Dec.{ltb, leb, eqb};
-ghost use lib.ListN.{length, take, drop};
-ghost use Rattle.arrays.specs.Set.{rising, all, has};
+ghost use lib.ListN.{length, take};
+ghost use Rattle.arrays.specs.Set.{all};
 ghost use Rattle.arrays.specs.Same.{sameList};
-ghost use Rattle.arrays.specs.Array.{allZero};
-ghost use Rattle.plan.specs.Code.{isCode};
+ghost use Rattle.plane.specs.Code.{isCode};
 ghost use Rattle.plan.specs.Work as work;
 ghost use Rattle.deck.specs.Form.{deckOf, sound};
 ghost use Rattle.deck.specs.Check.{ordered, arranged, pointed, Checks};
@@ -19,17 +17,6 @@ pub struct Checked {
     pub plan: Plan,
 }
 
-// Whether a number is the code of a point in range.
-fn is_code(k: u64) -> bool
-    ensures { λ r. ⌜ r ≡ isCode k ⌝ }
-{
-    if k / 65536 <= 60000 {
-        k % 65536 <= 60000
-    } else {
-        false
-    }
-}
-
 // Whether the first n numbers are all codes of points in range.
 fn are_codes(a: &[u64], n: usize) -> bool
     requires { ⌜ n ≤ length (now a) ⌝ }
@@ -37,7 +24,7 @@ fn are_codes(a: &[u64], n: usize) -> bool
 {
     let mut i = 0;
     while i < n {
-        if !is_code(a[i]) {
+        if !plane::codes::is_code(a[i]) {
             return false;
         }
         i += 1;

@@ -14,7 +14,7 @@ use Rattle.model.specs.File.{offset, size, section, shown, plain, runSection}
 use Rattle.model.proofs.Validity.{placed-is, valid-is}
 use Rattle.model.proofs.FileSize.{steiner-few}
 use Rattle.arrays.proofs.same.Alike.{same-eq}
-use Rattle.plan.specs.Code.{code}
+use Rattle.plane.specs.Code.{code}
 use Rattle.plan.proofs.Changing.{drop-zeros}
 use Rattle.deck.specs.declared.Deck.{Deck}
 use Rattle.deck.specs.declared.build.Built.{Built}

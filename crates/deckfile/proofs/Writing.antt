@@ -1,23 +1,22 @@
 -- Writing a deck: its parts one behind the other are the file of its state, and the checks in turn say what is answered and left.
 use mathlib.Core.Path.{_≡_, refl, sym, ap, ap₂, _∙_}
 use mathlib.Core.Bool.{Bool, true, false}
-use mathlib.Core.List.{List, [], _∷_, _++_, map, List·Memᴰ, List·Memᴰ·head as head, List·Memᴰ·tail as tail}
-use Prim.Native.Nat.{ℕ, _+_, _-_, _*_, _/_, _%_, _≤_, _<_}
+use mathlib.Core.List.{List, [], _∷_, _++_, map}
+use Prim.Native.Nat.{ℕ, _+_, _-_, _*_, _≤_, _<_}
 use native.Mathlib.Omega.{arith}
-use lib.Dec.{T, leb, leb→le}
+use lib.Dec.{leb}
 use lib.ListN.{length, take, drop}
 use borrow.Author.Tests.{le-leb, lt-leb}
 use Rattle.arrays.specs.Test.{if}
-use Rattle.plane.specs.Stored.{pointAt}
-use Rattle.arrays.proofs.Test.{and-parts, true-of}
-use Rattle.model.specs.File.{pointBytes, sectionOf, header, fileOf}
+use Rattle.arrays.proofs.Test.{true-of}
+use Rattle.model.specs.File.{sectionOf, header, fileOf}
 use Rattle.model.proofs.Bytes.{section-length}
 use Rattle.model.proofs.FileSize.{file-length, listed-count}
-use Rattle.plan.specs.Code.{pointOf, isCode}
+use Rattle.plane.specs.Code.{pointOf}
 use Rattle.deck.specs.declared.Deck.{Deck}
 use Rattle.deck.specs.Form.{stateOf, Sound, sound}
 use Rattle.deck.proofs.Forms.{sound-is}
-use Rattle.deck.proofs.Checking.{sound-few, sound-left, sound-pins, sound-steiner}
+use Rattle.deck.proofs.Checking.{sound-few, sound-left}
 use Rattle.deckfile.specs.declared.Written.{Written}
 use Rattle.deckfile.specs.declared.Written.the-variants.{Refused, Length}
 use Rattle.sections.specs.Bytes.{each, pointFour, over}
@@ -26,16 +25,10 @@ use Rattle.deckfile.specs.Writing.{written, left}
 use Rattle.deckfile.proofs.Listing.{pins-are, steiner-are, count-is, edges-are, edges-long}
 
 -- The points of codes, in bytes.
-kept-point : (k : ℕ) → T (isCode k) → pointFour k ≡ pointBytes (pointOf k)
-kept-point k t =
-    let h : k / 65536 ≤ 60000 = leb→le (k / 65536) 60000 (and-parts (leb (k / 65536) 60000) (leb (k % 65536) 60000) t .0) in
-    let e : k / 65536 % 65536 ≡ k / 65536 = omega arith in
-    ap (λ (u : ℕ). pointBytes (pointAt u (k % 65536))) e
-
-section-is : (l : List ℕ) → ((k : ℕ) → List·Memᴰ k l → T (isCode k)) → each pointFour l ≡ sectionOf (map pointOf l)
+section-is : (l : List ℕ) → each pointFour l ≡ sectionOf (map pointOf l)
 unfolding each sectionOf
-section-is [] h = refl
-section-is (k ∷ l) h = ap₂ _++_ (kept-point k (h k (head refl))) (section-is l (λ j i. h j (tail i)))
+section-is [] = refl
+section-is (k ∷ l) = ap (λ (bs : List ℕ). pointFour k ++ bs) (section-is l)
 
 module _ (d : Deck) (s : Sound d) where
   pub file-parts : fileParts (d .pins) (d .npins) (d .steiner) (d .nsteiner) (d .ends) ≡ fileOf (stateOf d)
@@ -44,10 +37,10 @@ module _ (d : Deck) (s : Sound d) where
       (λ i. header (pins-long i) (steiner-long i) (sym (edges-long d s) i) ++ (pins i ++ (steiner i ++ edges-are d s i)))
     where
       pins : each pointFour (take (d .npins) (d .pins)) ≡ sectionOf (stateOf d .pins)
-      pins = section-is (take (d .npins) (d .pins)) (sound-pins d s .codes)
+      pins = section-is (take (d .npins) (d .pins))
 
       steiner : each pointFour (take (d .nsteiner) (d .steiner)) ≡ sectionOf (stateOf d .steiner)
-      steiner = section-is (take (d .nsteiner) (d .steiner)) (sound-steiner d s .codes)
+      steiner = section-is (take (d .nsteiner) (d .steiner))
 
       pins-long : 4 * d .npins ≡ length (sectionOf (stateOf d .pins))
       pins-long = ap (λ (z : ℕ). 4 * z) (pins-are d s) ∙ sym (section-length (stateOf d .pins))

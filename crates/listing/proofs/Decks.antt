@@ -1,17 +1,16 @@
 -- A sound deck as its listing reads it: the codes of all points give the points held, and the numbers of an edge's ends among them
 -- give the edges in the listing order.
-use mathlib.Core.Path.{_≡_, refl, sym, ap, ap₂, _∙_, subst, subst⁻¹}
+use mathlib.Core.Path.{_≡_, refl, sym, ap, ap₂, _∙_, subst⁻¹}
 use mathlib.Core.Logic.{⊎-elim}
 use mathlib.Core.List.{List, [], _∷_, _++_, map, List·Memᴰ, List·Memᴰ·head as head, List·Memᴰ·tail as tail, List·Memᴰ·cases-cons as cases, List·Memᴰ·not-nil as not-nil}
 use Prim.Native.Nat.{ℕ, zero, suc, _-_, _/_, _%_, _≤_, _<_}
 use native.Mathlib.Omega.{arith}
-use lib.Dec.{T, ltb, leb, leb→le}
+use lib.Dec.{ltb}
 use lib.ListN.{length, take, getD, replicate, length-map}
 use lib.Seq.{length-take-le, getD-take}
 use Rattle.plane.specs.Point.{Point, lower}
 use Rattle.plane.specs.Edge.{Edge, listedBefore, planar}
-use Rattle.arrays.proofs.Test.{and-parts, by-test}
-use Rattle.arrays.proofs.Order.{nat-order}
+use Rattle.arrays.proofs.Test.{by-test}
 use Rattle.plane.proofs.Order.{lower-order, listed-order}
 use Rattle.arrays.specs.Set.{tie, union}
 use Rattle.model.specs.Tree.{mst}
@@ -19,7 +18,7 @@ use Rattle.model.specs.State.{points}
 use Rattle.model.specs.Question as question
 use Rattle.model.specs.File.{numberOf}
 use Rattle.model.specs.Listing.{listing, tapLines, runLines}
-use Rattle.arrays.proofs.Set.{tie-eq, no-tie, union-in, set-of-in}
+use Rattle.arrays.proofs.Set.{tie-eq, no-tie, set-of-in}
 use Rattle.model.proofs.Tree.{mst-run-tree, tree-edges}
 use Rattle.model.proofs.Prune.{points-rise}
 use Rattle.model.proofs.Bounds.{points-few}
@@ -27,31 +26,15 @@ use Rattle.model.proofs.FileSize.{listed-count, number-below}
 use Rattle.arrays.specs.Paste.{Pasted}
 use Rattle.arrays.proofs.paste.Parts.{front-take, front-count}
 use Rattle.tree.specs.Keys.{endsAt}
-use Rattle.plan.specs.Code.{pointOf, isCode}
+use Rattle.plane.specs.Code.{pointOf}
 use Rattle.plan.proofs.Arranging.{codes-count}
-use Rattle.plan.proofs.Codes.{points-union}
+use Rattle.plane.proofs.codes.Sets.{points-union}
 use Rattle.deck.specs.declared.Deck.{Deck}
 use Rattle.deck.specs.Form.{row, stateOf, Sound}
 use Rattle.deck.proofs.Forms.{row-take, row-length, ends-are}
 use Rattle.deck.proofs.Checking.{sound-pins, sound-steiner}
-use Rattle.listing.specs.Line.{headText, edgeAt, Coded, Ended}
+use Rattle.listing.specs.Line.{headText, edgeAt, Ended}
 use Rattle.arrays.proofs.paste.Parts.{pasted-same}
-
--- An element of an array is a member of its first places.
-at-in : (a : List ℕ) (n i : ℕ) → n ≤ length a → i < n → List·Memᴰ (getD a i 0) (take n a)
-at-in [] n i h k = absurd (omega arith)
-at-in (b ∷ a) zero i h k = absurd (omega arith)
-at-in (b ∷ a) (suc n) zero h k = head refl
-at-in (b ∷ a) (suc n) (suc i) h k = tail (at-in a n i (omega arith) (omega arith))
-
-code-small : (k : ℕ) → T (isCode k) → k < 4294967296
-code-small k t =
-    let p = and-parts (leb (k / 65536) 60000) (leb (k % 65536) 60000) t in
-    omega (arith, leb→le (k / 65536) 60000 (p .0))
-
--- The first places hold codes.
-pub coded : (a : List ℕ) (n : ℕ) → n ≤ length a → ((k : ℕ) → List·Memᴰ k (take n a) → T (isCode k)) → Coded a n
-coded a n h c = record { within = h; small = λ i k. code-small (getD a i 0) (c (getD a i 0) (at-in a n i h k)) }
 
 -- A point among those of a list of codes, from its number.
 number-point : (l : List ℕ) (q : Point) → List·Memᴰ q (map pointOf l) → pointOf (getD l (numberOf (map pointOf l) q) 0) ≡ q
@@ -107,19 +90,13 @@ module _ (d : Deck) (s : Sound d) (from codes : List ℕ) (n : ℕ)
   merged = front-take w
 
   held : map pointOf (take n codes) ≡ points (stateOf d)
-  held = unfold points in ap (map pointOf) merged ∙ points-union (take (d .npins) (d .pins)) (take (d .nsteiner) (d .steiner))
+  held = unfold points in ap (map pointOf) merged ∙ points-union (take (d .npins) (d .pins)) (take (d .nsteiner) (d .steiner)) (sound-pins d s .codes) (sound-steiner d s .codes)
 
   held-count : n ≡ length (points (stateOf d))
   held-count = front-count w ∙ sym (length-map all pointOf) ∙ ap (λ (l : List ℕ). length (map pointOf l)) (sym merged) ∙ ap length held
 
   pub held-few : n ≤ 126
   held-few = omega (arith, held-count, points-few (stateOf d) (s .valid))
-
-  pub held-coded : n ≤ length codes → Coded codes n
-  held-coded h =
-      coded codes n h
-      (λ k i. ⊎-elim (sound-pins d s .codes k) (sound-steiner d s .codes k)
-      (union-in ltb nat-order (take (d .npins) (d .pins)) (take (d .nsteiner) (d .steiner)) k .0 (subst (λ (l : List ℕ). List·Memᴰ k l) merged i)))
 
   listed-length : length (question.listed (stateOf d)) ≡ n - 1
   listed-length =

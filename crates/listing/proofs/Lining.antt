@@ -8,7 +8,7 @@ use lib.Seq.{take-suc}
 use Rattle.plane.specs.Point.{Point}
 use Rattle.plane.specs.Edge.{Edge, edgeLength}
 use Rattle.model.specs.Listing.{tapLines, runLines, tapWord, runWord, pointFields, field, decimal, lineFeed}
-use Rattle.plan.specs.Code.{pointOf}
+use Rattle.plane.specs.Code.{pointOf}
 use Rattle.listing.specs.Line.{tapLine, runLine, edgeAt}
 
 -- The text of one item more.

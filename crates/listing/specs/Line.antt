@@ -5,7 +5,7 @@ use lib.ListN.{length, getD}
 use Rattle.plane.specs.Point.{Point}
 use Rattle.plane.specs.Edge.{Edge, edgeLength}
 use Rattle.model.specs.Listing.{deckWord, tapWord, runWord, lineFeed, field, decimal, pointFields}
-use Rattle.plan.specs.Code.{pointOf}
+use Rattle.plane.specs.Code.{pointOf}
 
 -- The head line by the counts of pins and Steiner points and the length.
 abbrev pub headText : ℕ → ℕ → ℕ → List ℕ
@@ -23,11 +23,6 @@ runLine e =
 -- The edge between two points, given by the numbers of its ends in one among the codes of all points.
 abbrev pub edgeAt : List ℕ → ℕ → Edge
 edgeAt codes ends = record { lo = pointOf (getD codes (ends / 128) 0); hi = pointOf (getD codes (ends % 128) 0) }
-
--- The first n numbers are codes of two stored coordinates each.
-pub record Coded (codes : List ℕ) (n : ℕ) : Type 0 where
-  pub within : n ≤ length codes
-  pub small : (i : ℕ) → i < n → getD codes i 0 < 4294967296
 
 -- The first m numbers are the ends of edges between the first n points.
 pub record Ended (ends : List ℕ) (m n : ℕ) : Type 0 where

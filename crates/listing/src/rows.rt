@@ -3,6 +3,8 @@ use arrays::paste::put_byte;
 use arrays::paste::put_bytes;
 use ascii::decimal_field;
 use ascii::signed_field;
+use plane::codes::x_of;
+use plane::codes::y_of;
 ghost use mathlib.Core.Path.{_≡_};
 ghost use mathlib.Core.List.{map};
 ghost use Prim.Native.Nat.{_+_, _*_, _≤_, _<_};
@@ -10,8 +12,8 @@ ghost use lib.ListN.{length, take};
 ghost use Rattle.plane.specs.Coordinate.{coordinate};
 ghost use Rattle.plane.specs.Point.{dist};
 ghost use Rattle.model.specs.Listing as model;
-ghost use Rattle.plan.specs.Code.{pointOf};
-ghost use Rattle.listing.specs.Line.{headText, tapLine, runLine, edgeAt, Coded, Ended};
+ghost use Rattle.plane.specs.Code.{pointOf};
+ghost use Rattle.listing.specs.Line.{headText, tapLine, runLine, edgeAt, Ended};
 ghost use Rattle.arrays.specs.Paste.{Pasted};
 
 // A space and a coordinate, given in its stored form.
@@ -26,22 +28,18 @@ fn coordinate_field(out: &mut [u8], at: usize, u: u16) -> usize
 // The coordinates of a point, given by its code.
 fn point_fields(out: &mut [u8], at: usize, k: u64) -> usize
     requires { ⌜ at + 29 ≤ length (now out) ⌝ }
-    requires { ⌜ k < 4294967296 ⌝ }
     ensures { λ r. ⌜ Pasted (model.pointFields (pointOf k)) (now (out .entry)) (now (out .exit)) at r ⌝ }
     ensures { λ r. ⌜ r ≤ at + 14 ⌝ }
 {
-    let next = coordinate_field(out, at, (k / 65536) as u16);
-    coordinate_field(out, next, (k % 65536) as u16)
+    let next = coordinate_field(out, at, x_of(k));
+    coordinate_field(out, next, y_of(k))
 }
 
 // The distance of two points, given by their codes.
 fn distance_of(a: u64, b: u64) -> u64
-    requires { ⌜ (a < 4294967296) × (b < 4294967296) ⌝ }
     ensures { λ r. ⌜ r ≡ dist (pointOf a) (pointOf b) ⌝ }
 {
-    let x = (a / 65536) as u16;
-    let y = (a % 65536) as u16;
-    plane::distance(x, y, (b / 65536) as u16, (b % 65536) as u16) as u64
+    plane::distance(x_of(a), y_of(a), x_of(b), y_of(b)) as u64
 }
 
 // The head line.
@@ -60,7 +58,6 @@ pub fn head_line(out: &mut [u8], pins: usize, taps: usize, n: u64) -> usize
 // The tap line of a Steiner point, given by its code.
 fn tap_line(out: &mut [u8], at: usize, k: u64) -> usize
     requires { ⌜ at + 32 ≤ length (now out) ⌝ }
-    requires { ⌜ k < 4294967296 ⌝ }
     ensures { λ r. ⌜ Pasted (tapLine (pointOf k)) (now (out .entry)) (now (out .exit)) at r ⌝ }
     ensures { λ r. ⌜ r ≤ at + 18 ⌝ }
 {
@@ -72,7 +69,7 @@ fn tap_line(out: &mut [u8], at: usize, k: u64) -> usize
 // The tap lines of the first n Steiner points.
 pub fn tap_lines(out: &mut [u8], at: usize, codes: &[u64], n: usize) -> usize
     requires { ⌜ at + 18 * n + 32 ≤ length (now out) ⌝ }
-    requires { ⌜ Coded (now codes) n ⌝ }
+    requires { ⌜ n ≤ length (now codes) ⌝ }
     ensures { λ r. ⌜ Pasted (model.tapLines (map pointOf (take n (now (codes .entry))))) (now (out .entry)) (now (out .exit)) at r ⌝ }
     ensures { λ r. ⌜ r ≤ at + 18 * n ⌝ }
 {
@@ -88,7 +85,6 @@ pub fn tap_lines(out: &mut [u8], at: usize, codes: &[u64], n: usize) -> usize
 // The run line of the edge between two points, given by their codes.
 fn run_line(out: &mut [u8], at: usize, a: u64, b: u64) -> usize
     requires { ⌜ at + 53 ≤ length (now out) ⌝ }
-    requires { ⌜ (a < 4294967296) × (b < 4294967296) ⌝ }
     ensures { λ r. ⌜ Pasted (runLine (record { lo = pointOf a; hi = pointOf b })) (now (out .entry)) (now (out .exit)) at r ⌝ }
     ensures { λ r. ⌜ r ≤ at + 53 ⌝ }
 {
@@ -109,7 +105,7 @@ pub fn run_lines(
     m: usize,
 ) -> usize
     requires { ⌜ at + 53 * m ≤ length (now out) ⌝ }
-    requires { ⌜ Coded (now codes) n ⌝ }
+    requires { ⌜ n ≤ length (now codes) ⌝ }
     requires { ⌜ Ended (now ends) m n ⌝ }
     ensures { λ r. ⌜ Pasted (model.runLines (map (edgeAt (now (codes .entry))) (take m (now (ends .entry))))) (now (out .entry)) (now (out .exit)) at r ⌝ }
     ensures { λ r. ⌜ r ≤ at + 53 * m ⌝ }

@@ -4,15 +4,13 @@ use mathlib.Core.Path.{_≡_, sym, ap, ap₂, _∙_, subst, subst⁻¹}
 use mathlib.Core.Logic.{_⊎_, ⊎-elim}
 use mathlib.Core.Bool.{true}
 use mathlib.Core.List.{List, map, List·Memᴰ}
-use Prim.Native.Nat.{ℕ, _+_, _/_, _%_, _≤_, _<_}
+use Prim.Native.Nat.{ℕ, _+_, _≤_, _<_}
 use native.Mathlib.Omega.{arith}
-use lib.Dec.{T, leb, leb→le, ltb, lt→ltb}
+use lib.Dec.{T, ltb, lt→ltb}
 use lib.ListN.{length, take, getD, length-map, List·getD-map}
 use lib.Seq.{ext-getD, getD-take, length-take-le}
 use Rattle.arrays.specs.Order.{Sorted}
-use Rattle.plane.specs.Stored.{pointAt}
 use Rattle.plane.specs.Point.{Point, inRange, lower, Lower}
-use Rattle.arrays.proofs.Test.{and-parts}
 use Rattle.arrays.proofs.Order.{nat-order}
 use Rattle.plane.proofs.Order.{lower-order}
 use Rattle.arrays.specs.Set.{union, rising}
@@ -28,9 +26,10 @@ use Rattle.tree.proofs.Numbers.{tab-length}
 use Rattle.tree.proofs.OctantKeys.{tab-get, tab-same}
 use Rattle.arrays.proofs.paste.Parts.{front-take, front-count}
 use Rattle.tree.proofs.Step.{keys-most}
-use Rattle.plan.specs.Code.{code, pointOf, isCode}
+use Rattle.plane.specs.Code.{code, pointOf, isCode}
 use Rattle.plan.specs.Work.{Codes, Arranged, Planned, stateAt}
-use Rattle.plan.proofs.Codes.{code-point, code-order, range-code, points-union, points-rising}
+use Rattle.plane.proofs.codes.Points.{AllCodes, code-point, code-order, code-in-range}
+use Rattle.plane.proofs.codes.Sets.{points-union, points-rising}
 
 abbrev Less : ℕ → ℕ → Type 0
 Less a b = T (ltb a b)
@@ -55,7 +54,7 @@ module _ (pins : List ℕ) (p : ℕ) (steiner : List ℕ) (t : ℕ) (a : Arrange
   all-sorted : Sorted Less all
   all-sorted = union-sorted ltb nat-order (take p pins) (take t steiner) (sorted-of (take t steiner) (a .steinerCodes .rise))
 
-  all-codes : (k : ℕ) → List·Memᴰ k all → T (isCode k)
+  pub all-codes : AllCodes (union ltb (take p pins) (take t steiner))
   all-codes k i = ⊎-elim (a .pinCodes .codes k) (a .steinerCodes .codes k) (union-in ltb nat-order (take p pins) (take t steiner) k .0 i)
 
   pub all-count : length (union ltb (take p pins) (take t steiner)) ≡ p + t
@@ -66,28 +65,34 @@ module _ (pins : List ℕ) (p : ℕ) (steiner : List ℕ) (t : ℕ) (a : Arrange
   pub all-few : p + t ≤ 127
   all-few = omega (arith, a .pinCodes .few, a .room)
 
+  pub all-points : map pointOf (union ltb (take p pins) (take t steiner)) ≡ points (stateAt pins p steiner t)
+  unfolding points
+  all-points = points-union (take p pins) (take t steiner) (a .pinCodes .codes) (a .steinerCodes .codes)
+
   -- The state is placed.
   pub arranged-placed : Placed (stateAt pins p steiner t)
   arranged-placed =
       record {
         pinsRange = range (take p pins) (a .pinCodes .codes);
         steinerRange = range (take t steiner) (a .steinerCodes .codes);
-        pinsRise = rise (take p pins) (a .pinCodes .rise);
-        steinerRise = rise (take t steiner) (a .steinerCodes .rise);
+        pinsRise = rise (take p pins) (a .pinCodes .codes) (a .pinCodes .rise);
+        steinerRise = rise (take t steiner) (a .steinerCodes .codes) (a .steinerCodes .rise);
         apart = λ q i j. let x = map-in pointOf (take p pins) q .0 i in
             let y = map-in pointOf (take t steiner) q .0 j in
-            a .apart (x .0) (x .1) (subst⁻¹ (λ (z : ℕ). List·Memᴰ z (take t steiner)) (sym (code-point (x .0)) ∙ ap code (sym (x .2) ∙ y .2) ∙ code-point (y .0)) (y .1));
+            let e = sym (code-point (x .0) (a .pinCodes .codes (x .0) (x .1))) ∙ ap code (sym (x .2) ∙ y .2)
+            ∙ code-point (y .0) (a .steinerCodes .codes (y .0) (y .1)) in
+            a .apart (x .0) (x .1) (subst⁻¹ (λ (z : ℕ). List·Memᴰ z (take t steiner)) e (y .1));
       }
     where
-      range : (l : List ℕ) → ((k : ℕ) → List·Memᴰ k l → T (isCode k)) → (q : Point) → List·Memᴰ q (map pointOf l) → T (inRange q)
-      range l h q i = let x = map-in pointOf l q .0 i in subst⁻¹ (λ (z : Point). T (inRange z)) (x .2) (subst⁻¹ T (range-code (x .0)) (h (x .0) (x .1)))
+      range : (l : List ℕ) → AllCodes l → (q : Point) → List·Memᴰ q (map pointOf l) → T (inRange q)
+      range l h q i = let x = map-in pointOf l q .0 i in subst⁻¹ (λ (z : Point). T (inRange z)) (x .2) (code-in-range (x .0) (h (x .0) (x .1)))
 
-      rise : (l : List ℕ) → rising ltb l ≡ true → Sorted Lower (map pointOf l)
-      rise l e = rising-sorted lower lower-order (map pointOf l) .0 (subst T (sym e ∙ points-rising l) tt)
+      rise : (l : List ℕ) → AllCodes l → rising ltb l ≡ true → Sorted Lower (map pointOf l)
+      rise l c e = rising-sorted lower lower-order (map pointOf l) .0 (subst T (sym e ∙ points-rising l c) tt)
 
   -- Codes merged and unpacked.
   module _ (codes₀ codes xs ys : List ℕ) (n : ℕ) (w : Pasted all codes₀ codes 0 n)
-      (u : (i : ℕ) → i < n → (getD xs i 0 ≡ getD codes i 0 / 65536 % 65536) × (getD ys i 0 ≡ getD codes i 0 % 65536)) where
+      (u : (i : ℕ) → i < n → held xs ys i ≡ pointOf (getD codes i 0)) where
     merged : take n codes ≡ all
     merged = front-take w
 
@@ -98,24 +103,22 @@ module _ (pins : List ℕ) (p : ℕ) (steiner : List ℕ) (t : ℕ) (a : Arrange
     get-is i h = sym (getD-take n codes i 0 h) ∙ ap (λ (l : List ℕ). getD l i 0) merged
 
     held-is : (i : ℕ) → i < n → held xs ys i ≡ pointOf (getD all i 0)
-    held-is i h =
-        let k = getD all i 0 in
-        let c = and-parts (leb (k / 65536) 60000) (leb (k % 65536) 60000) (all-codes k (get-in all i (omega (arith, count-is)))) in
-        let ex : getD xs i 0 ≡ k / 65536 = omega (arith, u i h .0, get-is i h, leb→le (k / 65536) 60000 (c .0)) in
-        let ey : getD ys i 0 ≡ k % 65536 = omega (arith, u i h .1, get-is i h) in
-        ap₂ pointAt ex ey
+    held-is i h = u i h ∙ ap pointOf (get-is i h)
+
+    code-at : (i : ℕ) → i < n → T (isCode (getD all i 0))
+    code-at i h = all-codes (getD all i 0) (get-in all i (omega (arith, count-is)))
 
     pub held-rises : Rises (held xs ys) n
     held-rises i j l m =
         subst⁻¹ (λ (z : Point). Lower z (held xs ys j)) (held-is i (omega arith))
         (subst⁻¹ (λ (z : Point). Lower (pointOf (getD all i 0)) z) (held-is j m)
-        (subst T (code-order (getD all i 0) (getD all j 0)) (lt→ltb (getD all i 0) (getD all j 0) (get-rises all all-sorted i j l (omega (arith, count-is))))))
+        (subst T (code-order (getD all i 0) (getD all j 0) (code-at i (omega arith)) (code-at j m))
+        (lt→ltb (getD all i 0) (getD all j 0) (get-rises all all-sorted i j l (omega (arith, count-is))))))
 
     held-points : tab (held xs ys) n ≡ points (stateAt pins p steiner t)
-    unfolding points
     held-points =
         tab-same (held xs ys) (λ (i : ℕ). pointOf (getD all i 0)) n held-is ∙ ap (tab (λ (i : ℕ). pointOf (getD all i 0))) count-is
-        ∙ tab-list pointOf all ∙ points-union (take p pins) (take t steiner)
+        ∙ tab-list pointOf all ∙ all-points
 
     pub build-allowed : (room : ℕ) → room ≡ 136 → n ≤ length xs → n ≤ length ys → BuildRequires xs ys n room
     build-allowed room e hx hy =

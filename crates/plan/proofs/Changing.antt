@@ -18,9 +18,9 @@ use Rattle.arrays.specs.Array.{Removed}
 use Rattle.arrays.specs.Paste.{Pasted}
 use Rattle.arrays.proofs.paste.Parts.{front-take, front-drop, front-count}
 use Rattle.arrays.proofs.sorted.Results.{removed-part, put-most, put-least, out-most}
-use Rattle.plan.specs.Code.{pointOf, isCode}
+use Rattle.plane.specs.Code.{pointOf, isCode}
 use Rattle.plan.specs.Work.{Codes, Arranged, stateAt}
-use Rattle.plan.proofs.Codes.{points-put, points-out}
+use Rattle.plane.proofs.codes.Sets.{points-put, points-out}
 use Rattle.arrays.proofs.Test.{true-of}
 use Rattle.plan.proofs.Sweeping.{codes-out}
 
@@ -80,13 +80,13 @@ module _ (pins : List ℕ) (p : ℕ) (steiner : List ℕ) (t : ℕ) (w : Arrange
             ⊎-elim (λ e. m .1 e) (λ i. w .apart q i (m .0)) (put-in ltb nat-order k q (take p pins) .0 (subst (λ (l : List ℕ). List·Memᴰ q l) (front-take x) i));
       }
 
-  pub insert-state : (pins′ : List ℕ) (p′ : ℕ) (steiner′ : List ℕ) (t′ : ℕ) → Pasted (put ltb k (take p pins)) pins pins′ 0 p′
+  pub insert-state : (pins′ : List ℕ) (p′ : ℕ) (steiner′ : List ℕ) (t′ : ℕ) → T (isCode k) → Pasted (put ltb k (take p pins)) pins pins′ 0 p′
       → Removed (out ltb k (take t steiner)) steiner steiner′ t t′ → prune (stateAt pins′ p′ steiner′ t′) ≡ insert (pointOf k) (stateAt pins p steiner t)
   unfolding insert
-  insert-state pins′ p′ steiner′ t′ x y =
+  insert-state pins′ p′ steiner′ t′ c x y =
       λ i. prune (record {
-        pins = (ap (map pointOf) (front-take x) ∙ points-put k (take p pins)) i;
-        steiner = (ap (map pointOf) (removed-part (out ltb k (take t steiner)) steiner steiner′ t t′ y) ∙ points-out k (take t steiner)) i;
+        pins = (ap (map pointOf) (front-take x) ∙ points-put k c (take p pins) (w .pinCodes .codes)) i;
+        steiner = (ap (map pointOf) (removed-part (out ltb k (take t steiner)) steiner steiner′ t t′ y) ∙ points-out k c (take t steiner) (w .steinerCodes .codes)) i;
       })
 
   -- A pin leaves.
@@ -99,11 +99,11 @@ module _ (pins : List ℕ) (p : ℕ) (steiner : List ℕ) (t : ℕ) (w : Arrange
         apart = λ q i j. w .apart q (out-in ltb nat-order k q (take p pins) .0 (subst (λ (l : List ℕ). List·Memᴰ q l) (removed-part (out ltb k (take p pins)) pins pins′ p p′ x) i) .0) j;
       }
 
-  pub remove-state : (pins′ : List ℕ) (p′ : ℕ) → Removed (out ltb k (take p pins)) pins pins′ p p′ → prune (stateAt pins′ p′ steiner t) ≡ remove (pointOf k) (stateAt pins p steiner t)
+  pub remove-state : (pins′ : List ℕ) (p′ : ℕ) → T (isCode k) → Removed (out ltb k (take p pins)) pins pins′ p p′ → prune (stateAt pins′ p′ steiner t) ≡ remove (pointOf k) (stateAt pins p steiner t)
   unfolding remove
-  remove-state pins′ p′ x =
+  remove-state pins′ p′ c x =
       λ i. prune (record {
-        pins = (ap (map pointOf) (removed-part (out ltb k (take p pins)) pins pins′ p p′ x) ∙ points-out k (take p pins)) i;
+        pins = (ap (map pointOf) (removed-part (out ltb k (take p pins)) pins pins′ p p′ x) ∙ points-out k c (take p pins) (w .pinCodes .codes)) i;
         steiner = map pointOf (take t steiner);
       })
 
@@ -120,9 +120,9 @@ module _ (pins : List ℕ) (p : ℕ) (steiner : List ℕ) (t : ℕ) (w : Arrange
             (put-in ltb nat-order k q (take t steiner) .0 (subst (λ (l : List ℕ). List·Memᴰ q l) (front-take x) j));
       }
 
-  pub steiner-state : (steiner′ : List ℕ) (t′ : ℕ) → Pasted (put ltb k (take t steiner)) steiner steiner′ 0 t′ → prune (stateAt pins p steiner′ t′) ≡ prune (withSteiner (pointOf k) (stateAt pins p steiner t))
-  steiner-state steiner′ t′ x =
+  pub steiner-state : (steiner′ : List ℕ) (t′ : ℕ) → T (isCode k) → Pasted (put ltb k (take t steiner)) steiner steiner′ 0 t′ → prune (stateAt pins p steiner′ t′) ≡ prune (withSteiner (pointOf k) (stateAt pins p steiner t))
+  steiner-state steiner′ t′ c x =
       λ i. prune (record {
         pins = map pointOf (take p pins);
-        steiner = (ap (map pointOf) (front-take x) ∙ points-put k (take t steiner)) i;
+        steiner = (ap (map pointOf) (front-take x) ∙ points-put k c (take t steiner) (w .steinerCodes .codes)) i;
       })

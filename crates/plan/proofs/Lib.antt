@@ -1,7 +1,6 @@
 pub mod Arranging
 pub mod Changing
-pub mod Codes
+pub mod HeldPoints
 pub mod Locating
 pub mod Sweeping
-pub mod Unpacking
 pub mod Weakness

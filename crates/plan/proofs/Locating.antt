@@ -15,8 +15,8 @@ use Rattle.plane.specs.declared.Coordinate.{Coordinate}
 use Rattle.plane.specs.declared.Coordinate.the-variants.{Stored, OutOfRange}
 use Rattle.plane.specs.Stored.{storedOf}
 use Rattle.plane.proofs.Stored.{number-out, number-in}
-use Rattle.plan.specs.Code.{code, pointOf, isCode}
-use Rattle.plan.proofs.Codes.{point-code, code-is}
+use Rattle.plane.specs.Code.{code, pointOf, isCode}
+use Rattle.plane.proofs.codes.Points.{point-code, code-is}
 use Rattle.plan.specs.declared.place.Place.{Place}
 use Rattle.plan.specs.declared.place.Place.the-variants as place
 use Rattle.plan.specs.Place.{placeOf}

@@ -15,6 +15,7 @@ use Rattle.plane.specs.Point.{Point}
 use Rattle.plane.specs.Edge.{Edge}
 use Rattle.arrays.proofs.Test.{true-of}
 use Rattle.arrays.proofs.Order.{nat-order}
+use Rattle.plane.proofs.codes.Points.{AllCodes}
 use Rattle.arrays.specs.Set.{out, has, union, rising}
 use Rattle.model.specs.Tree.{mst, edgesAt}
 use Rattle.model.specs.State.{State, points, lowestWeak, without, pruneFrom, prune}
@@ -26,12 +27,13 @@ use Rattle.tree.specs.Held.{held}
 use Rattle.tree.specs.Keys.{keyGraph}
 use Rattle.tree.proofs.Sorted.{tree-keys-degree}
 use Rattle.tree.proofs.OctantKeys.{tab-get}
-use Rattle.plan.specs.Code.{pointOf}
+use Rattle.plane.specs.Code.{pointOf}
 use Rattle.plan.specs.Weak.{firstWeak}
 use Rattle.plan.specs.declared.Plan.{Plan}
 use Rattle.plan.specs.Work.{Codes, Arranged, Planned, stateAt, stateOf}
-use Rattle.plan.proofs.Codes.{points-out, points-union}
+use Rattle.plane.proofs.codes.Sets.{points-out}
 use Rattle.arrays.proofs.sorted.Rise.{get-in}
+use Rattle.plan.proofs.Arranging.{all-points}
 
 -- What the search finds, as the definition does: none, or the point at a place.
 pub data Found (l : List ℕ) : Option Point → ℕ → Type 0 where
@@ -70,7 +72,7 @@ held-degree w p q h =
     member = subst (λ (l : List ℕ). T (has ltb q l)) (p .codes) h
 
     listed : points (stateOf w) ≡ map pointOf all
-    listed = unfold points in sym (points-union (take (w .npins) (w .pins)) (take (w .nsteiner) (w .steiner)))
+    listed = sym (all-points (w .pins) (w .npins) (w .steiner) (w .nsteiner) (p .arranged))
 
     counted : w .npoints ≡ length all
     counted = p .count ∙ ap length listed ∙ length-map all pointOf
@@ -175,12 +177,19 @@ module _ (pins : List ℕ) (p : ℕ) (steiner : List ℕ) (t₀ : ℕ) (rest : L
         apart = λ q i m. arranged .apart q i (out-in ltb nat-order k q (take t rest) .0 (subst (λ (l : List ℕ). List·Memᴰ q l) (removed-part (out ltb k (take t rest)) rest rest′ t t′ x) m) .0);
       }
 
+  member : (k : ℕ) → j < t → k ≡ getD rest j 0 → List·Memᴰ k (take t rest)
+  member k h e =
+      subst⁻¹ (λ (z : ℕ). List·Memᴰ z (take t rest)) (e ∙ sym (getD-take t rest j 0 h)) (get-in (take t rest) j (omega (arith, full)))
+
   pub sweeping-less : (rest′ : List ℕ) (t′ k : ℕ) → j < t → k ≡ getD rest j 0 → Removed (out ltb k (take t rest)) rest rest′ t t′ → suc t′ ≡ t
   sweeping-less rest′ t′ k h e x =
-      omega (arith, x .count, full, out-length ltb nat-order k (take t rest) (rising-sorted ltb nat-order (take t rest) .0 (subst⁻¹ T (arranged .steinerCodes .rise) tt)) member)
-    where
-      member : List·Memᴰ k (take t rest)
-      member = subst⁻¹ (λ (z : ℕ). List·Memᴰ z (take t rest)) (e ∙ sym (getD-take t rest j 0 h)) (get-in (take t rest) j (omega (arith, full)))
+      omega (
+        arith,
+        x .count,
+        full,
+        out-length ltb nat-order k (take t rest)
+            (rising-sorted ltb nat-order (take t rest) .0 (subst⁻¹ T (arranged .steinerCodes .rise) tt)) (member k h e),
+      )
 
   pub sweeping-more : (rest′ : List ℕ) (t′ k : ℕ) (w′ : Plan) (j′ : ℕ) → j < t → k ≡ getD rest j 0 → Removed (out ltb k (take t rest)) rest rest′ t t′
       → Planned w′ × (w′ .pins ≡ pins) × (w′ .npins ≡ p) × (w′ .steiner ≡ rest′) × (w′ .nsteiner ≡ t′)
@@ -199,11 +208,14 @@ module _ (pins : List ℕ) (p : ℕ) (steiner : List ℕ) (t₀ : ℕ) (rest : L
       now : State
       now = stateAt pins p rest t
 
+      codes : AllCodes (take t rest)
+      codes = arranged .steinerCodes .codes
+
       left : stateAt pins p rest′ t′ ≡ without (pointOf k) now
       left =
           λ i. record {
             pins = map pointOf (take p pins);
-            steiner = (ap (map pointOf) (removed-part (out ltb k (take t rest)) rest rest′ t t′ x) ∙ points-out k (take t rest)) i;
+            steiner = (ap (map pointOf) (removed-part (out ltb k (take t rest)) rest rest′ t t′ x) ∙ points-out k (codes k (member k h e)) (take t rest) codes) i;
           }
 
       chosen : {o : Option Point} {i : ℕ} → i ≡ j → Found (take t rest) o i → o ≡ some (pointOf k)

@@ -1,4 +1,3 @@
-pub mod Code
 pub mod Place
 pub mod Weak
 pub mod Work

@@ -1,7 +1,7 @@
 -- A place on the plane as a caller names it.
 use Rattle.arrays.specs.Test.{if}
 use Rattle.plane.specs.Point.{Point, inRange}
-use Rattle.plan.specs.Code.{code}
+use Rattle.plane.specs.Code.{code}
 use Rattle.plan.specs.declared.place.Place.{Place}
 use Rattle.plan.specs.declared.place.Place.the-variants.{OutOfRange, At}
 

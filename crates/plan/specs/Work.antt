@@ -1,7 +1,7 @@
 -- The working form of a deck and what it stands for.
 use mathlib.Core.Path.{_≡_}
-use mathlib.Core.Bool.{Bool, true}
-use mathlib.Core.List.{List, [], _∷_, map, List·Memᴰ}
+use mathlib.Core.Bool.{true}
+use mathlib.Core.List.{List, map, List·Memᴰ}
 use Prim.Native.Nat.{ℕ, _-_, _≤_}
 use lib.Dec.{T, ltb}
 use lib.ListN.{length, take, drop, replicate}
@@ -10,7 +10,7 @@ use Rattle.model.specs.State.{State, points}
 use Rattle.tree.specs.Keys.{tab, treeKeys}
 use Rattle.tree.specs.Held.{held}
 use Rattle.tree.specs.Build.{Rises}
-use Rattle.plan.specs.Code.{pointOf, isCode}
+use Rattle.plane.specs.Code.{pointOf, isCode}
 use Rattle.plan.specs.declared.Plan.{Plan}
 
 -- The state of pins and Steiner points kept as codes, each in the first places of an array.

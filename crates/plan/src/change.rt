@@ -8,7 +8,7 @@ ghost use lib.Dec.{T};
 ghost use lib.ListN.{take};
 ghost use Rattle.model.specs.State as state;
 ghost use Rattle.model.specs.Round.{withSteiner};
-ghost use Rattle.plan.specs.Code.{pointOf, isCode};
+ghost use Rattle.plane.specs.Code.{pointOf, isCode};
 ghost use Rattle.plan.specs.Work.{Planned, stateOf};
 
 // A pin joins; where a Steiner point stands, it becomes a pin.
@@ -28,6 +28,7 @@ pub fn insert(w: Plan, k: u64) -> Plan
 // A pin leaves.
 pub fn remove(w: Plan, k: u64) -> Plan
     requires { ⌜ Planned w ⌝ }
+    requires { ⌜ T (isCode k) ⌝ }
     ensures { λ r. ⌜ Planned r × (stateOf r ≡ state.remove (pointOf k) (stateOf w)) ⌝ }
 {
     let mut pins = w.pins;

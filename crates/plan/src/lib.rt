@@ -5,12 +5,12 @@ pub mod place;
 pub mod prune;
 
 ghost use mathlib.Core.Path.{_≡_};
-ghost use mathlib.Core.Bool.{true};
-ghost use Prim.Native.Nat.{ℕ, _/_, _%_, _≤_, _<_};
-ghost use lib.ListN.{length, take, getD};
-ghost use Rattle.plan.specs.Work.{Arranged, Planned, stateOf};
+ghost use Prim.Native.Nat.{ℕ, _≤_, _<_};
+ghost use lib.ListN.{length, getD};
+ghost use Rattle.plane.specs.Code.{pointOf};
+ghost use Rattle.tree.specs.Held.{held};
+ghost use Rattle.plan.specs.Work.{Arranged, Planned};
 
-// A point in range is one code, 65,536 times its stored x and its stored y: the lower of two points has the smaller code.
 pub struct Plan {
     pub pins: [u64; 64],
     pub npins: usize,
@@ -24,16 +24,16 @@ pub struct Plan {
     pub nkeys: usize,
 }
 
-// The stored x and y of the first n codes.
+// The points of the first n codes by their stored x and y.
 fn unpack(codes: &[u64], n: usize, xs: &mut [u16], ys: &mut [u16])
     requires { ⌜ (n ≤ length (now codes)) × (n ≤ length (now xs)) × (n ≤ length (now ys)) ⌝ }
-    ensures { λ _. ⌜ ((i : ℕ) → i < n → (getD (now (xs .exit)) i 0 ≡ getD (now (codes .entry)) i 0 / 65536 % 65536) × (getD (now (ys .exit)) i 0 ≡ getD (now (codes .entry)) i 0 % 65536)) ⌝ }
+    ensures { λ _. ⌜ ((i : ℕ) → i < n → held (now (xs .exit)) (now (ys .exit)) i ≡ pointOf (getD (now (codes .entry)) i 0)) ⌝ }
 {
     let mut i = 0;
     while i < n {
         let k = codes[i];
-        xs[i] = (k / 65536 % 65536) as u16;
-        ys[i] = (k % 65536) as u16;
+        xs[i] = plane::codes::x_of(k);
+        ys[i] = plane::codes::y_of(k);
         i += 1;
     }
 }

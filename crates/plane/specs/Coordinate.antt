@@ -3,6 +3,14 @@ use Prim.Native.Nat.{ℕ, _+_, _*_, _/_, _%_}
 use lib.IntN.{ℤ, pos, natAbs, subℕ, _+ℤ_}
 use Rattle.plane.specs.Point.{limit}
 
+-- How many numbers 16 bits hold: one more than the largest stored coordinate.
+abbrev pub base : ℕ
+base = 65536
+
+-- The stored form of the largest coordinate in range.
+abbrev pub storedLimit : ℕ
+storedLimit = 60000
+
 -- The whole number of a biased coordinate u, which is u − 30,000.
 unfoldable pub coordinate : ℕ → ℤ
 coordinate u = subℕ u limit
@@ -13,8 +21,8 @@ biased z = natAbs (z +ℤ pos limit)
 
 -- "a 16-bit two's complement number", little-endian: the whole number of two file bytes, the low one first.
 unfoldable pub signed16 : ℕ → ℕ → ℤ
-signed16 low high = subℕ (low + 256 * high) (65536 * (high / 128))
+signed16 low high = subℕ (low + 256 * high) (base * (high / 128))
 
 -- The 16 bits of a whole number in two's complement, as a natural number.
 unfoldable pub word16 : ℤ → ℕ
-word16 z = natAbs (z +ℤ pos 65536) % 65536
+word16 z = natAbs (z +ℤ pos base) % base

@@ -2,13 +2,20 @@
 //
 // A stored coordinate is a u16 that holds the coordinate plus 30,000. Every function here takes all values of its parameters,
 // also stored coordinates above 60,000, which no point in range has.
+pub mod codes;
 pub mod octants;
 
 ghost use mathlib.Core.Path.{_≡_};
-ghost use Prim.Native.Nat.{_/_, _%_, _≤_};
+ghost use Prim.Native.Nat.{_≤_};
 ghost use Rattle.plane.specs.Coordinate.{coordinate, signed16, word16};
 ghost use Rattle.plane.specs.Point.{dist, gap, lower};
 ghost use Rattle.plane.specs.Stored.{pointAt, storedOf};
+
+// One more than the largest number that a stored coordinate can be.
+pub const BASE: u64 = 65536;
+
+// The largest coordinate, and without its sign the smallest.
+const LIMIT: i32 = 30000;
 
 // A coordinate that was checked: as it is stored, or out of range.
 pub enum Coordinate {
@@ -39,25 +46,10 @@ pub fn is_lower(ax: u16, ay: u16, bx: u16, by: u16) -> bool
 }
 
 // The 16 bits of a coordinate in two's complement, from its stored form.
-fn word(u: u16) -> u32
+pub fn word_of(u: u16) -> usize
     ensures { λ r. ⌜ r ≡ word16 (coordinate u) ⌝ }
-    ensures { λ r. ⌜ r ≤ 65535 ⌝ }
 {
-    (u as u32 + 35536) % 65536
-}
-
-// The low byte of a coordinate in a file.
-pub fn low_byte(u: u16) -> u8
-    ensures { λ r. ⌜ r ≡ word16 (coordinate u) % 256 ⌝ }
-{
-    (word(u) % 256) as u8
-}
-
-// The high byte of a coordinate in a file.
-pub fn high_byte(u: u16) -> u8
-    ensures { λ r. ⌜ r ≡ word16 (coordinate u) / 256 ⌝ }
-{
-    (word(u) / 256) as u8
+    ((u as u64 + BASE - LIMIT as u64) % BASE) as usize
 }
 
 // The coordinate of two file bytes. Its 16 bits plus 30,000, where they go round after 65,535, are its stored form.
@@ -89,5 +81,5 @@ pub fn from_signed(z: i32) -> Coordinate
 pub fn to_signed(u: u16) -> i32
     ensures { λ r. ⌜ r ≡ coordinate u ⌝ }
 {
-    u as i32 - 30000
+    u as i32 - LIMIT
 }

@@ -32,11 +32,11 @@ use Rattle.tree.proofs.Join.{tab-in}
 use Rattle.tree.proofs.Numbers.{number-at}
 use Rattle.tree.proofs.Sorted.{tree-keys-mst, ps-sorted}
 use Rattle.arrays.specs.Array.{indexOf}
-use Rattle.plan.specs.Code.{pointOf}
+use Rattle.plane.specs.Code.{pointOf, isCode}
 use Rattle.plan.specs.declared.Plan.{Plan}
 use Rattle.plan.specs.Work.{Planned, stateOf}
-use Rattle.plan.proofs.Codes.{points-has, points-union}
-use Rattle.plan.proofs.Arranging.{arranged-placed, codes-count}
+use Rattle.plane.proofs.codes.Sets.{points-has}
+use Rattle.plan.proofs.Arranging.{all-codes, all-points, arranged-placed, codes-count}
 use Rattle.plan.proofs.Sweeping.{held-degree}
 use Rattle.questions.specs.declared.Answer.the-variants.{Counts, Edge, NoEdge}
 use Rattle.questions.specs.Answers.{countsAnswer, edgeAnswer, edgeOrNone, Listed}
@@ -65,18 +65,20 @@ module _ (w : Plan) (p : Planned w) where
       p .keyCount ∙ sym (length-map (treeKeys at (w .npoints)) (edgeOf at))
       ∙ ap length (tree-keys-mst at (w .npoints) (omega (arith, p .few)) (p .rises)) ∙ ap (λ l. length (mst l)) (p .points)
 
-  listed-codes : map pointOf (take (w .npoints) (w .codes)) ≡ points (stateOf w)
-  listed-codes = unfold points in ap (map pointOf) (p .codes) ∙ points-union (take (w .npins) (w .pins)) (take (w .nsteiner) (w .steiner))
+  held-has : (k : ℕ) → T (isCode k) → has ltb k (take (w .npoints) (w .codes)) ≡ has lower (pointOf k) (points (stateOf w))
+  held-has k t =
+      ap (has ltb k) (p .codes) ∙ points-has k t _ (all-codes (w .pins) (w .npins) (w .steiner) (w .nsteiner) (p .arranged))
+      ∙ ap (has lower (pointOf k)) (all-points (w .pins) (w .npins) (w .steiner) (w .nsteiner) (p .arranged))
 
   pub counts-answer : Counts (w .npins) (w .nsteiner) (w .nkeys) ≡ countsAnswer (stateOf w)
   counts-answer =
       (λ i. Counts (codes-count (w .pins) (w .npins) (p .arranged .pinCodes) i) (codes-count (w .steiner) (w .nsteiner) (p .arranged .steinerCodes) i)
       (edge-count i))
 
-  pub degree-none : (k : ℕ) → has ltb k (take (w .npoints) (w .codes)) ≡ false → 0 ≡ question.edgeCountAt (pointOf k) (stateOf w)
-  degree-none k e =
+  pub degree-none : (k : ℕ) → T (isCode k) → has ltb k (take (w .npoints) (w .codes)) ≡ false → 0 ≡ question.edgeCountAt (pointOf k) (stateOf w)
+  degree-none k t e =
       sym (none-at (stateOf w) (arranged-placed (w .pins) (w .npins) (w .steiner) (w .nsteiner) (p .arranged) .steinerRise) (pointOf k)
-      (λ i. subst T (sym (ap (has lower (pointOf k)) listed-codes) ∙ sym (points-has k (take (w .npoints) (w .codes))) ∙ e) (has-in lower lower-order (pointOf k) (points (stateOf w)) .1 i)))
+      (λ i. subst T (sym (held-has k t) ∙ e) (has-in lower lower-order (pointOf k) (points (stateOf w)) .1 i)))
 
   pub degree-there : (k i n : ℕ) → T (has ltb k (take (w .npoints) (w .codes))) → i ≡ indexOf k (take (w .npoints) (w .codes)) → n ≡ degree keyGraph i (take (w .nkeys) (w .keys))
       → n ≡ question.edgeCountAt (pointOf k) (stateOf w)

@@ -4,10 +4,11 @@ use plan::place::Place;
 use plan::place::locate;
 ghost use mathlib.Core.Path.{_≡_};
 ghost use Prim.Native.Nat.{_/_, _%_, _<_};
+ghost use lib.Dec.{T};
 ghost use Rattle.model.specs.State.{Valid};
 ghost use Rattle.model.specs.Question as question;
 ghost use Rattle.tree.specs.Held.{held};
-ghost use Rattle.plan.specs.Code.{pointOf};
+ghost use Rattle.plane.specs.Code.{pointOf, isCode};
 ghost use Rattle.plan.specs.Work.{Planned, stateOf};
 ghost use Rattle.questions.specs.Answers.{lengthAnswer, countsAnswer, edgeAnswer, edgeAtAnswer, degreeAnswer, Listed};
 
@@ -43,6 +44,7 @@ fn edge_between(w: Plan, ends: u64) -> Answer
 // The number of edges at a place in range, 0 where no point is held.
 fn degree_of(w: Plan, k: u64) -> usize
     requires { ⌜ Planned w ⌝ }
+    requires { ⌜ T (isCode k) ⌝ }
     ensures { λ r. ⌜ r ≡ question.edgeCountAt (pointOf k) (stateOf w) ⌝ }
 {
     let codes = w.codes;

@@ -4,7 +4,7 @@ use mathlib.Core.Logic.{inl, ⊎-elim}
 use mathlib.Core.Bool.{true, false}
 use mathlib.Core.Option.{Option, none, some}
 use mathlib.Core.List.{List·Memᴰ}
-use Prim.Native.Nat.{ℕ, _+_, _*_, _-_, _≤_, _<_}
+use Prim.Native.Nat.{ℕ, _-_, _≤_, _<_}
 use native.Mathlib.Omega.{arith}
 use lib.Dec.{T}
 use lib.ListN.{length}
@@ -22,10 +22,10 @@ use Rattle.model.proofs.Prune.{points-in, few-steiner}
 use Rattle.model.proofs.Choice.{Choice, none-saves, some-chosen, best-choice, saved-shorter}
 use Rattle.model.proofs.Round.{candidate-range, prune-shorter}
 use Rattle.plan.specs.declared.Plan.{Plan}
-use Rattle.plan.specs.Code.{code, pointOf, isCode}
+use Rattle.plane.specs.Code.{packed, code, pointOf, isCode}
 use Rattle.plan.specs.Work as work
 use Rattle.plan.proofs.Arranging.{codes-count}
-use Rattle.plan.proofs.Codes.{point-code, code-is}
+use Rattle.plane.proofs.codes.Points.{point-code, code-is}
 use Rattle.crossing.specs.declared.found.Best.the-variants.{Nothing, At}
 use Rattle.crossing.specs.Search.{answerOf}
 use Rattle.rounds.specs.declared.Step.the-variants.{Finished, Tap}
@@ -63,22 +63,19 @@ module _ (s : State) (e : answerOf (best (points s)) ≡ Nothing) where
   step-stays = sym (ap (λ (r : RoundResult). stepOf (r .answer)) stays)
 
 -- One was found: what is known of its code.
-pub record Joins (s : State) (u v : ℕ) : Type 0 where
-  pub isPlace : T (isCode (u * 65536 + v))
-  pub candidate : Candidate (points s) (pointOf (u * 65536 + v))
-  pub chosen : best (points s) ≡ some (pointOf (u * 65536 + v))
-  pub atX : coordinate u ≡ pointOf (u * 65536 + v) .x
-  pub atY : coordinate v ≡ pointOf (u * 65536 + v) .y
-  pub shorter : treeLength (put lower (pointOf (u * 65536 + v)) (points s)) < treeLength (points s)
+pub record Joins (s : State) (u v k : ℕ) : Type 0 where
+  pub isPlace : T (isCode k)
+  pub candidate : Candidate (points s) (pointOf k)
+  pub chosen : best (points s) ≡ some (pointOf k)
+  pub atX : coordinate u ≡ pointOf k .x
+  pub atY : coordinate v ≡ pointOf k .y
+  pub shorter : treeLength (put lower (pointOf k) (points s)) < treeLength (points s)
 
-code-parts : (c : Point) (u v : ℕ) → biased (c .x) ≡ u → biased (c .y) ≡ v → code c ≡ u * 65536 + v
+pub found-at : (s : State) → Valid s → (u v k : ℕ) → k ≡ packed u v → answerOf (best (points s)) ≡ At u v → Joins s u v k
 unfolding code
-code-parts c u v x y = ap₂ (λ (a b : ℕ). a * 65536 + b) x y
-
-pub found-at : (s : State) → Valid s → (u v : ℕ) → answerOf (best (points s)) ≡ At u v → Joins s u v
-found-at s valid u v e = go (best-choice (points s)) refl e
+found-at s valid u v k is e = go (best-choice (points s)) refl e
   where
-    go : {o : Option Point} → Choice (points s) o → best (points s) ≡ o → answerOf o ≡ At u v → Joins s u v
+    go : {o : Option Point} → Choice (points s) o → best (points s) ≡ o → answerOf o ≡ At u v → Joins s u v k
     go (none-saves f) b q = let z : _≡_ {A = ℕ} 0 1 = cc in absurd (omega arith)
     go (some-chosen c w) b q =
         let h = w .candidate in
@@ -87,8 +84,8 @@ found-at s valid u v e = go (best-choice (points s)) refl e
         let y : biased (c .y) ≡ v = cc in
         let r = candidate-range s (valid .placed) c h in
         let ins = and-parts (coordinateInRange (c .x)) (coordinateInRange (c .y)) r in
-        let same : code c ≡ u * 65536 + v = code-parts c u v x y in
-        let back : c ≡ pointOf (u * 65536 + v) = sym (point-code c r) ∙ ap pointOf same in
+        let same : code c ≡ k = ap₂ packed x y ∙ sym is in
+        let back : c ≡ pointOf k = sym (point-code c r) ∙ ap pointOf same in
         record {
           isPlace = subst (λ (z : ℕ). T (isCode z)) same (code-is c r);
           candidate = subst (Candidate (points s)) back h;
@@ -98,11 +95,11 @@ found-at s valid u v e = go (best-choice (points s)) refl e
           shorter = subst (λ (z : Point). treeLength (put lower z (points s)) < treeLength (points s)) back less;
         }
 
-module _ (s : State) (u v : ℕ) (j : Joins s u v) where
-  joins : round s ≡ roundWith s (some (pointOf (u * 65536 + v)))
-  joins = round-with s (some (pointOf (u * 65536 + v))) (j .chosen)
+module _ (s : State) (u v k : ℕ) (j : Joins s u v k) where
+  joins : round s ≡ roundWith s (some (pointOf k))
+  joins = round-with s (some (pointOf k)) (j .chosen)
 
-  pub next-joins : (s′ : State) → s′ ≡ prune (withSteiner (pointOf (u * 65536 + v)) s) → s′ ≡ round s .next
+  pub next-joins : (s′ : State) → s′ ≡ prune (withSteiner (pointOf k) s) → s′ ≡ round s .next
   unfolding roundWith
   next-joins s′ e = e ∙ sym (ap (λ (r : RoundResult). r .next) joins)
 
@@ -110,18 +107,18 @@ module _ (s : State) (u v : ℕ) (j : Joins s u v) where
   unfolding roundWith
   added-joins = sym (ap (λ (r : RoundResult). adds (r .answer)) joins)
 
-  pub step-joins : (s′ : State) (x y : ℤ) (m n : ℕ) → s′ ≡ prune (withSteiner (pointOf (u * 65536 + v)) s) → x ≡ coordinate u → y ≡ coordinate v → m ≡ treeLength (points s) → n ≡ treeLength (points s′)
+  pub step-joins : (s′ : State) (x y : ℤ) (m n : ℕ) → s′ ≡ prune (withSteiner (pointOf k) s) → x ≡ coordinate u → y ≡ coordinate v → m ≡ treeLength (points s) → n ≡ treeLength (points s′)
       → Tap x y (m - n) ≡ stepOf (round s .answer)
   unfolding roundWith stepOf
   step-joins s′ x y m n e ex ey em en =
       (λ i. Tap ((ex ∙ j .atX) i) ((ey ∙ j .atY) i) (em i - (en ∙ ap (λ (z : State). treeLength (points z)) e) i))
       ∙ sym (ap (λ (r : RoundResult). stepOf (r .answer)) joins)
 
-  pub joins-free : List·Memᴰ (pointOf (u * 65536 + v)) (s .pins) → ⊥
-  joins-free i = j .candidate .free (points-in s (pointOf (u * 65536 + v)) .1 (inl i))
+  pub joins-free : List·Memᴰ (pointOf k) (s .pins) → ⊥
+  joins-free i = j .candidate .free (points-in s (pointOf k) .1 (inl i))
 
-  pub joins-shorter : Valid s → treeLength (points (prune (withSteiner (pointOf (u * 65536 + v)) s))) ≤ treeLength (points s)
-  joins-shorter w = omega (arith, j .shorter, prune-shorter s w (pointOf (u * 65536 + v)) (j .candidate))
+  pub joins-shorter : Valid s → treeLength (points (prune (withSteiner (pointOf k) s))) ≤ treeLength (points s)
+  joins-shorter w = omega (arith, j .shorter, prune-shorter s w (pointOf k) (j .candidate))
 
 -- There is room for one more Steiner point.
 pub steiner-room : (w : Plan) → work.Planned w → Valid (work.stateOf w) → w .nsteiner < 63

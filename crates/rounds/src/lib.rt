@@ -62,7 +62,7 @@ pub fn round_of(w: Plan) -> Rounded
             step: Step::Finished,
         },
         Best::At(u, v) => {
-            let next = plan::change::with_steiner(w, u as u64 * 65536 + v as u64);
+            let next = plan::change::with_steiner(w, plane::codes::pack(u, v));
             let fall = length_of(w) - length_of(next);
             let x = plane::to_signed(u);
             let y = plane::to_signed(v);

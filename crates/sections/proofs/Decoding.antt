@@ -15,7 +15,7 @@ use Rattle.plane.specs.declared.Coordinate.the-variants.{Stored, OutOfRange}
 use Rattle.plane.specs.Stored.{storedOf}
 use Rattle.model.specs.File.{pointsOf}
 use Rattle.model.proofs.Bytes.{points-length}
-use Rattle.plan.specs.Code.{code}
+use Rattle.plane.specs.Code.{code}
 use Rattle.plane.proofs.Stored.{number-out, number-in}
 use Rattle.sections.specs.Points.{pointIn, beyond, mark, marks}
 

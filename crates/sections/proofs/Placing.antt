@@ -2,24 +2,24 @@
 -- points. The codes of the first two sections are those of the points that the file shows.
 use mathlib.Core.Path.{_≡_, refl, sym, ap, ap₂, _∙_}
 use mathlib.Core.Bool.{Bool, true, false, not, _&&_}
-use mathlib.Core.List.{List, [], _∷_, _++_, map, List·Memᴰ, List·Memᴰ·head as head, List·Memᴰ·tail as tail}
+use mathlib.Core.List.{List, [], _∷_, _++_, map, List·Memᴰ·head as head, List·Memᴰ·tail as tail}
 use Prim.Native.Nat.{ℕ, _+_, _*_, _/_, _≤_}
 use native.Mathlib.Omega.{arith}
 use lib.Dec.{T, ltb}
 use lib.ListN.{length, take, drop}
 use lib.Seq.{take-at}
 use Rattle.arrays.specs.Test.{if}
-use Rattle.plane.specs.Point.{Point, coordinateInRange, inRange, lower}
-use Rattle.arrays.proofs.Test.{and-parts, same-test}
+use Rattle.plane.specs.Point.{Point, inRange, lower}
+use Rattle.arrays.proofs.Test.{same-test}
 use Rattle.arrays.proofs.Order.{nat-order}
-use Rattle.plane.proofs.Stored.{biased-bound}
 use Rattle.arrays.specs.Set.{has, rising, all}
 use Rattle.model.specs.State.{placed}
 use Rattle.model.specs.File.{pointsOf, size, shown}
 use Rattle.arrays.proofs.Set.{all-in, has-not}
 use Rattle.model.proofs.Candidate.{map-in}
-use Rattle.plan.specs.Code.{code}
-use Rattle.plan.proofs.Codes.{code-x, point-code, points-has, points-rising, map-codes}
+use Rattle.plane.specs.Code.{code}
+use Rattle.plane.proofs.codes.Points.{AllInRange, code-small, code-is, point-code, map-codes, codes-are}
+use Rattle.plane.proofs.codes.Sets.{points-has, points-rising}
 use Rattle.arrays.specs.Array.{noneIn}
 use Rattle.sections.specs.Points.{beyond, mark, marks, placedCodes}
 use Rattle.sections.specs.Layout.{Sections}
@@ -35,8 +35,7 @@ mark-in p t = go (inRange p) t
     go false u = absurd u
 
 code-not : (p : Point) → T (inRange p) → ¬ (code p ≡ beyond)
-code-not p t e =
-    omega (arith, code-x p t, biased-bound (p .x) (and-parts (coordinateInRange (p .x)) (coordinateInRange (p .y)) t .0))
+code-not p t e = omega (arith, code-small (code p) (code-is p t))
 
 mark-out : (p : Point) → ¬ (mark p ≡ beyond) → T (inRange p)
 unfolding mark
@@ -46,9 +45,6 @@ mark-out p n = go (inRange p) n
     go true u = tt
     go false u = absurd (u refl)
 
-abbrev InRange : List Point → Type 0
-InRange l = (p : Point) → List·Memᴰ p l → T (inRange p)
-
 range-test : (l : List Point) → not (has ltb beyond (map mark l)) ≡ all inRange l
 range-test l =
     same-test (not (has ltb beyond (map mark l))) (all inRange l)
@@ -57,21 +53,21 @@ range-test l =
     (λ i. let m = map-in mark l beyond .0 i in
     let r = all-in inRange l .0 t (m .0) (m .1) in code-not (m .0) r (sym (mark-in (m .0) r) ∙ sym (m .2))))
 
-pub marks-codes : (l : List Point) → InRange l → map mark l ≡ map code l
+pub marks-codes : (l : List Point) → AllInRange l → map mark l ≡ map code l
 marks-codes [] r = refl
 marks-codes (p ∷ l) r = ap₂ _∷_ (mark-in p (r p (head refl))) (marks-codes l (λ q i. r q (tail i)))
 
-rising-test : (l : List Point) → InRange l → rising ltb (map mark l) ≡ rising lower l
-rising-test l r = ap (rising ltb) (marks-codes l r) ∙ points-rising (map code l) ∙ ap (rising lower) (map-codes l r)
+rising-test : (l : List Point) → AllInRange l → rising ltb (map mark l) ≡ rising lower l
+rising-test l r = ap (rising ltb) (marks-codes l r) ∙ points-rising (map code l) (codes-are l r) ∙ ap (rising lower) (map-codes l r)
 
-apart-test : (l m : List Point) → InRange l → InRange m → noneIn (map mark m) (map mark l) ≡ all (λ (p : Point). not (has lower p m)) l
+apart-test : (l m : List Point) → AllInRange l → AllInRange m → noneIn (map mark m) (map mark l) ≡ all (λ (p : Point). not (has lower p m)) l
 unfolding all
 apart-test l m r s = ap₂ noneIn (marks-codes m s) (marks-codes l r) ∙ go l r
   where
-    go : (k : List Point) → InRange k → noneIn (map code m) (map code k) ≡ all (λ (p : Point). not (has lower p m)) k
+    go : (k : List Point) → AllInRange k → noneIn (map code m) (map code k) ≡ all (λ (p : Point). not (has lower p m)) k
     go [] q = refl
     go (p ∷ k) q =
-        ap₂ _&&_ (ap not (points-has (code p) (map code m) ∙ ap₂ (has lower) (point-code p (q p (head refl))) (map-codes m s))) (go k (λ z i. q z (tail i)))
+        ap₂ _&&_ (ap not (points-has (code p) (code-is p (q p (head refl))) (map code m) (codes-are m s) ∙ ap₂ (has lower) (point-code p (q p (head refl))) (map-codes m s))) (go k (λ z i. q z (tail i)))
 
 -- Tests in turn, where a later one need be the same only if the earlier passed.
 and-then : (a b c d : Bool) → a ≡ b → (T b → c ≡ d) → a && c ≡ b && d

@@ -2,8 +2,7 @@
 use mathlib.Core.List.{List, [], _∷_, _++_}
 use Prim.Native.Nat.{ℕ, _+_, _/_, _%_}
 use lib.ListN.{length, take, drop}
-use Rattle.plane.specs.Point.{Point}
-use Rattle.plane.specs.Stored.{pointAt}
+use Rattle.plane.specs.Code.{pointOf}
 use Rattle.model.specs.File.{pointBytes}
 
 -- The bytes of each number of a list, one after the other.
@@ -18,12 +17,9 @@ edgeTwo k = k / 128 % 256 ∷ k % 128 ∷ []
 abbrev pub edgeBytes : List ℕ → List ℕ
 edgeBytes l = each edgeTwo l
 
--- The point kept in a number, also in one that is no code: four bytes.
-abbrev pub pointKept : ℕ → Point
-pointKept k = pointAt (k / 65536 % 65536) (k % 65536)
-
+-- The point of a code: four bytes.
 abbrev pub pointFour : ℕ → List ℕ
-pointFour k = pointBytes (pointKept k)
+pointFour k = pointBytes (pointOf k)
 
 -- The buffer l with the bytes bs put over those from place `at` on.
 unfoldable pub over : ℕ → List ℕ → List ℕ → List ℕ

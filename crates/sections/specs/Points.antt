@@ -9,7 +9,7 @@ use Rattle.plane.specs.Point.{Point, inRange}
 use Rattle.plane.specs.Coordinate.{signed16}
 use Rattle.arrays.specs.Set.{has, rising}
 use Rattle.model.specs.File.{pointsOf}
-use Rattle.plan.specs.Code.{code}
+use Rattle.plane.specs.Code.{code}
 use Rattle.arrays.specs.Array.{noneIn}
 
 -- The point in the four bytes from place i on.

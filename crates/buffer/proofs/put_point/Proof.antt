@@ -1,75 +1,65 @@
--- `buffer::put_point` meets its contract: four stores.
-use mathlib.Core.Path.{ap, _∙_}
-use lib.ListN.{length-set}
-use Rattle.sections.specs.Bytes.{over}
-use Rattle.buffer.proofs.Putting.{over-four, point-bytes}
-use borrow.Author.Needs.{needs}
+-- `buffer::put_point` meets its contract: the two numbers one behind the other.
+use mathlib.Core.Path.{refl, ap, ap₂, _∙_}
+use mathlib.Core.List.{List}
+use Prim.Native.Nat.{ℕ, _+_}
 use native.Mathlib.Omega.{arith}
+use borrow.Author.Needs.{needs}
+use Rattle.plane.specs.Code.{xOf, yOf}
+use Rattle.plane.specs.Coordinate.{coordinate, word16}
+use Rattle.model.specs.File.{bytes2}
+use Rattle.sections.specs.Bytes.{over}
+use Rattle.buffer.proofs.Putting.{over-next}
 use Rattle.buffer.proofs.put_point.Statement.{statement}
 use Rattle.buffer.proofs.put_point.Tie as tie
 
-cast-x : tie.Need-cast-x
-cast-x c = search needs
+x-of-requires : tie.Need-x-of-requires
+x-of-requires c κs = search needs
 
-cast-y : tie.Need-cast-y
-cast-y c = search needs
+word-of-requires : tie.Need-word-of-requires
+word-of-requires c κs = search needs
 
-low-byte-requires : tie.Need-low-byte-requires
-low-byte-requires c κs = search needs
+put2-requires : tie.Need-put2-requires
+put2-requires c κs = search needs
 
-slice-write-out : tie.Need-slice-write-out
-slice-write-out c = search needs
+y-of-requires : tie.Need-y-of-requires
+y-of-requires c κs = search needs
 
-high-byte-requires : tie.Need-high-byte-requires
-high-byte-requires c κs = search needs
+word-of-requires-2 : tie.Need-word-of-requires-2
+word-of-requires-2 c κs = search needs
 
-add-out : tie.Need-add-out
-add-out c = search needs
+add-put2 : tie.Need-add-put2
+add-put2 c = search needs
 
-slice-write-out-2 : tie.Need-slice-write-out-2
-slice-write-out-2 c = simp length-set (omega arith)
-
-low-byte-requires-2 : tie.Need-low-byte-requires-2
-low-byte-requires-2 c κs = search needs
-
-add-out-2 : tie.Need-add-out-2
-add-out-2 c = search needs
-
-slice-write-out-3 : tie.Need-slice-write-out-3
-slice-write-out-3 c = simp length-set (omega arith)
-
-high-byte-requires-2 : tie.Need-high-byte-requires-2
-high-byte-requires-2 c κs = search needs
-
-add-out-3 : tie.Need-add-out-3
-add-out-3 c = search needs
-
-slice-write-out-4 : tie.Need-slice-write-out-4
-slice-write-out-4 c = simp length-set (omega arith)
+put2-requires-2 : tie.Need-put2-requires-2
+put2-requires-2 c κs = search needs
 
 same-length : tie.Need-same-length
 same-length c = search needs
 
 returns : tie.Need-returns
 returns c =
-    over-four _ _ _ _ _ _ (c .before .before .before .before .before .pre) ∙ ap (λ bs. over (c .before .before .before .before .before .args .at) bs (c .before .before .before .before .before .args .out .now)) (point-bytes _ _ _ _ _ _ (c .before .before .before .low-byte .ensures) (c .before .before .high-byte .ensures) (c .before .low-byte2 .ensures) (c .high-byte2 .ensures))
+    let second = c .before .before in
+    let at-y = second .before .before .before in
+    let first = at-y .before .before .before in
+    let at-x = first .before .before .before in
+    let s = at-x .before .before .args in
+    let two : ℕ → List ℕ = λ u. bytes2 (word16 (coordinate u)) in
+    let x = ap bytes2 (first .before .before .word-of .ensures) ∙ ap two (at-x .x-of .ensures) in
+    let y = ap bytes2 (second .before .before .word-of2 .ensures) ∙ ap two (at-y .y-of .ensures) in
+    let half = first .put2 .ensures ∙ ap (λ (bs : List ℕ). over (s .at) bs (s .out .now)) x in
+    second .put22 .ensures ∙ ap₂ (over (s .at + 2)) y half
+    ∙ over-next (s .at) (s .out .now) (two (xOf (s .k))) (two (yOf (s .k))) (s .at + 2) refl (omega arith)
 
 pub put-point-spec : {M : Type 1} → statement M
 put-point-spec =
     tie.close
     (tie.spec
-    cast-x
-    cast-y
-    low-byte-requires
-    slice-write-out
-    high-byte-requires
-    add-out
-    slice-write-out-2
-    low-byte-requires-2
-    add-out-2
-    slice-write-out-3
-    high-byte-requires-2
-    add-out-3
-    slice-write-out-4
+    x-of-requires
+    word-of-requires
+    put2-requires
+    y-of-requires
+    word-of-requires-2
+    add-put2
+    put2-requires-2
     same-length
     returns)

@@ -22,7 +22,7 @@ returns c =
     let at-has = at-if .before in
     let at-start = at-has .before .before .before in
     let p = at-start .pre .0 in
-    let there = sym (pin-there _ p _) ∙ sym (at-has .has .ensures) ∙ at-if .if1 .taken in
+    let there = sym (pin-there _ p _ (at-start .pre .1)) ∙ sym (at-has .has .ensures) ∙ at-if .if1 .taken in
     refused-is _ p _ 8 (add-there _ _ (in-range _ (at-start .pre .1)) there) _ (c .refuse .ensures)
 
 refuse-requires-2 : tie.Need-refuse-requires-2
@@ -36,7 +36,7 @@ returns-2 c =
     let at-start = at-has .before .before .before in
     let p = at-start .pre .0 in
     refused-is _ p _ 10
-    (add-full _ _ (in-range _ (at-start .pre .1)) (sym (pin-there _ p _) ∙ sym (at-has .has .ensures) ∙ at-there .if1 .left)
+    (add-full _ _ (in-range _ (at-start .pre .1)) (sym (pin-there _ p _ (at-start .pre .1)) ∙ sym (at-has .has .ensures) ∙ at-there .if1 .left)
     (subst (λ (z : ℕ). 64 ≤ z) (pin-count _ p) (leb-true _ _ (at-full .if2 .taken)))) _ (c .refuse2 .ensures)
 
 insert-requires : tie.Need-insert-requires
@@ -50,7 +50,7 @@ returns-3 c =
     let at-start = at-has .before .before .before in
     let p = at-start .pre .0 in
     done-is _ _ _ _ (c .insert .ensures .0) (c .insert .ensures .1)
-    (add-done _ _ (in-range _ (at-start .pre .1)) (sym (pin-there _ p _) ∙ sym (at-has .has .ensures) ∙ at-there .if1 .left)
+    (add-done _ _ (in-range _ (at-start .pre .1)) (sym (pin-there _ p _ (at-start .pre .1)) ∙ sym (at-has .has .ensures) ∙ at-there .if1 .left)
     (subst (λ (z : ℕ). z < 64) (pin-count _ p) (leb-false _ _ (at-full .if2 .left))))
 
 pub add-at-spec : {M : Type 1} → statement M

@@ -1,7 +1,7 @@
 -- `calls::withdraw` meets its contract: the range first, then the call at a place in range.
 use mathlib.Core.Path.{_∙_}
 use Rattle.model.specs.Call as call
-use Rattle.plan.proofs.Locating.{read-place, place-out, place-point}
+use Rattle.plan.proofs.Locating.{read-place, place-out, place-code, place-point}
 use Rattle.calls.proofs.Calling.{refused-is, by-point, withdraw-none, none-outside}
 use borrow.Author.Needs.{needs}
 use Rattle.calls.proofs.withdraw.Statement.{statement}
@@ -20,7 +20,11 @@ enum-known-k : tie.Need-enum-known-k
 enum-known-k c = search needs
 
 withdraw-at-requires : tie.Need-withdraw-at-requires
-withdraw-at-requires c κs = search needs
+withdraw-at-requires c κs =
+    let at-k = c .before in
+    let at-locate = at-k .before .before in
+    let at-start = at-locate .before in
+    (at-start .pre .0, place-code _ _ (read-place _ _ _ (at-start .fits .x) (at-start .fits .y) (at-locate .locate .ensures) ∙ at-k .k .given .1))
 
 returns : tie.Need-returns
 returns c =

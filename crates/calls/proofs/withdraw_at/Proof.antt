@@ -20,8 +20,8 @@ returns c =
     let at-if = c .before in
     let at-has = at-if .before in
     let at-start = at-has .before .before .before in
-    let p = at-start .pre in
-    refused-is _ p _ 9 (withdraw-none _ _ (sym (pin-there _ p _) ∙ sym (at-has .has .ensures) ∙ not-true _ (at-if .if1 .taken))) _ (c .refuse .ensures)
+    let p = at-start .pre .0 in
+    refused-is _ p _ 9 (withdraw-none _ _ (sym (pin-there _ p _ (at-start .pre .1)) ∙ sym (at-has .has .ensures) ∙ not-true _ (at-if .if1 .taken))) _ (c .refuse .ensures)
 
 remove-requires : tie.Need-remove-requires
 remove-requires c κs = search needs
@@ -32,7 +32,7 @@ returns-2 c =
     let at-has = at-if .before in
     let at-start = at-has .before .before .before in
     done-is _ _ _ _ (c .remove .ensures .0) (c .remove .ensures .1)
-    (withdraw-done _ _ (sym (pin-there _ (at-start .pre) _) ∙ sym (at-has .has .ensures) ∙ not-false _ (at-if .if1 .left)))
+    (withdraw-done _ _ (sym (pin-there _ (at-start .pre .0) _ (at-start .pre .1)) ∙ sym (at-has .has .ensures) ∙ not-false _ (at-if .if1 .left)))
 
 pub withdraw-at-spec : {M : Type 1} → statement M
 withdraw-at-spec =

@@ -5,7 +5,7 @@ use lib.ListN.{length}
 use borrow.Author.Needs.{needs}
 use Rattle.model.specs.Listing.{runLines}
 use Rattle.deck.proofs.Checking.{sound-few, sound-left, sound-pins, sound-steiner}
-use Rattle.listing.proofs.Decks.{held-few, held-coded, held-ended, held-edges}
+use Rattle.listing.proofs.Decks.{held-few, held-ended, held-edges}
 use Rattle.arrays.proofs.paste.Parts.{pasted-same}
 use Rattle.listing.proofs.write_runs.Statement.{statement}
 use Rattle.listing.proofs.write_runs.Tie as tie
@@ -47,9 +47,8 @@ run-lines-requires c κs =
     let size : length codes ≡ 128 = search needs in
     let w = at-union .union .ensures in
     let few = held-few d s _ codes (at-union .union .result) w in
-    let coded = held-coded d s _ codes (at-union .union .result) w (omega (arith, few, size)) in
     let ended = held-ended d s _ codes (at-union .union .result) w (c .edges-of .result) (c .edges-of .ensures) (omega (arith, few, size)) in
-    (omega (arith, few, c .edges-of .ensures), (coded, ended))
+    (omega (arith, few, c .edges-of .ensures), (omega (arith, few, size), ended))
 
 same-length : tie.Need-same-length
 same-length c = search needs

@@ -1,8 +1,7 @@
--- `listing::write_taps` meets its contract: the Steiner points of a sound deck are codes.
+-- `listing::write_taps` meets its contract: a sound deck has few Steiner points.
 use native.Mathlib.Omega.{arith}
 use borrow.Author.Needs.{needs}
 use Rattle.deck.proofs.Checking.{sound-left, sound-steiner}
-use Rattle.listing.proofs.Decks.{coded}
 use Rattle.listing.proofs.write_taps.Statement.{statement}
 use Rattle.listing.proofs.write_taps.Tie as tie
 
@@ -13,7 +12,7 @@ tap-lines-requires : tie.Need-tap-lines-requires
 tap-lines-requires c κs =
     let at-start = c .before .before .before .before in
     let s = sound-steiner (at-start .args .d) (at-start .pre .1) in
-    (omega (arith, sound-left (at-start .args .d) (at-start .pre .1)), coded (at-start .args .d .steiner) (at-start .args .d .nsteiner) (omega (arith, s .few, s .size)) (s .codes))
+    (omega (arith, sound-left (at-start .args .d) (at-start .pre .1)), omega (arith, s .few, s .size))
 
 same-length : tie.Need-same-length
 same-length c = search needs

@@ -1,12 +1,10 @@
--- `plan::unpack` meets its contract. The invariant: the coordinates of the codes passed are stored.
+-- `plan::unpack` meets its contract. The invariant: the points of the codes passed are held.
 use Prim.Native.Nat.{_-_}
 use native.Mathlib.Omega.{arith}
 use borrow.Author.Needs.{needs}
-use Rattle.plan.proofs.Unpacking.{Unpacked, unpacked-none, unpacked-more, unpacked-end}
+use Rattle.plan.proofs.HeldPoints.{Unpacked, unpacked-none, unpacked-more}
 use Rattle.plan.proofs.unpack.Statement.{statement}
 use Rattle.plan.proofs.unpack.Tie as tie
-use Rattle.plan.proofs.unpack.Reads as reads
-use Rattle.plan.proofs.unpack.Lts as lts
 
 abbrev Inv-loop : tie.InvT-loop
 Inv-loop codes n xs₀ ys₀ i₀ xs ys i = Unpacked codes n xs₀ ys₀ xs ys i
@@ -23,8 +21,8 @@ mul-k c = search needs
 shared-slice-read-k : tie.Need-shared-slice-read-k Inv-loop μ-loop
 shared-slice-read-k c = search needs
 
-cast-xs : tie.Need-cast-xs Inv-loop μ-loop
-cast-xs c = search needs
+x-of-requires : tie.Need-x-of-requires Inv-loop μ-loop
+x-of-requires c κs = search needs
 
 mul-xs : tie.Need-mul-xs Inv-loop μ-loop
 mul-xs c = search needs
@@ -32,8 +30,8 @@ mul-xs c = search needs
 slice-write-xs : tie.Need-slice-write-xs Inv-loop μ-loop
 slice-write-xs c = search needs
 
-cast-ys : tie.Need-cast-ys Inv-loop μ-loop
-cast-ys c = search needs
+y-of-requires : tie.Need-y-of-requires Inv-loop μ-loop
+y-of-requires c κs = search needs
 
 mul-ys : tie.Need-mul-ys Inv-loop μ-loop
 mul-ys c = search needs
@@ -48,7 +46,9 @@ loop-less : tie.Need-loop-less Inv-loop μ-loop
 loop-less c = search needs
 
 loop-again : tie.Need-loop-again Inv-loop μ-loop
-loop-again c = unpacked-more _ _ _ _ _ _ _ (c .before .before .loop .inv) (omega arith) (omega arith) (omega arith)
+loop-again c =
+    let l = c .before .before .before .before .loop in
+    unpacked-more _ _ _ _ _ _ _ _ _ (l .inv) (omega arith) (omega arith) (omega arith) (c .before .x-of .ensures) (c .y-of .ensures)
 
 same-length : tie.Need-same-length Inv-loop μ-loop
 same-length c = c .before .loop .inv .sizeX
@@ -57,7 +57,7 @@ same-length-2 : tie.Need-same-length-2 Inv-loop μ-loop
 same-length-2 c = c .before .loop .inv .sizeY
 
 returns : tie.Need-returns Inv-loop μ-loop
-returns c = unpacked-end _ _ _ _ _ _ _ (c .before .loop .inv) (c .loop-test .left)
+returns c = λ i h. c .before .loop .inv .points i (omega arith)
 
 pub unpack-spec : {M : Type 1} → statement M
 unpack-spec =
@@ -68,10 +68,10 @@ unpack-spec =
     loop-holds
     mul-k
     shared-slice-read-k
-    cast-xs
+    x-of-requires
     mul-xs
     slice-write-xs
-    cast-ys
+    y-of-requires
     mul-ys
     slice-write-ys
     add-i

@@ -2,7 +2,7 @@
 use mathlib.Core.Path.{ap, _∙_}
 use Rattle.plane.specs.Point.{Point}
 use Rattle.plan.specs.Work.{stateOf}
-use Rattle.plan.proofs.Locating.{read-place, place-out, place-point}
+use Rattle.plan.proofs.Locating.{read-place, place-out, place-code, place-point}
 use Rattle.questions.specs.declared.Answer.the-variants.{Degree}
 use Rattle.questions.specs.Answers.{degreeAnswer}
 use Rattle.questions.proofs.Asking.{none-beyond}
@@ -20,7 +20,11 @@ enum-known-k : tie.Need-enum-known-k
 enum-known-k c = search needs
 
 degree-of-requires : tie.Need-degree-of-requires
-degree-of-requires c κs = search needs
+degree-of-requires c κs =
+    let at-k = c .before in
+    let at-locate = at-k .before .before in
+    let at-start = at-locate .before in
+    (at-start .pre .0, place-code _ _ (read-place _ _ _ (at-start .fits .x) (at-start .fits .y) (at-locate .locate .ensures) ∙ at-k .k .given .1))
 
 returns : tie.Need-returns
 returns c =

@@ -8,11 +8,6 @@ use Rattle.questions.proofs.Asking.{degree-none, degree-there}
 use borrow.Author.Needs.{needs}
 use Rattle.questions.proofs.degree_of.Statement.{statement}
 use Rattle.questions.proofs.degree_of.Tie as tie
-use Rattle.questions.proofs.degree_of.Reads as reads
-use Rattle.questions.proofs.degree_of.Lts as lts
-use Rattle.arrays.proofs.sorted.has.Reads as has-reads
-use Rattle.arrays.proofs.sorted.index_of.Reads as index-of-reads
-use Rattle.tree.proofs.list.degree_of.Reads as degree-of-reads
 
 slice-aggregate-has : tie.Need-slice-aggregate-has
 slice-aggregate-has c = search needs
@@ -20,10 +15,12 @@ slice-aggregate-has c = search needs
 has-requires : tie.Need-has-requires
 has-requires c κs =
     let h : length (c .before .before .before .args .w .codes) ≡ 128 = search needs in
-    omega (arith, c .before .before .before .pre .few, h)
+    omega (arith, c .before .before .before .pre .0 .few, h)
 
 returns : tie.Need-returns
-returns c = degree-none _ (c .before .before .before .before .before .pre) _ (sym (c .before .has .ensures) ∙ not-true _ (c .if1 .taken))
+returns c =
+    let q = c .before .before .before .before .before .pre in
+    degree-none _ (q .0) _ (q .1) (sym (c .before .has .ensures) ∙ not-true _ (c .if1 .taken))
 
 slice-aggregate-degree-of : tie.Need-slice-aggregate-degree-of
 slice-aggregate-degree-of c = search needs
@@ -34,17 +31,17 @@ slice-aggregate-index-of c = search needs
 index-of-requires : tie.Need-index-of-requires
 index-of-requires c κs =
     let h : length (c .before .before .before .before .before .before .before .args .w .codes) ≡ 128 = search needs in
-    omega (arith, c .before .before .before .before .before .before .before .pre .few, h)
+    omega (arith, c .before .before .before .before .before .before .before .pre .0 .few, h)
 
 degree-of-requires : tie.Need-degree-of-requires
 degree-of-requires c κs =
     let h : length (c .before .before .before .before .before .before .before .before .args .w .keys) ≡ 136 = search needs in
-    omega (arith, c .before .before .before .before .before .before .before .before .pre .keysFew, h)
+    omega (arith, c .before .before .before .before .before .before .before .before .pre .0 .keysFew, h)
 
 returns-2 : tie.Need-returns-2
 returns-2 c =
     let t = of-true (sym (c .before .before .before .before .before .has .ensures) ∙ not-false _ (c .before .before .before .before .if1 .left)) in
-    degree-there _ (c .before .before .before .before .before .before .before .before .before .pre) _ _ _ t (c .before .index-of .ensures) (c .degree-of .ensures)
+    degree-there _ (c .before .before .before .before .before .before .before .before .before .pre .0) _ _ _ t (c .before .index-of .ensures) (c .degree-of .ensures)
 
 pub degree-of-spec : {M : Type 1} → statement M
 degree-of-spec =

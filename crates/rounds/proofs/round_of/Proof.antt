@@ -1,5 +1,5 @@
 -- `rounds::round_of` meets its contract: the crossing found is the model's best candidate, and it joins as the model says.
-use mathlib.Core.Path.{refl, sym, ap, _∙_, subst₂}
+use mathlib.Core.Path.{_≡_, refl, sym, ap, _∙_, subst₂}
 use Prim.Native.Nat.{ℕ, _≤_}
 use native.Mathlib.Omega.{arith}
 use mir.Syntax.{w32}
@@ -7,17 +7,21 @@ use mir.ValLaws.{toZ-ofZ}
 use Rattle.model.specs.State.{State, points}
 use Rattle.model.specs.Tree.{treeLength}
 use Rattle.model.proofs.Candidate.{map-in}
-use Rattle.plan.specs.Code.{pointOf}
-use Rattle.rounds.proofs.OneRound.{steiner-room, next-stays, added-stays, step-stays, found-at, next-joins, added-joins, step-joins, joins-free, joins-shorter}
+use Rattle.plane.specs.Code.{pointOf}
+use Rattle.plan.specs.Work.{stateOf}
+use Rattle.rounds.proofs.OneRound.{Joins, steiner-room, next-stays, added-stays, step-stays, found-at, next-joins, added-joins, step-joins, joins-free, joins-shorter}
 use borrow.Author.Needs.{needs}
 use Rattle.rounds.proofs.round_of.Statement.{statement}
 use Rattle.rounds.proofs.round_of.Tie as tie
-use Rattle.rounds.proofs.round_of.Reads as reads
-use Rattle.rounds.proofs.round_of.Lts as lts
-use Rattle.rounds.proofs.best_of.Reads as best-of-reads
-use Rattle.rounds.proofs.length_of.Reads as length-of-reads
-use Rattle.plan.proofs.change.with_steiner.Reads as with-steiner-reads
-use Rattle.plane.proofs.to_signed.Reads as to-signed-reads
+
+-- The crossing found, once its coordinates are packed.
+abbrev start : tie.After-pack → tie.Start
+start c = c .before .before .before .before .before
+
+joined : (c : tie.After-pack) → let at = c .before .before .u .given .0 in Joins (stateOf (start c .args .w)) (at .0) (at .1 .0) (c .pack .result)
+joined c =
+    let at-u = c .before .before in
+    found-at _ (start c .pre .1) _ _ _ (c .pack .ensures .0) (sym (at-u .before .before .best-of .ensures) ∙ at-u .u .given .1)
 
 best-of-requires : tie.Need-best-of-requires
 best-of-requires c κs = search needs
@@ -28,24 +32,15 @@ enum-told c = search needs
 enum-known-u : tie.Need-enum-known-u
 enum-known-u c = search needs
 
-cast-with-steiner : tie.Need-cast-with-steiner
-cast-with-steiner c = search needs
-
-mul-with-steiner : tie.Need-mul-with-steiner
-mul-with-steiner c = search needs
-
-cast-with-steiner-2 : tie.Need-cast-with-steiner-2
-cast-with-steiner-2 c = search needs
-
-add-with-steiner : tie.Need-add-with-steiner
-add-with-steiner c = search needs
+pack-requires : tie.Need-pack-requires
+pack-requires c κs = search needs
 
 with-steiner-requires : tie.Need-with-steiner-requires
 with-steiner-requires c κs =
-    let w = c .before .before .before .before .args .w in
-    let q = c .before .before .before .before .pre in
-    let j = found-at _ (c .before .before .before .before .pre .1) _ _ (sym (c .before .before .before .best-of .ensures) ∙ c .before .u .given .1) in
-    (q .0, (j .isPlace, (omega (arith, steiner-room w (q .0) (q .1)), λ i. joins-free _ _ _ j (map-in pointOf _ _ .1 (_, i, refl)))))
+    let w = start c .args .w in
+    let q = start c .pre in
+    let j = joined c in
+    (q .0, (j .isPlace, (omega (arith, steiner-room w (q .0) (q .1)), λ i. joins-free _ _ _ _ j (map-in pointOf _ _ .1 (_, i, refl)))))
 
 length-of-requires : tie.Need-length-of-requires
 length-of-requires c κs = search needs
@@ -55,9 +50,10 @@ length-of-requires-2 c κs = search needs
 
 sub-fall : tie.Need-sub-fall
 sub-fall c =
-    let q = c .before .before .before .before .before .before .before .pre in
-    let j = found-at _ (c .before .before .before .before .before .before .before .pre .1) _ _ (sym (c .before .before .before .before .before .before .best-of .ensures) ∙ c .before .before .before .before .u .given .1) in
-    subst₂ (λ (a b : ℕ). a ≤ b) (sym (c .length-of2 .ensures ∙ ap (λ (z : State). treeLength (points z)) (c .before .before .with-steiner .ensures .1))) (sym (c .before .length-of .ensures)) (joins-shorter _ _ _ j (q .1))
+    let at-steiner = c .before .before in
+    let at-pack = at-steiner .before in
+    let after = c .length-of2 .ensures ∙ ap (λ (z : State). treeLength (points z)) (at-steiner .with-steiner .ensures .1) in
+    subst₂ (λ (a b : ℕ). a ≤ b) (sym after) (sym (c .before .length-of .ensures)) (joins-shorter _ _ _ _ (joined at-pack) (start at-pack .pre .1))
 
 to-signed-requires : tie.Need-to-signed-requires
 to-signed-requires c κs = search needs
@@ -72,13 +68,17 @@ returns c =
 
 returns-2 : tie.Need-returns-2
 returns-2 c =
-    let j = found-at _ (c .before .before .before .before .before .before .before .before .before .pre .1) _ _ (sym (c .before .before .before .before .before .before .before .before .best-of .ensures) ∙ c .before .before .before .before .before .before .u .given .1) in
-    let e = c .before .before .before .before .with-steiner .ensures .1 in
+    let at-length = c .before .before .before in
+    let at-steiner = at-length .before in
+    let j = joined (at-steiner .before) in
+    let e = at-steiner .with-steiner .ensures .1 in
+    let x = toZ-ofZ w32 _ (record { sfits = c .before .to-signed .ok }) ∙ c .before .to-signed .ensures in
+    let y = toZ-ofZ w32 _ (record { sfits = c .to-signed2 .ok }) ∙ c .to-signed2 .ensures in
     record {
-      planned = c .before .before .before .before .with-steiner .ensures .0;
-      next = next-joins _ _ _ j _ e;
-      added = added-joins _ _ _ j;
-      step = step-joins _ _ _ j _ _ _ _ _ e (toZ-ofZ w32 _ (record { sfits = c .before .to-signed .ok }) ∙ c .before .to-signed .ensures) (toZ-ofZ w32 _ (record { sfits = c .to-signed2 .ok }) ∙ c .to-signed2 .ensures) (c .before .before .before .length-of .ensures) (c .before .before .length-of2 .ensures);
+      planned = at-steiner .with-steiner .ensures .0;
+      next = next-joins _ _ _ _ j _ e;
+      added = added-joins _ _ _ _ j;
+      step = step-joins _ _ _ _ j _ _ _ _ _ e x y (at-length .length-of .ensures) (c .before .before .length-of2 .ensures);
     }
 
 pub round-of-spec : {M : Type 1} → statement M
@@ -88,10 +88,7 @@ round-of-spec =
     best-of-requires
     enum-told
     enum-known-u
-    cast-with-steiner
-    mul-with-steiner
-    cast-with-steiner-2
-    add-with-steiner
+    pack-requires
     with-steiner-requires
     length-of-requires
     length-of-requires-2

@@ -3,13 +3,10 @@ use Prim.Native.Nat.{_-_}
 use borrow.Author.Tests.{not-true, not-false}
 use native.Mathlib.Omega.{arith}
 use borrow.Author.Needs.{needs}
-use Rattle.plan.specs.Code.{isCode}
+use Rattle.plane.specs.Code.{isCode}
 use Rattle.arrays.proofs.sorted.Scan.{Passed, passed-none, passed-more, passed-fail, passed-end}
 use Rattle.deck.proofs.check.are_codes.Statement.{statement}
 use Rattle.deck.proofs.check.are_codes.Tie as tie
-use Rattle.deck.proofs.check.are_codes.Reads as reads
-use Rattle.deck.proofs.check.are_codes.Lts as lts
-use Rattle.deck.proofs.check.is_code.Reads as is-code-reads
 
 abbrev Inv-loop : tie.InvT-loop
 Inv-loop a n i₀ i = Passed isCode a n i

@@ -1,18 +1,23 @@
--- `listing::rows::point_fields` meets its contract.
+-- `listing::rows::point_fields` meets its contract: its two coordinates, each a field.
+use mathlib.Core.Path.{ap}
+use mathlib.Core.List.{List}
+use Prim.Native.Nat.{ℕ}
 use native.Mathlib.Omega.{arith}
 use borrow.Author.Needs.{needs}
-use Rattle.arrays.proofs.paste.Parts.{pasted-then}
+use Rattle.plane.specs.Coordinate.{coordinate}
+use Rattle.model.specs.Listing.{field, signedDecimal}
+use Rattle.arrays.proofs.paste.Parts.{pasted-then, pasted-same}
 use Rattle.listing.proofs.rows.point_fields.Statement.{statement}
 use Rattle.listing.proofs.rows.point_fields.Tie as tie
 
-cast-coordinate-field : tie.Need-cast-coordinate-field
-cast-coordinate-field c = search needs
+x-of-requires : tie.Need-x-of-requires
+x-of-requires c κs = search needs
 
 coordinate-field-requires : tie.Need-coordinate-field-requires
 coordinate-field-requires c κs = search needs
 
-cast-coordinate-field-2 : tie.Need-cast-coordinate-field-2
-cast-coordinate-field-2 c = search needs
+y-of-requires : tie.Need-y-of-requires
+y-of-requires c κs = search needs
 
 coordinate-field-requires-2 : tie.Need-coordinate-field-requires-2
 coordinate-field-requires-2 c κs = search needs
@@ -22,17 +27,21 @@ same-length c = search needs
 
 returns : tie.Need-returns
 returns c =
-    let at-coordinate-field2 = c .before .before in
-    let at-coordinate-field = at-coordinate-field2 .before .before .before .before in
-    (pasted-then (at-coordinate-field .coordinate-field .ensures .0) (omega arith) (at-coordinate-field2 .coordinate-field2 .ensures .0), omega arith)
+    let second = c .before .before in
+    let first = second .before .before .before .before .before in
+    let text : ℕ → List ℕ = λ u. field (signedDecimal (coordinate u)) in (
+      pasted-then (pasted-same (ap text (first .before .x-of .ensures)) (first .coordinate-field .ensures .0)) (omega arith)
+          (pasted-same (ap text (second .before .y-of .ensures)) (second .coordinate-field2 .ensures .0)),
+      omega arith,
+    )
 
 pub point-fields-spec : {M : Type 1} → statement M
 point-fields-spec =
     tie.close
     (tie.spec
-    cast-coordinate-field
+    x-of-requires
     coordinate-field-requires
-    cast-coordinate-field-2
+    y-of-requires
     coordinate-field-requires-2
     same-length
     returns)

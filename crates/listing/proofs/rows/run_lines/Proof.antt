@@ -29,36 +29,31 @@ mul-lo c =
     let at-loop-test = c .before in
     let at-loop = at-loop-test .before in
     let at-start = at-loop .before .before .before .before in
-    omega (arith, at-start .pre .1 .1 .low (at-loop .loop .i) (at-loop-test .loop-test .taken), at-start .pre .1 .0 .within)
+    omega (arith, at-start .pre .1 .1 .low (at-loop .loop .i) (at-loop-test .loop-test .taken), at-start .pre .1 .0)
 
 shared-slice-read-lo : tie.Need-shared-slice-read-lo Inv-loop μ-loop
 shared-slice-read-lo c =
     let at-loop-test = c .before .before in
     let at-loop = at-loop-test .before in
     let at-start = at-loop .before .before .before .before in
-    omega (arith, at-start .pre .1 .1 .low (at-loop .loop .i) (at-loop-test .loop-test .taken), at-start .pre .1 .0 .within)
+    omega (arith, at-start .pre .1 .1 .low (at-loop .loop .i) (at-loop-test .loop-test .taken), at-start .pre .1 .0)
 
 mul-hi : tie.Need-mul-hi Inv-loop μ-loop
 mul-hi c =
     let at-loop-test = c .before .before in
     let at-loop = at-loop-test .before in
     let at-start = at-loop .before .before .before .before in
-    omega (arith, at-start .pre .1 .1 .high (at-loop .loop .i) (at-loop-test .loop-test .taken), at-start .pre .1 .0 .within)
+    omega (arith, at-start .pre .1 .1 .high (at-loop .loop .i) (at-loop-test .loop-test .taken), at-start .pre .1 .0)
 
 shared-slice-read-hi : tie.Need-shared-slice-read-hi Inv-loop μ-loop
 shared-slice-read-hi c =
     let at-loop-test = c .before .before .before in
     let at-loop = at-loop-test .before in
     let at-start = at-loop .before .before .before .before in
-    omega (arith, at-start .pre .1 .1 .high (at-loop .loop .i) (at-loop-test .loop-test .taken), at-start .pre .1 .0 .within)
+    omega (arith, at-start .pre .1 .1 .high (at-loop .loop .i) (at-loop-test .loop-test .taken), at-start .pre .1 .0)
 
 run-line-requires : tie.Need-run-line-requires Inv-loop μ-loop
-run-line-requires c κs =
-    let at-loop-test = c .before .before .before .before in
-    let at-loop = at-loop-test .before in
-    let at-start = at-loop .before .before .before .before in
-    let p = at-start .pre .1 .0 in
-    (omega arith, (p .small _ (at-start .pre .1 .1 .low (at-loop .loop .i) (at-loop-test .loop-test .taken)), p .small _ (at-start .pre .1 .1 .high (at-loop .loop .i) (at-loop-test .loop-test .taken))))
+run-line-requires c κs = search needs
 
 add-i : tie.Need-add-i Inv-loop μ-loop
 add-i c = search needs

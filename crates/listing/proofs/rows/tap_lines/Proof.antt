@@ -23,7 +23,7 @@ shared-slice-read-tap-line : tie.Need-shared-slice-read-tap-line Inv-loop μ-loo
 shared-slice-read-tap-line c = search needs
 
 tap-line-requires : tie.Need-tap-line-requires Inv-loop μ-loop
-tap-line-requires c κs = (omega arith, c .before .before .before .before .before .before .pre .1 .small _ (c .before .before .loop-test .taken))
+tap-line-requires c κs = search needs
 
 add-i : tie.Need-add-i Inv-loop μ-loop
 add-i c = search needs
@@ -38,7 +38,7 @@ loop-again c =
     let at-loop = at-loop-test .before in
     let at-start = at-loop .before .before .before in
     first-more (tapText (at-start .args .codes .now)) 18 _ _ _ _ _ _ _ _ _ (at-loop .loop .inv) (at-loop-test .loop-test .taken)
-    (tap-more (at-start .args .codes .now) (at-loop .loop .i) (omega (arith, at-start .pre .1 .within, at-loop-test .loop-test .taken))) (omega arith)
+    (tap-more (at-start .args .codes .now) (at-loop .loop .i) (omega (arith, at-start .pre .1, at-loop-test .loop-test .taken))) (omega arith)
     (at-tap-line .tap-line .ensures .0) (at-tap-line .tap-line .ensures .1) (at-tap-line .tap-line .kept .0)
 
 same-length : tie.Need-same-length Inv-loop μ-loop

@@ -4,11 +4,6 @@ use Rattle.plan.proofs.Changing.{insert-arranged, insert-state}
 use borrow.Author.Needs.{needs}
 use Rattle.plan.proofs.change.insert.Statement.{statement}
 use Rattle.plan.proofs.change.insert.Tie as tie
-use Rattle.plan.proofs.change.insert.Reads as reads
-use Rattle.plan.proofs.change.insert.Lts as lts
-use Rattle.plan.proofs.prune.prune.Reads as prune-reads
-use Rattle.arrays.proofs.sorted.out.Reads as out-reads
-use Rattle.arrays.proofs.sorted.put.Reads as put-reads
 
 slice-aggregate-put : tie.Need-slice-aggregate-put
 slice-aggregate-put c = search needs
@@ -29,7 +24,11 @@ prune-requires c κs =
 
 returns : tie.Need-returns
 returns c =
-    (c .prune .ensures .0, c .prune .ensures .1 ∙ insert-state _ _ _ _ (c .before .before .before .before .before .before .before .before .before .pre .0 .arranged) _ _ _ _ _ (c .before .before .before .before .before .put .ensures) (c .before .before .out .ensures))
+    let at-out = c .before .before in
+    let at-put = at-out .before .before .before in
+    let q = at-put .before .before .before .before .pre in
+    let moved = insert-state _ _ _ _ (q .0 .arranged) _ _ _ _ _ (q .1 .0) (at-put .put .ensures) (at-out .out .ensures) in
+    (c .prune .ensures .0, c .prune .ensures .1 ∙ moved)
 
 pub insert-spec : {M : Type 1} → statement M
 insert-spec =

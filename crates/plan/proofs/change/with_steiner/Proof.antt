@@ -4,10 +4,6 @@ use Rattle.plan.proofs.Changing.{steiner-arranged, steiner-state}
 use borrow.Author.Needs.{needs}
 use Rattle.plan.proofs.change.with_steiner.Statement.{statement}
 use Rattle.plan.proofs.change.with_steiner.Tie as tie
-use Rattle.plan.proofs.change.with_steiner.Reads as reads
-use Rattle.plan.proofs.change.with_steiner.Lts as lts
-use Rattle.plan.proofs.prune.prune.Reads as prune-reads
-use Rattle.arrays.proofs.sorted.put.Reads as put-reads
 
 slice-aggregate-put : tie.Need-slice-aggregate-put
 slice-aggregate-put c = search needs
@@ -22,7 +18,9 @@ prune-requires c κs =
 
 returns : tie.Need-returns
 returns c =
-    (c .prune .ensures .0, c .prune .ensures .1 ∙ steiner-state _ _ _ _ (c .before .before .before .before .before .before .pre .0 .arranged) _ _ _ (c .before .before .put .ensures))
+    let at-put = c .before .before in
+    let q = at-put .before .before .before .before .pre in
+    (c .prune .ensures .0, c .prune .ensures .1 ∙ steiner-state _ _ _ _ (q .0 .arranged) _ _ _ (q .1 .0) (at-put .put .ensures))
 
 pub with-steiner-spec : {M : Type 1} → statement M
 with-steiner-spec = tie.close (tie.spec slice-aggregate-put put-requires prune-requires returns)

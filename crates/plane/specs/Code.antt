@@ -1,0 +1,29 @@
+-- Points as single numbers.
+use mathlib.Core.Bool.{Bool, _&&_}
+use Prim.Native.Nat.{ℕ, _+_, _*_, _/_, _%_}
+use lib.Dec.{leb}
+use Rattle.plane.specs.Point.{Point}
+use Rattle.plane.specs.Coordinate.{base, storedLimit, biased}
+use Rattle.plane.specs.Stored.{pointAt}
+
+-- Two stored coordinates in one number, and each of them out of it. What the number holds above both does not count.
+abbrev pub packed : ℕ → ℕ → ℕ
+packed x y = x * base + y
+
+abbrev pub xOf : ℕ → ℕ
+xOf k = k / base % base
+
+abbrev pub yOf : ℕ → ℕ
+yOf k = k % base
+
+-- The code of a point in range: of two points the lower has the smaller code.
+unfoldable pub code : Point → ℕ
+code p = packed (biased (p .x)) (biased (p .y))
+
+-- The point of a code.
+abbrev pub pointOf : ℕ → Point
+pointOf k = pointAt (xOf k) (yOf k)
+
+-- Whether a number is the code of a point in range.
+abbrev pub isCode : ℕ → Bool
+isCode k = leb (k / base) storedLimit && leb (k % base) storedLimit
