@@ -1,7 +1,9 @@
 # run: the listing of a sample deck. test: the gate; the last line is the verdict of the prover. tests: the tests alone, once the
-# prover has passed. library: the planner for C. programs: the programs in target/bin. bench: the time of a run to the end, by the
-# planner and by others. table_1: the averages of document 004's Table 1. fuzz: files changed at random, to the planner for C.
-.PHONY: run test tests reference_tests compare_tests gate_tests bench table_1 reference programs entries library fuzz libfuzzer
+# prover has passed. library: the planner for C. replay_library: lists of calls for C. programs: the programs in target/bin. bench:
+# the time of a run to the end, by the planner and by others. table_1: the averages of document 004's Table 1. fuzz: files changed
+# at random, to the planner for C.
+.PHONY: run test tests reference_tests compare_tests gate_tests bench table_1 reference programs entries library replay_library fuzz \
+	libfuzzer
 
 SAMPLE = samples/example.deck
 
@@ -19,11 +21,16 @@ reference:
 library:
 	rt staticlib planner
 
+# Lists of calls for C.
+replay_library:
+	rt staticlib replay
+
 # The proved functions as libraries for Rust. One after the other, since each looks through what is proved already.
 entries:
 	rt staticlib tree_entries
 	rt staticlib deck_entries
 	rt staticlib planner
+	rt staticlib replay
 
 # The prover over every crate, then the tests on what it proved.
 test:

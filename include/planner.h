@@ -21,10 +21,4 @@
  * pointer may be NULL where its length is 0. */
 size_t planner_plan(const uint8_t *file, size_t file_len, uint8_t *out, size_t out_len);
 
-/* Makes a list of calls on the deck of a file, or on an empty deck where file_len is 0, and writes the deck file that they leave
- * into out. A call is nine bytes: its kind (0 adds a pin, 1 withdraws one, 2 is a round, any other a run to the end), then x and
- * y, each as four bytes, little-endian, 2,147,483,648 higher than the number. Fewer than nine bytes at the end are no call. A call
- * that is refused leaves the deck. Returns as planner_plan does. */
-size_t planner_replay(const uint8_t *file, size_t file_len, const uint8_t *calls, size_t calls_len, uint8_t *out, size_t out_len);
-
 #endif

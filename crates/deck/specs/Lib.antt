@@ -1,5 +1,5 @@
 pub mod Calls
 pub mod Check
-pub mod Demand3
 pub mod Form
 pub mod Questions
+pub mod Session

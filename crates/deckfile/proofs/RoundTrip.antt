@@ -2,7 +2,7 @@
 use mathlib.Core.Path.{_≡_, refl, sym, ap, _∙_, subst, subst⁻¹}
 use mathlib.Core.Logic.{_⊎_, inl, inr, ⊎-elim}
 use mathlib.Core.Bool.{Bool, true, false, not}
-use mathlib.Core.List.{List, _++_, List·Memᴰ·not-nil as not-nil}
+use mathlib.Core.List.{List, _++_}
 use Prim.Native.Nat.{ℕ, _+_, _-_, _≤_, _<_}
 use native.Mathlib.Omega.{arith}
 use lib.Dec.{T, not-T, leb, leb→le, eqb, eqb→eq}
@@ -10,13 +10,14 @@ use lib.ListN.{length, take, drop}
 use lib.Seq.{take-at}
 use Rattle.arrays.specs.Test.{if}
 use Rattle.arrays.proofs.Test.{and-parts}
-use Rattle.model.specs.State.{State, empty, Valid}
+use Rattle.model.specs.State.{State, empty}
 use Rattle.model.specs.File.{Read, deck, refusal, readFile, size, plain, sectionOf, runSection, fileOf}
 use Rattle.model.proofs.Bytes.{section-length}
 use Rattle.model.proofs.FileSize.{file-size}
 use Rattle.model.proofs.FileParts.{joined, joined-laid}
 use Rattle.model.proofs.FileValid.{file-valid}
 use Rattle.model.proofs.FileRoundTrip.{written-read, full-written-back}
+use Rattle.model.proofs.Session.{empty-valid}
 use Rattle.deck.specs.declared.Deck.{Deck}
 use Rattle.deck.specs.declared.Outcome.{Outcome}
 use Rattle.calls.specs.declared.Reply.the-variants as reply
@@ -30,22 +31,13 @@ use Rattle.deckfile.specs.RoundTrip.{ReadSound, SoundFits, WrittenRead, 
 use Rattle.deckfile.proofs.Listing.{pins-are, steiner-are, edges-long}
 use Rattle.deckfile.proofs.Writing.{write-fits}
 
--- An empty state is valid.
-none-valid : Valid empty
-none-valid =
-    record {
-      few = omega arith;
-      placed = record { pinsRange = λ p i. absurd (not-nil i); steinerRange = λ p i. absurd (not-nil i); pinsRise = tt; steinerRise = tt; apart = λ p i. absurd (not-nil i) };
-      branching = λ q i. absurd (not-nil i);
-    }
-
 pub read-sound : ReadSound
 unfolding outcomeOf
 read-sound b = go (readFile b) refl
   where
     go : (r : Read) → readFile b ≡ r → Sound (outcomeOf r .next)
     go (deck s) e = deck-sound s (file-valid b s e)
-    go (refusal n) e = deck-sound empty none-valid
+    go (refusal n) e = deck-sound empty empty-valid
 
 -- A deck read is that of the state read.
 pub record Shown (b : List ℕ) (d : Deck) : Type 0 where

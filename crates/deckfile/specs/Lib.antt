@@ -1,3 +1,4 @@
+pub mod Answer
 pub mod Reading
 pub mod RoundTrip
 pub mod Writing

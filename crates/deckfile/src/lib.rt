@@ -1,4 +1,5 @@
 // Deck files: reading one into a deck, and writing a deck into a buffer (document 01, "Deck file").
+pub mod answer;
 mod reader;
 mod writer;
 

@@ -13,18 +13,19 @@ use Rattle.model.specs.Call as call
 use Rattle.model.specs.Round.{finish}
 use Rattle.model.specs.File.{Read, deck, refusal, readFile}
 use Rattle.model.specs.Listing.{listing, refusedLine, listingOfFile}
-use Rattle.arrays.proofs.Test.{true-of}
+use Rattle.model.proofs.FileAnswer.{Possible, taken, refused, read-possible}
+use Rattle.model.proofs.Step.{step-valid}
 use Rattle.arrays.specs.Paste.{Pasted}
 use Rattle.deck.specs.declared.Deck.{Deck}
-use Rattle.deck.specs.Form.{deckOf, sound}
+use Rattle.deck.specs.Form.{deckOf}
 use Rattle.calls.specs.Changes.{refusalNumber}
 use Rattle.deck.specs.Calls.{called}
-use Rattle.deck.proofs.Forms.{state-deck, deck-sound, sound-is}
+use Rattle.deck.proofs.Forms.{state-deck}
+use Rattle.deck.proofs.Session.{valid-passes, next-valid}
 use Rattle.deckfile.specs.Reading.{outcomeOf, reading}
 use Rattle.ascii.specs.Text.{fitting}
 use Rattle.listing.specs.Whole.{deckText}
 use Rattle.listing.proofs.Answering.{text-sound}
-use Rattle.planner.proofs.Serving.{Good, valid, number, read-good, end-valid, end-next}
 
 -- Nothing is within a slice.
 pub none-counted : (l : List ℕ) → Counts 0 l
@@ -54,15 +55,16 @@ printed-refusal b n e h = go (readFile b) refl e
     go (deck s) f q = absurd (h q)
     go (refusal k) f q = ap refusedLine q ∙ text-refused b k f
 
-pub printed-deck : (b : List ℕ) (n : ℕ) → n ≡ refusalNumber (reading b .reply) → n ≡ 0 → (d last : Deck) → d ≡ reading b .next → last ≡ called d call.runToEnd .next
-    → deckText last ≡ listingOfFile b
-unfolding refusalNumber outcomeOf
-printed-deck b n e z d last q is = go (readFile b) refl (read-good b) e q
+pub printed-deck : (b : List ℕ) (n : ℕ) → n ≡ refusalNumber (reading b .reply) → n ≡ 0 → (d last : Deck) → d ≡ reading b .next
+    → last ≡ called d call.runToEnd .next → deckText last ≡ listingOfFile b
+unfolding refusalNumber outcomeOf call.step
+printed-deck b n e z d last q is = go (readFile b) refl (read-possible b) e q
   where
-    go : (r : Read) → readFile b ≡ r → Good r → n ≡ refusalNumber (outcomeOf r .reply) → d ≡ outcomeOf r .next → deckText last ≡ listingOfFile b
-    go (deck s) f (valid v) p x =
-        let w = end-valid s v in
+    go : (r : Read) → readFile b ≡ r → Possible r → n ≡ refusalNumber (outcomeOf r .reply) → d ≡ outcomeOf r .next → deckText last ≡ listingOfFile b
+    go (deck s) f (taken v) p x =
+        let w = step-valid s call.runToEnd v in
         let at = finish s .final in
-        ap deckText (end-next d last is s v x) ∙ sym (text-sound (deckOf at) (true-of (sound (deckOf at)) (sound-is (deckOf at) .1 (deck-sound at w))))
+        ap deckText (is ∙ ap (λ (y : Deck). called y call.runToEnd .next) x ∙ next-valid s v call.runToEnd)
+        ∙ sym (text-sound (deckOf at) (valid-passes at w))
         ∙ ap listing (state-deck at (w .placed)) ∙ text-deck b s f
-    go (refusal k) f (number h j) p x = absurd (omega (arith, p, z, h))
+    go (refusal k) f (refused h j) p x = absurd (omega (arith, p, z, h))

@@ -17,7 +17,7 @@ use Rattle.plane.proofs.Range.{dist-range}
 use Rattle.arrays.specs.Set.{put}
 use Rattle.model.specs.Tree.{mst, treeLength}
 use Rattle.model.specs.State.{State, points, Valid}
-use Rattle.model.specs.Demand3.{mostPoints, longestTree}
+use Rattle.model.specs.Session.{mostPoints, longestTree}
 use Rattle.arrays.proofs.Set.{put-in, put-sorted, put-length, union-length}
 use Rattle.model.proofs.Tree.{mst-run-tree}
 use Rattle.model.proofs.Prune.{points-in, points-rise, few-steiner}

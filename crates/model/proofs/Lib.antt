@@ -5,7 +5,7 @@ pub mod Candidate
 pub mod Choice
 pub mod Cover
 pub mod Decks
-pub mod Demand3
+pub mod FileAnswer
 pub mod FileParts
 pub mod FileRoundTrip
 pub mod FileSize
@@ -17,6 +17,7 @@ pub mod Refusal
 pub mod Removal
 pub mod Replace
 pub mod Round
+pub mod Session
 pub mod Step
 pub mod Sweep
 pub mod Tree

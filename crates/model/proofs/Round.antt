@@ -21,7 +21,7 @@ use Rattle.model.specs.State.{State, points, Placed, Valid, prune}
 use Rattle.model.specs.Round.{RoundAnswer, finished, tap, RoundResult, withSteiner, round, Ended, roundsFrom, finish}
 use Rattle.model.specs.Choice.{Candidate}
 use Rattle.model.specs.Question.{lengthOfState}
-use Rattle.model.specs.Demand3.{RoundsTo, ended, added, NoShorter}
+use Rattle.model.specs.Session.{RoundsTo, ended, added, NoShorter}
 use Rattle.arrays.proofs.Set.{put-in, put-sorted}
 use Rattle.model.proofs.Tree.{mst-run-tree, tree-members}
 use Rattle.model.proofs.Prune.{points-in, points-rise, prune-leaves, prune-valid}

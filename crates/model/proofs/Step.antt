@@ -11,7 +11,7 @@ use Rattle.plane.specs.Point.{Point, inRange, lower}
 use Rattle.plane.proofs.Order.{lower-order}
 use Rattle.arrays.specs.Set.{put, out}
 use Rattle.model.specs.State.{State, Valid, insert, remove, maxPins}
-use Rattle.model.specs.Call.{addChecks, withdrawChecks, insertRefusal, removeRefusal, Call, add, withdraw, oneRound, runToEnd, unless, step, after}
+use Rattle.model.specs.Call.{addChecks, withdrawChecks, insertRefusal, removeRefusal, Call, add, withdraw, oneRound, runToEnd, unless, step, stateAfter}
 use Rattle.arrays.proofs.Set.{put-in, put-sorted, put-length, out-in, out-sorted, out-length, has-in, has-not}
 use Rattle.model.proofs.Prune.{prune-valid}
 use Rattle.model.proofs.Refusal.{all-passed}
@@ -70,7 +70,7 @@ step-valid s (withdraw p) v =
 step-valid s oneRound v = round-valid s v
 step-valid s runToEnd v = rounds-valid (finish-rounds s v .0) v
 
-pub after-valid : (calls : List Call) (s : State) → Valid s → Valid (after s calls)
-unfolding after
+pub after-valid : (calls : List Call) (s : State) → Valid s → Valid (stateAfter s calls)
+unfolding stateAfter
 after-valid [] s v = v
 after-valid (c ∷ cs) s v = after-valid cs (step s c .next) (step-valid s c v)

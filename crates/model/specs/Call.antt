@@ -65,6 +65,6 @@ step s oneRound = let r = round s in record { next = r .next; reply = answered (
 step s runToEnd = let e = finish s in record { next = e .final; reply = rounds (e .count) }
 
 -- "each call in turn changes these two sets as said above": the state after a list of calls.
-unfoldable pub after : State → List Call → State
-after s [] = s
-after s (c ∷ cs) = after (step s c .next) cs
+unfoldable pub stateAfter : State → List Call → State
+stateAfter s [] = s
+stateAfter s (c ∷ cs) = stateAfter (step s c .next) cs

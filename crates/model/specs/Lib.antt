@@ -2,7 +2,6 @@ pub mod Call
 pub mod CallRefusal
 pub mod Choice
 pub mod Decks
-pub mod Demand3
 pub mod Example
 pub mod File
 pub mod Joining
@@ -10,6 +9,7 @@ pub mod Listing
 pub mod Question
 pub mod Refusal
 pub mod Round
+pub mod Session
 pub mod State
 pub mod Table
 pub mod TableFiles

@@ -1,4 +1,1 @@
-pub mod Calls
-pub mod Demands
 pub mod Entry
-pub mod Numbers

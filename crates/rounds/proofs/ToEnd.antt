@@ -6,9 +6,9 @@ use native.Mathlib.Omega.{arith}
 use Rattle.model.specs.State.{State, Valid}
 use Rattle.model.specs.Round.{RoundAnswer, finished, tap, round}
 use Rattle.model.specs.Question.{lengthOfState}
-use Rattle.model.specs.Demand3.{RoundsTo, ended, added}
+use Rattle.model.specs.Session.{RoundsTo, ended, added}
 use Rattle.model.proofs.Round.{round-valid, round-falls, finish-rounds}
-use Rattle.model.proofs.Demand3.{valid-kept}
+use Rattle.model.proofs.Session.{valid-session}
 use Rattle.plan.specs.declared.Plan.{Plan}
 use Rattle.plan.specs.Work as work
 use Rattle.rounds.specs.declared.Rounded.{Rounded}
@@ -42,7 +42,7 @@ running-start w t p v r =
       rounded = r;
       rest = λ k e x. subst (λ (n : ℕ). RoundsTo (work.stateOf w) n e) (omega arith) x;
       left = omega arith;
-      fits = valid-kept (work.stateOf w) v .length-fits;
+      fits = valid-session (work.stateOf w) v .length-fits;
     }
 
 module _ (w at : Plan) (t : Rounded) (count : ℕ) (run : Running w at t count) where

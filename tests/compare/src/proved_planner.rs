@@ -1,6 +1,6 @@
-//! The proved entries for C, as include/planner.h declares them. They take
-//! every input, so each wrapper is safe. Where a slice is empty, its pointer is
-//! null.
+//! The proved entries for C, as include/planner.h and include/replay.h declare
+//! them. They take every input, so each wrapper is safe. Where a slice is empty,
+//! its pointer is null.
 
 use std::ptr;
 
@@ -12,7 +12,7 @@ mod library {
             out: *mut u8,
             out_len: usize,
         ) -> usize;
-        pub fn planner_replay(
+        pub fn replay_calls(
             file: *const u8,
             file_len: usize,
             calls: *const u8,
@@ -50,7 +50,7 @@ pub fn plan(file: &[u8], out: &mut [u8]) -> usize {
 pub fn replay(file: &[u8], calls: &[u8], out: &mut [u8]) -> usize {
     // SAFETY: each pointer comes with the length of its slice.
     unsafe {
-        library::planner_replay(
+        library::replay_calls(
             start(file),
             file.len(),
             start(calls),

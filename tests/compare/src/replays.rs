@@ -1,4 +1,4 @@
-//! Lists of calls in bytes, as include/planner.h says, and what they leave.
+//! Lists of calls in bytes, as include/replay.h says, and what they leave.
 
 use crate::counted::Counted;
 use crate::plans::Expected;
@@ -7,62 +7,110 @@ use reference::file::{read, write};
 use reference::generate::{Place, Random};
 use reference::session::{call, Call, State};
 
-/// The bytes of a call.
-pub const SIZE: usize = 9;
+/// The bytes of a call: its number, three that are not looked at, x and y.
+pub const SIZE: usize = 12;
 
-/// What is added to a coordinate.
-const BIAS: i64 = 1 << 31;
+/// The ends of 32 bits.
+const LEAST: i64 = i32::MIN as i64;
+const MOST: i64 = i32::MAX as i64;
 
-/// The bytes of a kind and two coordinates.
-fn nine(kind: u8, x: i64, y: i64) -> [u8; SIZE] {
-    let mut bytes = [kind; SIZE];
-    for (place, z) in [(1, x), (5, y)] {
-        let number = u32::try_from(z + BIAS).expect("a coordinate of 32 bits");
-        bytes[place..place + 4].copy_from_slice(&number.to_le_bytes());
+/// The bytes of a number and two coordinates.
+fn twelve(number: u8, unused: [u8; 3], x: i64, y: i64) -> [u8; SIZE] {
+    let mut bytes = [0; SIZE];
+    bytes[0] = number;
+    bytes[1..4].copy_from_slice(&unused);
+    for (place, z) in [(4, x), (8, y)] {
+        let coordinate = i32::try_from(z).expect("a coordinate of 32 bits");
+        bytes[place..place + 4].copy_from_slice(&coordinate.to_le_bytes());
     }
     bytes
 }
 
+/// Bytes that are not looked at, often all zeros.
+fn any_unused(random: &mut Random) -> [u8; 3] {
+    match random.range(0, 2) {
+        0 => [0; 3],
+        _ => [(); 3].map(|()| random.draw() as u8),
+    }
+}
+
 /// A coordinate of any 32 bits, often near one of the limits.
 fn any_coordinate(random: &mut Random) -> i64 {
-    let near = random.pick(&[-BIAS, BIAS - 1, -30_001, -30_000, 0, 30_000, 30_001, 65_536]);
+    let near = random.pick(&[LEAST, MOST, -30_001, -30_000, 0, 30_000, 30_001, 65_536]);
     match random.range(0, 3) {
         0 => random.draw() as i32 as i64,
-        1 => (near + random.range(-2, 2)).clamp(-BIAS, BIAS - 1),
+        1 => (near + random.range(-2, 2)).clamp(LEAST, MOST),
         _ => random.range(-4, 4),
     }
 }
 
-/// The bytes of a call. A round has any coordinates; a run to the end has them
-/// too, and any kind from 3 on.
-pub fn call_bytes(random: &mut Random, asked: Call) -> [u8; SIZE] {
+/// The bytes of a number, with any other bytes.
+pub fn numbered_bytes(random: &mut Random, number: u8) -> [u8; SIZE] {
     let (x, y) = (any_coordinate(random), any_coordinate(random));
-    let other = random.range(3, 255) as u8;
+    twelve(number, any_unused(random), x, y)
+}
+
+/// The bytes of a call. A round and a run to the end have any coordinates.
+pub fn call_bytes(random: &mut Random, asked: Call) -> [u8; SIZE] {
+    let unused = any_unused(random);
     match asked {
-        Call::Add(x, y) => nine(0, x, y),
-        Call::Withdraw(x, y) => nine(1, x, y),
-        Call::Round => nine(2, x, y),
-        Call::Finish => nine(random.pick(&[3, 4, 128, 255, other]), x, y),
+        Call::Add(x, y) => twelve(0, unused, x, y),
+        Call::Withdraw(x, y) => twelve(1, unused, x, y),
+        Call::Round => numbered_bytes(random, 2),
+        Call::Finish => numbered_bytes(random, 3),
     }
 }
 
-/// A call of any kind and any coordinates.
+/// The bytes of no call: any number from 4 on, those that may be settled later
+/// and the last one often.
+pub fn no_call_bytes(random: &mut Random) -> [u8; SIZE] {
+    let other = random.range(4, 255) as u8;
+    let number = random.pick(&[4, 5, 255, other]);
+    numbered_bytes(random, number)
+}
+
+/// A call of any number and any coordinates, or no call.
 pub fn any_call_bytes(random: &mut Random) -> [u8; SIZE] {
-    let other = random.draw() as u8;
-    let kind = random.pick(&[0, 0, 0, 1, 1, 2, 3, other]);
-    nine(kind, any_coordinate(random), any_coordinate(random))
+    match random.range(0, 3) {
+        0 => no_call_bytes(random),
+        _ => {
+            let number = random.pick(&[0, 0, 0, 1, 1, 2, 3, 3]);
+            numbered_bytes(random, number)
+        }
+    }
+}
+
+/// The call in twelve bytes, if there is one.
+fn call_of(twelve: &[u8]) -> Option<Call> {
+    let coordinate = |place: usize| {
+        let four = twelve[place..place + 4].try_into().unwrap();
+        i32::from_le_bytes(four) as i64
+    };
+    let (x, y) = (coordinate(4), coordinate(8));
+    match twelve[0] {
+        0 => Some(Call::Add(x, y)),
+        1 => Some(Call::Withdraw(x, y)),
+        2 => Some(Call::Round),
+        3 => Some(Call::Finish),
+        _ => None,
+    }
 }
 
 /// The calls of a list in bytes.
 pub fn calls_of(bytes: &[u8]) -> Vec<Call> {
-    let number = |four: &[u8]| u32::from_le_bytes(four.try_into().unwrap()) as i64 - BIAS;
-    let one = |nine: &[u8]| match (nine[0], number(&nine[1..5]), number(&nine[5..9])) {
-        (0, x, y) => Call::Add(x, y),
-        (1, x, y) => Call::Withdraw(x, y),
-        (2, _, _) => Call::Round,
-        _ => Call::Finish,
-    };
-    bytes.chunks_exact(SIZE).map(one).collect()
+    bytes.chunks_exact(SIZE).filter_map(call_of).collect()
+}
+
+/// A list with zeros in the bytes that are not looked at.
+pub fn with_zeros(bytes: &[u8]) -> Vec<u8> {
+    let mut zeroed = bytes.to_vec();
+    for twelve in zeroed.chunks_exact_mut(SIZE) {
+        twelve[1..4].fill(0);
+        if twelve[0] >= 2 {
+            twelve[4..].fill(0);
+        }
+    }
+    zeroed
 }
 
 /// What the reference leaves after calls on the deck of a file, or on an empty
@@ -80,8 +128,8 @@ pub fn replayed(file: &[u8], calls: &[u8], counted: &mut Counted) -> Expected {
     Ok(write(&state))
 }
 
-/// The bytes of a list of calls from a state, and the state that they leave by
-/// the reference.
+/// The bytes of a list of calls from a state, with no call here and there, and
+/// the state that they leave by the reference.
 pub fn some_list(
     random: &mut Random,
     place: &Place,
@@ -98,6 +146,9 @@ pub fn some_list(
         counted.reply(reply, &state);
         list.push(asked);
         bytes.extend(call_bytes(random, asked));
+        if random.once_in(5) {
+            bytes.extend(no_call_bytes(random));
+        }
     }
     counted.session(refused_before);
     assert_eq!(calls_of(&bytes), list);

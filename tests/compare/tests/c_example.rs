@@ -1,5 +1,6 @@
-//! The example in C: it builds with no warning, plans the samples as the
-//! reference does, and passes on the number of a refusal.
+//! The headers compile by themselves. The example in C builds with no warning,
+//! plans the samples as the reference does, and passes on the number of a
+//! refusal.
 
 use compare::plans::{planned, Expected};
 use compare::starts::comb;
@@ -52,6 +53,18 @@ fn run(program: &Path, file: &Path) -> Expected {
             Err(number as u8)
         }
         None => panic!("stopped by a signal"),
+    }
+}
+
+#[test]
+fn the_headers() {
+    for name in ["include/planner.h", "include/replay.h"] {
+        let compiled = Command::new("gcc")
+            .args(["-std=c11", "-Wall", "-Wextra", "-Werror"])
+            .args(["-fsyntax-only", "-x", "c"])
+            .arg(at(name))
+            .status();
+        assert!(compiled.expect("gcc").success(), "{name}");
     }
 }
 

@@ -5,7 +5,8 @@ use compare::counted::Counted;
 use compare::files::any_bytes;
 use compare::plans::{planned, Given, Seen};
 use compare::proved_planner::replay;
-use compare::replays::{any_call_bytes, call_bytes, replayed, some_list, SIZE};
+use compare::replays::{any_call_bytes, call_bytes, numbered_bytes};
+use compare::replays::{replayed, some_list, with_zeros, SIZE};
 use compare::sessions::Shape;
 use compare::starts::{comb, grid};
 use reference::damage::damaged;
@@ -56,13 +57,16 @@ fn same_replays(
     );
 }
 
-/// The list in two parts, the second on the file that the first leaves.
-fn same_in_parts(random: &mut Random, file: &[u8], calls: &[u8], last: &State) {
+/// The list with zeros in its unused bytes, and in two parts, the second on the
+/// file that the first leaves.
+fn same_otherwise(random: &mut Random, file: &[u8], calls: &[u8], last: &State) {
     let place = SIZE * random.range(0, (calls.len() / SIZE) as i64) as usize;
     let (mut first, mut second) = ([0; LONGEST], [0; LONGEST]);
     let length = replay(file, &calls[..place], &mut first);
     let length = replay(&first[..length], &calls[place..], &mut second);
     assert_eq!(second[..length], write(last));
+    let length = replay(file, &with_zeros(calls), &mut first);
+    assert_eq!(first[..length], write(last));
 }
 
 /// Lists of a shape at places of every kind, `count` of each.
@@ -75,7 +79,7 @@ fn many(seed: u64, count: usize, shape: impl Fn(&mut Random) -> Shape) -> (Seen,
             let shape = shape(&mut random);
             let (file, from) = start(&mut random, &place, shape.calls / 2);
             let (calls, last) = some_list(&mut random, &place, &from, shape, &mut counted);
-            same_in_parts(&mut random, &file, &calls, &last);
+            same_otherwise(&mut random, &file, &calls, &last);
             same_replays(&mut random, &mut seen, &file, calls, &last);
         }
     }
@@ -106,7 +110,7 @@ fn short_lists() {
 
 #[test]
 fn long_lists() {
-    let (seen, counted) = many(73, 30, |random| {
+    let (seen, counted) = many(73, 40, |random| {
         let calls = random.range(17, 60) as usize;
         Shape {
             calls,
@@ -116,7 +120,7 @@ fn long_lists() {
         }
     });
     println!("long lists: {seen:?}\n{counted}");
-    assert_eq!(seen.given, 2 * 7 * 30);
+    assert_eq!(seen.given, 2 * 7 * 40);
     assert!(counted.calls > 6_000 && counted.most_pins > 30);
     assert!(counted.taps > 200 && counted.runs_that_add > 50);
 }
@@ -147,7 +151,7 @@ fn lists_on_full_decks() {
     assert!(counted.by_number[10] > 80 && counted.taps + counted.finished > 10);
 }
 
-/// Kinds and coordinates of all sorts, and no thought of what is on the deck.
+/// Numbers and coordinates of all sorts, and no thought of what is on the deck.
 #[test]
 fn any_lists() {
     let mut random = Random::new(75);
@@ -159,7 +163,7 @@ fn any_lists() {
         let mut calls: Vec<u8> = (0..count)
             .flat_map(|_| any_call_bytes(&mut random))
             .collect();
-        let ragged = random.range(0, 8) as usize;
+        let ragged = random.range(0, SIZE as i64 - 1) as usize;
         calls.extend(any_bytes(&mut random, ragged));
         let expected = replayed(&file, &calls, &mut counted);
         let calls = Some(&calls[..]);
@@ -200,6 +204,69 @@ fn limits_of_coordinates() {
     assert_eq!((counted.done, counted.by_number[8]), (9 + 8 + 1, 1));
     assert_eq!(counted.by_number[7], 2 * (144 - 9));
     assert_eq!(counted.by_number[9], 2 * 144 - 1);
+}
+
+/// A number that is not known does nothing, alone and between a call that
+/// leaves a pin and one that takes it away.
+#[test]
+fn unknown_numbers() {
+    let mut random = Random::new(80);
+    let mut seen = Seen::default();
+    for number in 4..=255 {
+        let place = Place::new(&mut random, Kind::Small);
+        let (file, state) = start(&mut random, &place, 6);
+        let expected = Ok(write(&state));
+        let unknown = numbered_bytes(&mut random, number);
+        let (x, y) = (random.range(-9, 9), random.range(20_000, 30_000));
+        let there = call_bytes(&mut random, Call::Add(x, y));
+        let back = call_bytes(&mut random, Call::Withdraw(x, y));
+        let between = [there, unknown, back].concat();
+        let without = replayed(&file, &[there, back].concat(), &mut Counted::default());
+        for (calls, expected) in [(&unknown[..], &expected), (&between, &without)] {
+            let calls = Some(calls);
+            seen.same(Given { file: &file, calls }, expected);
+        }
+    }
+    assert_eq!((seen.given, seen.written), (2 * 252, 4 * 252));
+}
+
+/// Fewer than twelve bytes are no call, whatever stands behind them.
+#[test]
+fn part_of_a_call() {
+    let mut random = Random::new(81);
+    let mut seen = Seen::default();
+    let one = write(&State::new(vec![Point::new(3, 4)], Vec::new()));
+    let empty = write(&State::default());
+    for asked in [Call::Add(7, 9), Call::Withdraw(3, 4)] {
+        let call = call_bytes(&mut random, asked);
+        for length in 0..SIZE {
+            for (file, left) in [(&[][..], &empty), (&one, &one)] {
+                let calls = Some(&call[..length]);
+                seen.same(Given { file, calls }, &Ok(left.clone()));
+            }
+        }
+    }
+    assert_eq!(seen.given, 4 * SIZE);
+}
+
+/// The form of a call, byte for byte: numbers from end to end of 32 bits.
+#[test]
+fn bytes_of_calls() {
+    let mut counted = Counted::default();
+    let mut seen = Seen::default();
+    let pin = [0x30, 0x75, 0, 0, 0xd0, 0x8a, 0xff, 0xff];
+    let least = [0, 0, 0, 0x80, 0xd0, 0x8a, 0xff, 0xff];
+    let most = [0x30, 0x75, 0, 0, 0xff, 0xff, 0xff, 0x7f];
+    let there = State::new(vec![Point::new(30_000, -30_000)], Vec::new());
+    let there = Ok(write(&there));
+    let none = Ok(write(&State::default()));
+    for (coordinates, left) in [(pin, there), (least, none.clone()), (most, none)] {
+        let calls = [&[0, 0, 0, 0][..], &coordinates].concat();
+        assert_eq!(replayed(&[], &calls, &mut counted), left);
+        let calls = Some(&calls[..]);
+        seen.same(Given { file: &[], calls }, &left);
+    }
+    assert_eq!((counted.done, counted.by_number[7]), (1, 2));
 }
 
 /// A file that is refused is refused whatever the calls are; so is a short one,

@@ -4,8 +4,6 @@ use Rattle.calls.specs.Changes.{refusalNumber}
 use borrow.Author.Needs.{needs}
 use Rattle.calls.proofs.refusal_number.Statement.{statement}
 use Rattle.calls.proofs.refusal_number.Tie as tie
-use Rattle.calls.proofs.refusal_number.Reads as reads
-use Rattle.calls.proofs.refusal_number.Lts as lts
 
 enum-told : tie.Need-enum-told
 enum-told c = search needs

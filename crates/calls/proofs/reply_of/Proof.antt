@@ -5,8 +5,6 @@ use Rattle.calls.proofs.Rounding.{read-tap}
 use borrow.Author.Needs.{needs}
 use Rattle.calls.proofs.reply_of.Statement.{statement}
 use Rattle.calls.proofs.reply_of.Tie as tie
-use Rattle.calls.proofs.reply_of.Reads as reads
-use Rattle.calls.proofs.reply_of.Lts as lts
 
 enum-told : tie.Need-enum-told
 enum-told c = search needs

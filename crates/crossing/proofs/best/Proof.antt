@@ -4,9 +4,6 @@ use Rattle.crossing.proofs.Preparing.{none-best}
 use borrow.Author.Needs.{needs}
 use Rattle.crossing.proofs.best.Statement.{statement}
 use Rattle.crossing.proofs.best.Tie as tie
-use Rattle.crossing.proofs.best.Reads as reads
-use Rattle.crossing.proofs.best.Lts as lts
-use Rattle.crossing.proofs.search_all.Reads as search-all-reads
 
 returns : tie.Need-returns
 returns c = none-best (c .before .before .before .before .args .xs .now) (c .before .before .before .before .args .ys .now) _ (c .if1 .taken)

@@ -7,14 +7,6 @@ use Rattle.crossing.proofs.Preparing.{lines-written, columns-written, r
 use borrow.Author.Needs.{needs}
 use Rattle.crossing.proofs.search_all.Statement.{statement}
 use Rattle.crossing.proofs.search_all.Tie as tie
-use Rattle.crossing.proofs.search_all.Reads as reads
-use Rattle.crossing.proofs.search_all.Lts as lts
-use Rattle.bottleneck.proofs.fill.Reads as fill-reads
-use Rattle.crossing.proofs.lines.Reads as lines-reads
-use Rattle.crossing.proofs.search.all_columns.Reads as all-columns-reads
-use Rattle.regions.proofs.rows.all_gaps.Reads as all-gaps-reads
-use Rattle.regions.proofs.rows.all_ranks.Reads as all-ranks-reads
-use Rattle.regions.proofs.rows.blank.Reads as blank-reads
 
 slice-aggregate-lines : tie.Need-slice-aggregate-lines
 slice-aggregate-lines c = search needs

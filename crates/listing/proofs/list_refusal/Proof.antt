@@ -3,9 +3,6 @@ use Rattle.ascii.proofs.Fitting.{front-none, front-put}
 use borrow.Author.Needs.{needs}
 use Rattle.listing.proofs.list_refusal.Statement.{statement}
 use Rattle.listing.proofs.list_refusal.Tie as tie
-use Rattle.listing.proofs.list_refusal.Reads as reads
-use Rattle.listing.proofs.list_refusal.Lts as lts
-use Rattle.listing.proofs.refused_line.Reads as refused-line-reads
 
 returns : tie.Need-returns
 returns c = front-none 128 _ _ (c .if1 .taken)

@@ -6,11 +6,6 @@ use Rattle.arrays.proofs.paste.Parts.{front-count}
 use borrow.Author.Needs.{needs}
 use Rattle.plan.proofs.arrange.Statement.{statement}
 use Rattle.plan.proofs.arrange.Tie as tie
-use Rattle.plan.proofs.arrange.Reads as reads
-use Rattle.plan.proofs.arrange.Lts as lts
-use Rattle.plan.proofs.unpack.Reads as unpack-reads
-use Rattle.arrays.proofs.sorted.union.Reads as union-reads
-use Rattle.tree.proofs.build.build.Reads as build-reads
 
 slice-aggregate-union : tie.Need-slice-aggregate-union
 slice-aggregate-union c = search needs

@@ -6,10 +6,6 @@ use Rattle.questions.proofs.Asking.{edge-is}
 use borrow.Author.Needs.{needs}
 use Rattle.questions.proofs.edge_between.Statement.{statement}
 use Rattle.questions.proofs.edge_between.Tie as tie
-use Rattle.questions.proofs.edge_between.Reads as reads
-use Rattle.questions.proofs.edge_between.Lts as lts
-use Rattle.plane.proofs.distance.Reads as distance-reads
-use Rattle.plane.proofs.to_signed.Reads as to-signed-reads
 
 mul-distance : tie.Need-mul-distance
 mul-distance c = search needs

@@ -3,9 +3,6 @@ use Rattle.ascii.proofs.Fitting.{front-none, front-put}
 use borrow.Author.Needs.{needs}
 use Rattle.replies.proofs.error_line.Statement.{statement}
 use Rattle.replies.proofs.error_line.Tie as tie
-use Rattle.replies.proofs.error_line.Reads as reads
-use Rattle.replies.proofs.error_line.Lts as lts
-use Rattle.arrays.proofs.paste.put_bytes.Reads as word-reads
 
 returns : tie.Need-returns
 returns c = front-none 128 _ _ (c .if1 .taken)

@@ -5,9 +5,6 @@ use Rattle.rounds.proofs.Searching.{given, best-is}
 use borrow.Author.Needs.{needs}
 use Rattle.rounds.proofs.best_of.Statement.{statement}
 use Rattle.rounds.proofs.best_of.Tie as tie
-use Rattle.rounds.proofs.best_of.Reads as reads
-use Rattle.rounds.proofs.best_of.Lts as lts
-use Rattle.crossing.proofs.best.Reads as best-reads
 
 slice-aggregate-best : tie.Need-slice-aggregate-best
 slice-aggregate-best c = search needs

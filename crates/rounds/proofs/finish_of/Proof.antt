@@ -8,9 +8,6 @@ use Rattle.plan.specs.Work as work
 use Rattle.rounds.proofs.ToEnd.{Running, running-start, running-less, running-fits, running-next, running-more, running-end}
 use Rattle.rounds.proofs.finish_of.Statement.{statement}
 use Rattle.rounds.proofs.finish_of.Tie as tie
-use Rattle.rounds.proofs.finish_of.Reads as reads
-use Rattle.rounds.proofs.finish_of.Lts as lts
-use Rattle.rounds.proofs.round_of.Reads as round-of-reads
 
 abbrev Inv-loop : tie.InvT-loop
 Inv-loop at₀ count₀ last₀ more₀ at count last more = Running at₀ at last count × (more ≡ last .added)

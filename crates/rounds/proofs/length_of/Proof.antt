@@ -6,9 +6,6 @@ use Rattle.rounds.proofs.Searching.{length-is}
 use borrow.Author.Needs.{needs}
 use Rattle.rounds.proofs.length_of.Statement.{statement}
 use Rattle.rounds.proofs.length_of.Tie as tie
-use Rattle.rounds.proofs.length_of.Reads as reads
-use Rattle.rounds.proofs.length_of.Lts as lts
-use Rattle.tree.proofs.list.total_of.Reads as total-of-reads
 
 slice-aggregate-total-of : tie.Need-slice-aggregate-total-of
 slice-aggregate-total-of c = search needs

@@ -5,12 +5,6 @@ use Rattle.arrays.proofs.paste.Parts.{pasted-then}
 use borrow.Author.Needs.{needs}
 use Rattle.ascii.proofs.encode.file_line.Statement.{statement}
 use Rattle.ascii.proofs.encode.file_line.Tie as tie
-use Rattle.ascii.proofs.encode.file_line.Reads as reads
-use Rattle.ascii.proofs.encode.file_line.Lts as lts
-use Rattle.ascii.proofs.encode.pairs.Reads as pairs-reads
-use Rattle.arrays.proofs.paste.put_byte.Reads as byte-reads
-use Rattle.ascii.proofs.decimal_field.Reads as decimal-field-reads
-use Rattle.arrays.proofs.paste.put_bytes.Reads as word-reads
 
 returns : tie.Need-returns
 returns c = file-small (c .before .before .before .args .file .now) _ (c .if1 .taken)

@@ -4,9 +4,6 @@ use native.Mathlib.Omega.{arith}
 use Rattle.crossing.proofs.Steps.{InColumns, columns-none, columns-more, columns-end}
 use Rattle.crossing.proofs.search.all_columns.Statement.{statement}
 use Rattle.crossing.proofs.search.all_columns.Tie as tie
-use Rattle.crossing.proofs.search.all_columns.Reads as reads
-use Rattle.crossing.proofs.search.all_columns.Lts as lts
-use Rattle.crossing.proofs.search.column.Reads as column-reads
 
 abbrev Inv-loop : tie.InvT-loop
 Inv-loop xs n table gaps ranks columns width rows count best₀ at₀ best at = InColumns xs n table gaps ranks columns width rows count best₀ best at

@@ -2,8 +2,6 @@
 use borrow.Author.Tests.{lt-ltb, le-ltb}
 use Rattle.crossing.proofs.search.better.Statement.{statement}
 use Rattle.crossing.proofs.search.better.Tie as tie
-use Rattle.crossing.proofs.search.better.Reads as reads
-use Rattle.crossing.proofs.search.better.Lts as lts
 
 returns : tie.Need-returns
 returns c = rw (lt-ltb _ _ (c .if1 .taken))

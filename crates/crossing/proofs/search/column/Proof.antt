@@ -6,11 +6,6 @@ use Rattle.crossing.proofs.Columns.{rows-margins, rows-spare}
 use borrow.Author.Needs.{needs}
 use Rattle.crossing.proofs.search.column.Statement.{statement}
 use Rattle.crossing.proofs.search.column.Tie as tie
-use Rattle.crossing.proofs.search.column.Reads as reads
-use Rattle.crossing.proofs.search.column.Lts as lts
-use Rattle.crossing.proofs.search.pick.Reads as pick-reads
-use Rattle.regions.proofs.nearest.nearest.Reads as nearest-reads
-use Rattle.regions.proofs.nearest.no_codes.Reads as no-codes-reads
 
 no-codes-requires : tie.Need-no-codes-requires
 no-codes-requires c κs = search needs

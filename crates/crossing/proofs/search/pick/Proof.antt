@@ -4,11 +4,6 @@ use native.Mathlib.Omega.{arith}
 use Rattle.crossing.proofs.Steps.{InColumn, column-none, column-more, column-end}
 use Rattle.crossing.proofs.search.pick.Statement.{statement}
 use Rattle.crossing.proofs.search.pick.Tie as tie
-use Rattle.crossing.proofs.search.pick.Reads as reads
-use Rattle.crossing.proofs.search.pick.Lts as lts
-use Rattle.crossing.proofs.search.better.Reads as better-reads
-use Rattle.score.proofs.gain.gain.Reads as gain-reads
-use Rattle.regions.proofs.nearest.code_of.Reads as code-of-reads
 
 abbrev Inv-loop : tie.InvT-loop
 Inv-loop table x rows count east west north south best₀ row₀ best row = InColumn table x rows count east west north south best₀ best row

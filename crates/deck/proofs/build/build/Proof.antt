@@ -6,11 +6,6 @@ use Rattle.deck.proofs.Pointing.{points-planned, points-state, built-no
 use borrow.Author.Needs.{needs}
 use Rattle.deck.proofs.build.build.Statement.{statement}
 use Rattle.deck.proofs.build.build.Tie as tie
-use Rattle.deck.proofs.build.build.Reads as reads
-use Rattle.deck.proofs.build.build.Lts as lts
-use Rattle.deck.proofs.Deck.empty.Reads as empty-reads
-use Rattle.deck.proofs.check.deck_of.Reads as deck-of-reads
-use Rattle.deck.proofs.check.plan_of.Reads as plan-of-reads
 
 plan-of-requires : tie.Need-plan-of-requires
 plan-of-requires c κs = search needs

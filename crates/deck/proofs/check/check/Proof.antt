@@ -7,12 +7,6 @@ use Rattle.deck.proofs.Pointing.{points-fail, points-planned, edges-fai
 use borrow.Author.Needs.{needs}
 use Rattle.deck.proofs.check.check.Statement.{statement}
 use Rattle.deck.proofs.check.check.Tie as tie
-use Rattle.deck.proofs.check.check.Reads as reads
-use Rattle.deck.proofs.check.check.Lts as lts
-use Rattle.deck.proofs.check.deck_of.Reads as deck-of-reads
-use Rattle.deck.proofs.check.has_ends.Reads as has-ends-reads
-use Rattle.deck.proofs.check.plan_of.Reads as plan-of-reads
-use Rattle.deck.proofs.check.unsound.Reads as unsound-reads
 
 plan-of-requires : tie.Need-plan-of-requires
 plan-of-requires c κs = search needs

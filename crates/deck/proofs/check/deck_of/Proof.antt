@@ -6,9 +6,6 @@ use Rattle.deck.proofs.FromPlan.{plan-deck}
 use borrow.Author.Needs.{needs}
 use Rattle.deck.proofs.check.deck_of.Statement.{statement}
 use Rattle.deck.proofs.check.deck_of.Tie as tie
-use Rattle.deck.proofs.check.deck_of.Reads as reads
-use Rattle.deck.proofs.check.deck_of.Lts as lts
-use Rattle.tree.proofs.list.listing.Reads as listing-reads
 
 slice-aggregate-listing : tie.Need-slice-aggregate-listing
 slice-aggregate-listing c = search needs

@@ -5,8 +5,6 @@ use lib.ListN.{length}
 use borrow.Author.Needs.{needs}
 use Rattle.deck.proofs.check.has_ends.Statement.{statement}
 use Rattle.deck.proofs.check.has_ends.Tie as tie
-use Rattle.deck.proofs.check.has_ends.Reads as reads
-use Rattle.deck.proofs.check.has_ends.Lts as lts
 
 slice-aggregate-same-numbers : tie.Need-slice-aggregate-same-numbers
 slice-aggregate-same-numbers c = search needs

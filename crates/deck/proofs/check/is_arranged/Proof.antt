@@ -7,10 +7,6 @@ use Rattle.arrays.proofs.Test.{and-no, and-yes}
 use borrow.Author.Needs.{needs}
 use Rattle.deck.proofs.check.is_arranged.Statement.{statement}
 use Rattle.deck.proofs.check.is_arranged.Tie as tie
-use Rattle.deck.proofs.check.is_arranged.Reads as reads
-use Rattle.deck.proofs.check.is_arranged.Lts as lts
-use Rattle.deck.proofs.check.is_ordered.Reads as is-ordered-reads
-use Rattle.arrays.proofs.sorted.none_in.Reads as none-in-reads
 
 returns : tie.Need-returns
 returns c = and-no _ _ (lt-leb _ _ (c .if1 .taken))

@@ -5,11 +5,6 @@ use Rattle.arrays.proofs.Test.{and-no, and-yes}
 use borrow.Author.Needs.{needs}
 use Rattle.deck.proofs.check.is_ordered.Statement.{statement}
 use Rattle.deck.proofs.check.is_ordered.Tie as tie
-use Rattle.deck.proofs.check.is_ordered.Reads as reads
-use Rattle.deck.proofs.check.is_ordered.Lts as lts
-use Rattle.deck.proofs.check.are_codes.Reads as are-codes-reads
-use Rattle.arrays.proofs.sorted.rises.Reads as rises-reads
-use Rattle.arrays.proofs.sorted.zeros_from.Reads as zeros-from-reads
 
 are-codes-requires : tie.Need-are-codes-requires
 are-codes-requires c κs = search needs

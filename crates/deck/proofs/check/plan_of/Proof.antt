@@ -12,12 +12,6 @@ use Rattle.deck.proofs.Pointing.{one-found, points-pass}
 use borrow.Author.Needs.{needs}
 use Rattle.deck.proofs.check.plan_of.Statement.{statement}
 use Rattle.deck.proofs.check.plan_of.Tie as tie
-use Rattle.deck.proofs.check.plan_of.Reads as reads
-use Rattle.deck.proofs.check.plan_of.Lts as lts
-use Rattle.deck.proofs.check.is_arranged.Reads as is-arranged-reads
-use Rattle.deck.proofs.check.unsound.Reads as unsound-reads
-use Rattle.plan.proofs.arrange.Reads as arrange-reads
-use Rattle.plan.proofs.prune.lowest_weak.Reads as lowest-weak-reads
 
 is-arranged-requires : tie.Need-is-arranged-requires
 is-arranged-requires c κs = search needs

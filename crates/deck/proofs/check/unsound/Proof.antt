@@ -3,9 +3,6 @@ use Rattle.deck.proofs.Checking.{none-arranged}
 use borrow.Author.Needs.{needs}
 use Rattle.deck.proofs.check.unsound.Statement.{statement}
 use Rattle.deck.proofs.check.unsound.Tie as tie
-use Rattle.deck.proofs.check.unsound.Reads as reads
-use Rattle.deck.proofs.check.unsound.Lts as lts
-use Rattle.plan.proofs.arrange.Reads as arrange-reads
 
 arrange-requires : tie.Need-arrange-requires
 arrange-requires c κs = none-arranged

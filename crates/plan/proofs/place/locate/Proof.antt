@@ -4,9 +4,6 @@ use Rattle.plan.proofs.Locating.{read-stored, x-out, y-out, both-in}
 use borrow.Author.Needs.{needs}
 use Rattle.plan.proofs.place.locate.Statement.{statement}
 use Rattle.plan.proofs.place.locate.Tie as tie
-use Rattle.plan.proofs.place.locate.Reads as reads
-use Rattle.plan.proofs.place.locate.Lts as lts
-use Rattle.plane.proofs.from_signed.Reads as from-signed-reads
 
 from-signed-requires : tie.Need-from-signed-requires
 from-signed-requires c κs = search needs

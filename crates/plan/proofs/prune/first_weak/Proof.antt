@@ -6,10 +6,6 @@ use lib.ListN.{take}
 use Rattle.plan.proofs.Weakness.{Strong, strong-none, strong-more, strong-found, strong-end}
 use Rattle.plan.proofs.prune.first_weak.Statement.{statement}
 use Rattle.plan.proofs.prune.first_weak.Tie as tie
-use Rattle.plan.proofs.prune.first_weak.Reads as reads
-use Rattle.plan.proofs.prune.first_weak.Lts as lts
-use Rattle.arrays.proofs.sorted.index_of.Reads as index-of-reads
-use Rattle.tree.proofs.list.degree_of.Reads as degree-of-reads
 
 abbrev Inv-loop : tie.InvT-loop
 Inv-loop codes n keys m steiner t j₀ j = Strong (take n codes) (take m keys) steiner t j

@@ -5,9 +5,6 @@ use lib.ListN.{length}
 use borrow.Author.Needs.{needs}
 use Rattle.plan.proofs.prune.lowest_weak.Statement.{statement}
 use Rattle.plan.proofs.prune.lowest_weak.Tie as tie
-use Rattle.plan.proofs.prune.lowest_weak.Reads as reads
-use Rattle.plan.proofs.prune.lowest_weak.Lts as lts
-use Rattle.plan.proofs.prune.first_weak.Reads as first-weak-reads
 
 slice-aggregate-first-weak : tie.Need-slice-aggregate-first-weak
 slice-aggregate-first-weak c = search needs

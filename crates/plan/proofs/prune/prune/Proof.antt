@@ -7,11 +7,6 @@ use lib.ListN.{length}
 use Rattle.plan.proofs.Sweeping.{Sweeping, sweeping-start, sweeping-arranged, sweeping-less, sweeping-more, sweeping-end}
 use Rattle.plan.proofs.prune.prune.Statement.{statement}
 use Rattle.plan.proofs.prune.prune.Tie as tie
-use Rattle.plan.proofs.prune.prune.Reads as reads
-use Rattle.plan.proofs.prune.prune.Lts as lts
-use Rattle.plan.proofs.arrange.Reads as arrange-reads
-use Rattle.plan.proofs.prune.lowest_weak.Reads as lowest-weak-reads
-use Rattle.arrays.proofs.sorted.out.Reads as out-reads
 
 abbrev Inv-loop : tie.InvT-loop
 Inv-loop pins npins nsteiner rest₀ t₀ w₀ j₀ rest t w j = Sweeping pins npins rest₀ t₀ rest t w j × (length rest ≡ 64) × (t ≤ 64)

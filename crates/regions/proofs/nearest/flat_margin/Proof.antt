@@ -4,9 +4,6 @@ use Rattle.regions.proofs.Laps.{flat-out, flat-in}
 use borrow.Author.Needs.{needs}
 use Rattle.regions.proofs.nearest.flat_margin.Statement.{statement}
 use Rattle.regions.proofs.nearest.flat_margin.Tie as tie
-use Rattle.regions.proofs.nearest.flat_margin.Reads as reads
-use Rattle.regions.proofs.nearest.flat_margin.Lts as lts
-use Rattle.regions.proofs.nearest.less.Reads as less-reads
 
 less-requires : tie.Need-less-requires
 less-requires c κs = search needs

@@ -6,10 +6,6 @@ use Rattle.regions.proofs.Regions.{turn-given, turned-west, turned-east
 use borrow.Author.Needs.{needs}
 use Rattle.regions.proofs.nearest.join_point.Statement.{statement}
 use Rattle.regions.proofs.nearest.join_point.Tie as tie
-use Rattle.regions.proofs.nearest.join_point.Reads as reads
-use Rattle.regions.proofs.nearest.join_point.Lts as lts
-use Rattle.plane.proofs.apart.Reads as apart-reads
-use Rattle.regions.proofs.nearest.turn.Reads as turn-reads
 
 mul-apart : tie.Need-mul-apart
 mul-apart c = search needs

@@ -5,11 +5,6 @@ use native.Mathlib.Omega.{arith}
 use Rattle.regions.proofs.Laps.{Lapping, lap-begin, lap-low, lap-more, lap-end}
 use Rattle.regions.proofs.nearest.lap.Statement.{statement}
 use Rattle.regions.proofs.nearest.lap.Tie as tie
-use Rattle.regions.proofs.nearest.lap.Reads as reads
-use Rattle.regions.proofs.nearest.lap.Lts as lts
-use Rattle.regions.proofs.nearest.flat_margin.Reads as flat-margin-reads
-use Rattle.regions.proofs.nearest.most.Reads as most-reads
-use Rattle.regions.proofs.nearest.steep_margin.Reads as steep-margin-reads
 
 abbrev Inv-loop : tie.InvT-loop
 Inv-loop gaps start from to ahead left steep₀ flat₀ r₀ steep flat r = Lapping gaps start from to ahead steep₀ flat₀ steep flat r

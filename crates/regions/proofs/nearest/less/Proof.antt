@@ -4,8 +4,6 @@ use borrow.Author.Tests.{lt-ltb}
 use borrow.Author.Needs.{needs}
 use Rattle.regions.proofs.nearest.less.Statement.{statement}
 use Rattle.regions.proofs.nearest.less.Tie as tie
-use Rattle.regions.proofs.nearest.less.Reads as reads
-use Rattle.regions.proofs.nearest.less.Lts as lts
 
 cast-result : tie.Need-cast-result
 cast-result c = search needs

@@ -5,9 +5,6 @@ use borrow.Author.Tests.{ltb-true, ltb-false}
 use borrow.Author.Needs.{needs}
 use Rattle.regions.proofs.nearest.most.Statement.{statement}
 use Rattle.regions.proofs.nearest.most.Tie as tie
-use Rattle.regions.proofs.nearest.most.Reads as reads
-use Rattle.regions.proofs.nearest.most.Lts as lts
-use Rattle.regions.proofs.nearest.less.Reads as less-reads
 
 less-requires : tie.Need-less-requires
 less-requires c κs = search needs

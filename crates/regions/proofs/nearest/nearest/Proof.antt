@@ -4,9 +4,6 @@ use native.Mathlib.Omega.{arith}
 use Rattle.regions.proofs.Regions.{Sought, sought-none, sought-given, sought-more, sought-end}
 use Rattle.regions.proofs.nearest.nearest.Statement.{statement}
 use Rattle.regions.proofs.nearest.nearest.Tie as tie
-use Rattle.regions.proofs.nearest.nearest.Reads as reads
-use Rattle.regions.proofs.nearest.nearest.Lts as lts
-use Rattle.regions.proofs.nearest.join_point.Reads as join-point-reads
 
 abbrev Inv-loop : tie.InvT-loop
 Inv-loop xs n gaps ranks count x east₀ west₀ north₀ south₀ j₀ east west north south j = Sought xs gaps ranks x n count east₀ west₀ north₀ south₀ east west north south j

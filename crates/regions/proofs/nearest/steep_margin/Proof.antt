@@ -4,9 +4,6 @@ use Rattle.regions.proofs.Laps.{steep-in, steep-out}
 use borrow.Author.Needs.{needs}
 use Rattle.regions.proofs.nearest.steep_margin.Statement.{statement}
 use Rattle.regions.proofs.nearest.steep_margin.Tie as tie
-use Rattle.regions.proofs.nearest.steep_margin.Reads as reads
-use Rattle.regions.proofs.nearest.steep_margin.Lts as lts
-use Rattle.regions.proofs.nearest.less.Reads as less-reads
 
 less-requires : tie.Need-less-requires
 less-requires c κs = search needs

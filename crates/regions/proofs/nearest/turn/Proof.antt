@@ -4,9 +4,6 @@ use Rattle.regions.proofs.Laps.{turn-first, turn-second, lapped-both}
 use borrow.Author.Needs.{needs}
 use Rattle.regions.proofs.nearest.turn.Statement.{statement}
 use Rattle.regions.proofs.nearest.turn.Tie as tie
-use Rattle.regions.proofs.nearest.turn.Reads as reads
-use Rattle.regions.proofs.nearest.turn.Lts as lts
-use Rattle.regions.proofs.nearest.lap.Reads as lap-reads
 
 lap-requires : tie.Need-lap-requires
 lap-requires c κs = turn-first (c .before .before .before .before .before .before .pre)

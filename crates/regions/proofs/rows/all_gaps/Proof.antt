@@ -5,9 +5,6 @@ use native.Mathlib.Omega.{arith}
 use Rattle.regions.proofs.Distances.{AllDone, all-none, all-more, all-end}
 use Rattle.regions.proofs.rows.all_gaps.Statement.{statement}
 use Rattle.regions.proofs.rows.all_gaps.Tie as tie
-use Rattle.regions.proofs.rows.all_gaps.Reads as reads
-use Rattle.regions.proofs.rows.all_gaps.Lts as lts
-use Rattle.regions.proofs.rows.row_gaps.Reads as row-gaps-reads
 
 abbrev Inv-loop : tie.InvT-loop
 Inv-loop ys n rows count gaps₀ j₀ gaps j = AllDone ys n rows count gaps₀ gaps j

@@ -4,9 +4,6 @@ use native.Mathlib.Omega.{arith}
 use Rattle.regions.proofs.Distances.{RanksDone, ranks-none, ranks-more, ranks-end}
 use Rattle.regions.proofs.rows.all_ranks.Statement.{statement}
 use Rattle.regions.proofs.rows.all_ranks.Tie as tie
-use Rattle.regions.proofs.rows.all_ranks.Reads as reads
-use Rattle.regions.proofs.rows.all_ranks.Lts as lts
-use Rattle.regions.proofs.rows.rank.Reads as rank-reads
 
 abbrev Inv-loop : tie.InvT-loop
 Inv-loop ys n rows count ranks₀ j₀ ranks j = RanksDone ys n rows count ranks₀ ranks j

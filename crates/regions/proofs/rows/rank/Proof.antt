@@ -4,8 +4,6 @@ use native.Mathlib.Omega.{arith}
 use Rattle.regions.proofs.Distances.{Below, below-none, below-more, ranked-here, ranked-end}
 use Rattle.regions.proofs.rows.rank.Statement.{statement}
 use Rattle.regions.proofs.rows.rank.Tie as tie
-use Rattle.regions.proofs.rows.rank.Reads as reads
-use Rattle.regions.proofs.rows.rank.Lts as lts
 
 abbrev Inv-loop : tie.InvT-loop
 Inv-loop rows count y r₀ r = Below rows count y r

@@ -5,9 +5,6 @@ use native.Mathlib.Omega.{arith}
 use Rattle.regions.proofs.Distances.{RowDone, row-none, row-more, row-end}
 use Rattle.regions.proofs.rows.row_gaps.Statement.{statement}
 use Rattle.regions.proofs.rows.row_gaps.Tie as tie
-use Rattle.regions.proofs.rows.row_gaps.Reads as reads
-use Rattle.regions.proofs.rows.row_gaps.Lts as lts
-use Rattle.plane.proofs.apart.Reads as apart-reads
 
 abbrev Inv-loop : tie.InvT-loop
 Inv-loop rows count y start gaps₀ r₀ gaps r = RowDone rows count y start gaps₀ gaps r

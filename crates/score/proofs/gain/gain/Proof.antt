@@ -4,10 +4,6 @@ use Rattle.score.proofs.Four.{four, least-small, gain-small}
 use borrow.Author.Needs.{needs}
 use Rattle.score.proofs.gain.gain.Statement.{statement}
 use Rattle.score.proofs.gain.gain.Tie as tie
-use Rattle.score.proofs.gain.gain.Reads as reads
-use Rattle.score.proofs.gain.gain.Lts as lts
-use Rattle.score.proofs.gain.over.Reads as over-reads
-use Rattle.score.proofs.gain.spared.Reads as spared-reads
 
 over-requires : tie.Need-over-requires
 over-requires c κs = search needs

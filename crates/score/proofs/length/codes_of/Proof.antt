@@ -4,11 +4,6 @@ use Rattle.score.proofs.Columns.{room-given, rows-none, row-codes}
 use borrow.Author.Needs.{needs}
 use Rattle.score.proofs.length.codes_of.Statement.{statement}
 use Rattle.score.proofs.length.codes_of.Tie as tie
-use Rattle.score.proofs.length.codes_of.Reads as reads
-use Rattle.score.proofs.length.codes_of.Lts as lts
-use Rattle.regions.proofs.nearest.code_of.Reads as code-of-reads
-use Rattle.regions.proofs.nearest.nearest.Reads as nearest-reads
-use Rattle.regions.proofs.nearest.no_codes.Reads as no-codes-reads
 
 no-codes-requires : tie.Need-no-codes-requires
 no-codes-requires c κs = search needs

@@ -10,12 +10,6 @@ use Rattle.tree.specs.Keys.{key, tab, leastKey, octantKeys}
 use Rattle.tree.proofs.OctantKeys.{turn-here, turn-past}
 use Rattle.tree.proofs.nearest.nearest.Statement.{statement}
 use Rattle.tree.proofs.nearest.nearest.Tie as tie
-use Rattle.tree.proofs.nearest.nearest.Reads as reads
-use Rattle.tree.proofs.nearest.nearest.Lts as lts
-use Rattle.plane.proofs.distance.Reads as distance-reads
-use Rattle.plane.proofs.octants.octant_between.Reads as octant-between-reads
-use Rattle.tree.proofs.nearest.key.Reads as key-reads
-use Rattle.tree.proofs.nearest.least.Reads as least-reads
 
 abbrev Inv-loop : tie.InvT-loop
 Inv-loop xs ys n x y best₀ j₀ best j = (j ≤ n) × (best ≡ tab (λ (o : ℕ). leastKey (held xs ys) (pointAt x y) n o j) 8)

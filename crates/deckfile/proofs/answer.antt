@@ -1,0 +1,2 @@
+-- What the entries of other crates share: laws on what they answer.
+pub mod Entry

@@ -1,0 +1,110 @@
+-- What an entry answers: the refusal of the file, or what writing the deck after the calls answers. A deck that is read is that of
+-- a valid state, calls lead on to such a deck (`after-deck`), and writing it is the model's.
+use mathlib.Core.Path.{_≡_, refl, sym, ap, ap₂, _∙_, subst⁻¹}
+use mathlib.Core.Bool.{Bool, true, false}
+use mathlib.Core.List.{List, _++_}
+use Prim.Native.Nat.{ℕ, _≤_, _<_}
+use native.Mathlib.Omega.{arith}
+use lib.Dec.{leb}
+use lib.ListN.{length, drop}
+use borrow.Author.Tests.{le-leb}
+use Rattle.arrays.specs.Test.{if}
+use Rattle.model.specs.State.{State, Valid}
+use Rattle.model.specs.Call.{Call, stateAfter}
+use Rattle.model.specs.File.{Read, deck, refusal, fileOf, longest}
+use Rattle.model.proofs.Step.{after-valid}
+use Rattle.model.proofs.FileAnswer.{Possible, taken, refused, possible-valid}
+use Rattle.model.proofs.FileSize.{file-size}
+use Rattle.model.proofs.FileRoundTrip.{written-read}
+use Rattle.calls.specs.Changes.{refusalNumber}
+use Rattle.deck.specs.declared.Deck.{Deck}
+use Rattle.deck.specs.declared.Outcome.{Outcome}
+use Rattle.deck.specs.Form.{deckOf}
+use Rattle.deck.specs.Session.{deckAfter}
+use Rattle.deck.proofs.Forms.{state-deck}
+use Rattle.deck.proofs.Session.{valid-passes, after-deck}
+use Rattle.deckfile.specs.declared.Written.the-variants.{Refused, Length}
+use Rattle.deckfile.specs.Reading.{outcomeOf, reading, accepting}
+use Rattle.deckfile.specs.Writing.{stored, writing, written, left}
+use Rattle.deckfile.specs.Answer.{rewritten, answerNumber, answerBuffer, writtenNumber}
+
+push : {A B : Type 0} (f : A → B) (t : Bool) (x y : Unit {0} → A) → f (if t x y) ≡ if t (λ _. f (x tt)) (λ _. f (y tt))
+push f true x y = refl
+push f false x y = refl
+
+-- Writing the deck of a valid state.
+module _ (s : State) (v : Valid s) (l : List ℕ) where
+  writes : {A : Type 0} (refuse : ℕ → A) (done : List ℕ → A) → writing (deckOf s) l refuse done ≡ stored s l refuse done
+  writes refuse done =
+      ap₂ (λ (t : Bool) (z : State). if t (λ _. stored z l refuse done) (λ _. refuse 11))
+      (valid-passes s v)
+      (state-deck s (v .placed))
+
+  number-stored : writtenNumber (written (deckOf s) l) ≡ stored s l (λ n. n) length
+  unfolding written writtenNumber
+  number-stored =
+      ap writtenNumber (writes Refused (λ file. Length (length file)))
+      ∙ push writtenNumber (leb (length (fileOf s)) (length l)) (λ _. Length (length (fileOf s))) (λ _. Refused 12)
+
+  buffer-stored : left (deckOf s) l ≡ stored s l (λ _. l) (λ file. file ++ drop (length file) l)
+  unfolding left
+  buffer-stored = writes (λ _. l) (λ file. file ++ drop (length file) l)
+
+-- The refusal of a file.
+pub answer-refused : (r : Read) (calls : List Call) (l : List ℕ) {o : Outcome} (n : ℕ) → o ≡ outcomeOf r
+    → n ≡ refusalNumber (o .reply) → ¬ (n ≡ 0) → (n ≡ answerNumber r calls l) × (l ≡ answerBuffer r calls l)
+unfolding rewritten refusalNumber outcomeOf
+answer-refused (deck s) calls l n e f h = absurd (h (rw e at f))
+answer-refused (refusal k) calls l n e f h = (rw e at f, refl)
+
+-- A deck was read: `last` is the deck after the calls, m and b what writing it answers and leaves.
+pub answer-deck : (r : Read) → Possible r → (calls : List Call) (l : List ℕ) {o : Outcome} {n : ℕ} → o ≡ outcomeOf r
+    → n ≡ refusalNumber (o .reply) → n ≡ 0 → {last : Deck} → last ≡ deckAfter (o .next) calls → {m : ℕ} {b : List ℕ}
+    → m ≡ writtenNumber (written last l) → b ≡ left last l → (m ≡ answerNumber r calls l) × (b ≡ answerBuffer r calls l)
+unfolding rewritten refusalNumber outcomeOf
+answer-deck (deck s) (taken v) calls l e f z is em eb =
+    let q = rw e at is ∙ after-deck calls s v in
+    let w = after-valid calls s v in
+    (rw q at em ∙ number-stored (stateAfter s calls) w l, rw q at eb ∙ buffer-stored (stateAfter s calls) w l)
+answer-deck (refusal k) (refused h j) calls l e f z is em eb = absurd (omega (arith, rw e at f))
+
+-- A file that is taken, and a buffer that has room for every file: the file of the state after the calls stands in front, and is
+-- read as the deck after the calls.
+pub record Rewritten (r : Read) (calls : List Call) (l : List ℕ) (s : State) : Type 0 where
+  pub long : 30 ≤ answerNumber r calls l
+  pub front : answerBuffer r calls l ≡ fileOf (stateAfter s calls) ++ drop (answerNumber r calls l) l
+  pub back : reading (fileOf (stateAfter s calls)) ≡ accepting (deckAfter (deckOf s) calls)
+
+pub answer-taken : (r : Read) → Possible r → (calls : List Call) (l : List ℕ) (s : State) → r ≡ deck s → longest ≤ length l
+    → Rewritten r calls l s
+unfolding rewritten outcomeOf
+answer-taken r p calls l s e h = rw e (on-state (possible-valid r p s e))
+  where
+    at : State
+    at = stateAfter s calls
+
+    fits : Valid at → {A : Type 0} (refuse : ℕ → A) (done : List ℕ → A) → stored at l refuse done ≡ done (fileOf at)
+    fits v refuse done =
+        ap (λ (t : Bool). if t (λ _. done (fileOf at)) (λ _. refuse 12))
+        (le-leb (length (fileOf at)) (length l) (omega (arith, file-size at v .1, h)))
+
+    on-state : Valid s → Rewritten (deck s) calls l s
+    on-state v =
+        let w = after-valid calls s v in
+        let count = fits w (λ n. n) length in
+        record {
+          long = subst⁻¹ (λ (n : ℕ). 30 ≤ n) count (file-size at w .0);
+          front = fits w (λ _. l) (λ file. file ++ drop (length file) l) ∙ ap (λ (n : ℕ). fileOf at ++ drop n l) (sym count);
+          back = ap outcomeOf (written-read at w) ∙ ap accepting (sym (after-deck calls s v));
+        }
+
+-- An answer below 30 is a refusal, and leaves the buffer.
+pub answer-kept : (r : Read) → Possible r → (calls : List Call) (l : List ℕ) → answerNumber r calls l < 30 → answerBuffer r calls l ≡ l
+unfolding rewritten
+answer-kept (deck s) (taken v) calls l h = go (leb (length (fileOf (stateAfter s calls))) (length l)) h
+  where
+    go : (t : Bool) → if t (λ _. length (fileOf (stateAfter s calls))) (λ _. 12) < 30
+        → if t (λ _. fileOf (stateAfter s calls) ++ drop (length (fileOf (stateAfter s calls))) l) (λ _. l) ≡ l
+    go true k = absurd (omega (arith, k, file-size (stateAfter s calls) (after-valid calls s v) .0))
+    go false k = refl
+answer-kept (refusal n) p calls l h = refl

@@ -1,0 +1,28 @@
+-- What an entry for other programs answers, and what it leaves in the lent buffer, by the model alone: a deck is read, a list of
+-- calls is made on it, and it is written.
+use mathlib.Core.List.{List, _++_}
+use Prim.Native.Nat.{ℕ}
+use lib.ListN.{length, drop}
+use Rattle.model.specs.Call.{Call, stateAfter}
+use Rattle.model.specs.File.{Read, deck, refusal}
+use Rattle.deckfile.specs.declared.Written.{Written}
+use Rattle.deckfile.specs.declared.Written.the-variants.{Refused, Length}
+use Rattle.deckfile.specs.Writing.{stored}
+
+-- A deck read, changed by calls and written into the buffer l: what `refused` says of the refusal, or `done` of the file.
+unfoldable pub rewritten : {A : Type 0} → Read → List Call → List ℕ → (ℕ → A) → (List ℕ → A) → A
+rewritten (deck s) calls l refused done = stored (stateAfter s calls) l refused done
+rewritten (refusal n) calls l refused done = refused n
+
+-- "It gets the length written, always 30 or more, or the refusal's number."
+abbrev pub answerNumber : Read → List Call → List ℕ → ℕ
+answerNumber r calls l = rewritten r calls l (λ n. n) length
+
+-- The file in front and every byte past it as it was; a refusal keeps every byte.
+abbrev pub answerBuffer : Read → List Call → List ℕ → List ℕ
+answerBuffer r calls l = rewritten r calls l (λ _. l) (λ file. file ++ drop (length file) l)
+
+-- What writing answers, as one number: the length written, or the refusal's number.
+unfoldable pub writtenNumber : Written → ℕ
+writtenNumber (Refused n) = n
+writtenNumber (Length n) = n

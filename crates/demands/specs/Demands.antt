@@ -1,0 +1,84 @@
+-- The three demands, as claims on what the program's functions answer and leave by their contracts: `reading` (deckfile::read),
+-- `written` and `left` (deckfile::write), `called` (each call on a deck), `asked` (each question), `answerNumber` and `answerBuffer`
+-- (planner_plan and replay_calls). That every function ends, and touches nothing else, is part of what is proved of each.
+use mathlib.Core.Path.{_≡_}
+use mathlib.Core.Logic.{_⊎_}
+use mathlib.Core.Option.{some}
+use mathlib.Core.List.{List, _++_}
+use Prim.Native.Nat.{ℕ, _≤_, _<_}
+use lib.ListN.{length, drop}
+use Rattle.model.specs.State.{State, empty, Valid}
+use Rattle.model.specs.Round.{finish}
+use Rattle.model.specs.Call as call
+use Rattle.model.specs.File.{deck, readFile, fileOf, longest}
+use Rattle.deck.specs.declared.Deck.{Deck}
+use Rattle.deck.specs.declared.Outcome.{Outcome}
+use Rattle.calls.specs.declared.Reply.the-variants as reply
+use Rattle.questions.specs.declared.Answer.{Answer}
+use Rattle.questions.specs.declared.Answer.the-variants as question
+use Rattle.deck.specs.Form.{deckOf, stateOf, Sound}
+use Rattle.deck.specs.Calls.{answer, refusal, called}
+use Rattle.deck.specs.Questions.{asked}
+use Rattle.deck.specs.Session.{deckAfter, replies, reckoned, SessionDeck}
+use Rattle.deckfile.specs.declared.Written.the-variants as writing
+use Rattle.deckfile.specs.Reading.{reading, accepting, refusing}
+use Rattle.deckfile.specs.Writing.{written, left}
+use Rattle.deckfile.specs.RoundTrip.{WrittenRead, FullWrittenBack, PlainWrittenFull}
+use Rattle.deckfile.specs.Answer.{answerNumber, answerBuffer}
+use Rattle.planner.specs.Entry.{toEnd}
+use Rattle.replay.specs.Claim.{Replayed}
+
+-- "A refusal is given only in its case": 7, 8 and 10 to adding, 9 to withdrawing, none to a round or a run to the end.
+abbrev pub InCase : State → call.Call → ℕ → Type 0
+InCase s (call.add p) n = call.insertRefusal p s ≡ some n
+InCase s (call.withdraw p) n = call.removeRefusal p s ≡ some n
+InCase s call.oneRound n = ⊥
+InCase s call.runToEnd n = ⊥
+
+-- What reading a file can answer: the deck of a valid state, or a number from 1 to 6 and an empty deck.
+abbrev pub FileAnswer : Outcome → Type 0
+FileAnswer o = ((s : State) × Valid s × (o ≡ accepting (deckOf s))) ⊎ ((n : ℕ) × (1 ≤ n) × (n ≤ 6) × (o ≡ refusing n))
+
+-- Demand 1: every file and every call is taken, or turned down by a number of document 01, with the deck and each lent buffer
+-- left as document 01 says.
+pub record Demand1 : Type 0 where
+  -- any bytes
+  pub file : (b : List ℕ) → FileAnswer (reading b)
+  -- any deck that is not sound: 11 before all else, and the deck or the buffer as it was
+  pub unsoundCall : (d : Deck) (c : call.Call) → ¬ Sound d → called d c ≡ refusal d 11
+  pub unsoundQuestion : (d : Deck) (f : State → Answer) → ¬ Sound d → asked d f ≡ question.Refused 11
+  pub unsoundWriting : (d : Deck) (l : List ℕ) → ¬ Sound d → (written d l ≡ writing.Refused 11) × (left d l ≡ l)
+  -- any other: the next deck is sound, and a refused call hands back the deck unchanged
+  pub nextSound : (d : Deck) → Sound d → (c : call.Call) → Sound (called d c .next)
+  pub refusedCall : (d : Deck) → Sound d → (c : call.Call) (n : ℕ) → called d c .reply ≡ reply.Refused n
+      → (called d c .next ≡ d) × InCase (stateOf d) c n
+  -- any buffer: shorter than the file, it is refused by 12 and keeps every byte; else every byte past the file is kept
+  pub shortBuffer : (d : Deck) (l : List ℕ) → Sound d → length l < length (fileOf (stateOf d)) → (written d l ≡ writing.Refused 12) × (left d l ≡ l)
+  pub longBuffer : (d : Deck) (l : List ℕ) → Sound d → length (fileOf (stateOf d)) ≤ length l
+      → (written d l ≡ writing.Length (length (fileOf (stateOf d)))) × (left d l ≡ fileOf (stateOf d) ++ drop (length (fileOf (stateOf d))) l)
+
+-- Demand 2: every answer is the one that the published method gives, as document 01 reads it.
+pub record Demand2 : Type 0 where
+  pub calls : (d : Deck) → Sound d → (c : call.Call) → called d c ≡ answer (call.step (stateOf d) c)
+  pub questions : (d : Deck) → Sound d → (f : State → Answer) → asked d f ≡ f (stateOf d)
+  -- "Written out and read in is the same deck; a full file read in and written out is the same file."
+  pub writtenRead : WrittenRead
+  pub fullWrittenBack : FullWrittenBack
+  pub plainWrittenFull : PlainWrittenFull
+  -- the C entry: "the length written, always 30 or more, or the refusal's number", which is less
+  pub planned : (b l : List ℕ) (s : State) → readFile b ≡ deck s → longest ≤ length l
+      → (30 ≤ answerNumber (readFile b) toEnd l)
+      × (answerBuffer (readFile b) toEnd l ≡ fileOf (finish s .final) ++ drop (answerNumber (readFile b) toEnd l) l)
+  pub turnedDown : (b l : List ℕ) → answerNumber (readFile b) toEnd l < 30 → answerBuffer (readFile b) toEnd l ≡ l
+
+-- "from an empty deck or an accepted file", with the points that document 01 reckons from.
+pub data StartDeck : Deck → State → Type 0 where
+  fresh : StartDeck (deckOf empty) empty
+  file : (b : List ℕ) {s : State} → readFile b ≡ deck s → StartDeck (reading b .next) s
+
+-- Demand 3: one claim about whole lists of calls (`SessionDeck` says what holds of the deck after the list), on the methods and on
+-- the bytes that replay_calls writes.
+pub record Demand3 : Type 0 where
+  pub lists : {d : Deck} {s : State} → StartDeck d s → (calls : List call.Call)
+      → SessionDeck (deckAfter d calls) (call.stateAfter s calls) × (replies d calls ≡ reckoned s calls)
+  pub replayed : Replayed

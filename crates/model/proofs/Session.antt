@@ -1,0 +1,63 @@
+-- The claim on sessions: every state that a list of calls leads to is valid, and of a valid state the rest holds.
+use mathlib.Core.List.{List·Memᴰ·not-nil as not-nil}
+use Prim.Native.Nat.{_≤_}
+use native.Mathlib.Omega.{arith}
+use lib.ListN.{length}
+use Rattle.arrays.specs.Order.{Sorted}
+use Rattle.plane.specs.Point.{Lower}
+use Rattle.model.specs.Tree.{treeLength}
+use Rattle.model.specs.State.{State, empty, points, Valid}
+use Rattle.model.specs.Call.{stateAfter}
+use Rattle.model.specs.Session.{StartState, fresh, file, SessionState, Sessions, mostPoints}
+use Rattle.model.proofs.Tree.{mst-run-tree}
+use Rattle.model.proofs.Cover.{mst-least}
+use Rattle.model.proofs.Prune.{points-rise}
+use Rattle.model.proofs.Candidate.{candidates-are}
+use Rattle.model.proofs.Round.{round-finished, finish-rounds}
+use Rattle.model.proofs.Step.{after-valid}
+use Rattle.model.proofs.Bounds.{points-few, length-bound, held-range, round-few, round-fits}
+use Rattle.model.proofs.FileValid.{file-valid}
+
+pub empty-valid : Valid empty
+empty-valid =
+    record {
+      few = omega arith;
+      placed =
+          record {
+            pinsRange = λ p i. absurd (not-nil i);
+            steinerRange = λ p i. absurd (not-nil i);
+            pinsRise = tt;
+            steinerRise = tt;
+            apart = λ p i j. not-nil i;
+          };
+      branching = λ q i. absurd (not-nil i);
+    }
+
+pub start-valid : (s : State) → StartState s → Valid s
+start-valid s fresh = empty-valid
+start-valid s (file b e) = file-valid b s e
+
+pub valid-session : (s : State) → Valid s → SessionState s
+unfolding treeLength
+valid-session s v =
+    record {
+      valid = v;
+      tree = mst-run-tree (points s) rise .tree;
+      least = mst-least (points s) rise;
+      finish-exact = round-finished s v;
+      rounds-end = finish-rounds s v .0;
+      rounds-few = finish-rounds s v .1;
+      points-few = few;
+      round-few = λ c i. round-few s v c (candidates-are (points s) c .0 i);
+      length-fits = length-bound (points s) rise (omega (arith, few)) (held-range s v);
+      round-fits = λ c i. round-fits s v c (candidates-are (points s) c .0 i);
+    }
+  where
+    rise : Sorted Lower (points s)
+    rise = points-rise s (v .placed .steinerRise)
+
+    few : length (points s) ≤ mostPoints
+    few = points-few s v
+
+pub sessions : Sessions
+sessions s start calls = valid-session (stateAfter s calls) (after-valid calls s (start-valid s start))

@@ -1,0 +1,58 @@
+-- Sessions: one claim about whole lists of calls on states. Demand 3 rests on it.
+use mathlib.Core.Path.{_≡_}
+use mathlib.Core.Logic.{_↔_}
+use mathlib.Core.List.{List, [], _∷_, List·Memᴰ}
+use Prim.Native.Nat.{ℕ, suc, _≤_}
+use lib.ListN.{length}
+use Rattle.spanning.specs.Graph.{Tree}
+use Rattle.plane.specs.Point.{Point, lower}
+use Rattle.plane.specs.Edge.{Edge, planar}
+use Rattle.arrays.specs.Set.{put}
+use Rattle.model.specs.Tree.{lengthOf, treeLength}
+use Rattle.model.specs.State.{State, empty, points, Valid}
+use Rattle.model.specs.Round.{finished, tap, candidates, round, finish}
+use Rattle.model.specs.Call.{Call, stateAfter}
+use Rattle.model.specs.Question.{treeOf, lengthOfState}
+use Rattle.model.specs.File.{deck, readFile}
+
+-- "begin with no pins and no taps, or with the file's": the empty state, or that of an accepted file.
+pub data StartState : State → Type 0 where
+  fresh : StartState empty
+  file : (b : List ℕ) {s : State} → readFile b ≡ deck s → StartState s
+
+-- Rounds alone lead from s to r, where the round is finished, and k of them add a tap ("even one swept out again").
+pub data RoundsTo : State → ℕ → State → Type 0 where
+  ended : {s : State} → round s .answer ≡ finished → RoundsTo s 0 s
+  added : {s r : State} {k : ℕ} {c : Point} {fall : ℕ} → round s .answer ≡ tap c fall → RoundsTo (round s .next) k r → RoundsTo s (suc k) r
+
+-- "It shortens the tree if, with it joined to the points held, some tree over them all is shorter than the deck's tree." q does not.
+abbrev pub NoShorter : State → Point → Type 0
+NoShorter s q = (t : List Edge) → Tree planar (q ∷ points s) t → lengthOfState s ≤ lengthOf t
+
+-- The most points held between calls, and the longest tree with one point more, in centimetres.
+abbrev pub mostPoints : ℕ
+mostPoints = 126
+
+abbrev pub longestTree : ℕ
+longestTree = 15120000
+
+-- What holds of a state that a list of calls leads to.
+pub record SessionState (s : State) : Type 0 where
+  -- it is valid, its tree is a tree over its points, and every tree over them is at least as long
+  pub valid : Valid s
+  pub tree : Tree planar (points s) (treeOf s)
+  pub least : (t : List Edge) → Tree planar (points s) t → lengthOf (treeOf s) ≤ lengthOf t
+  -- the round is finished exactly if no one more point anywhere on the integer plane would shorten the tree
+  pub finish-exact : (round s .answer ≡ finished) ↔ ((q : Point) → ¬ List·Memᴰ q (points s) → NoShorter s q)
+  -- rounds alone come to finished within as many adding rounds as the tree has centimetres; the run to the end answers their number and their state
+  pub rounds-end : RoundsTo s (finish s .count) (finish s .final)
+  pub rounds-few : finish s .count ≤ lengthOfState s
+  -- at most 126 points between calls and 127 during a round, and every length fits
+  pub points-few : length (points s) ≤ mostPoints
+  pub round-few : (c : Point) → List·Memᴰ c (candidates (points s)) → length (put lower c (points s)) ≤ suc mostPoints
+  pub length-fits : lengthOfState s ≤ longestTree
+  pub round-fits : (c : Point) → List·Memᴰ c (candidates (points s)) → treeLength (put lower c (points s)) ≤ longestTree
+
+-- The claim: after any list of calls, refused ones too, from an empty deck or an accepted file.
+abbrev pub Sessions : Type 0
+Sessions = (s : State) → StartState s → (calls : List Call) → SessionState (stateAfter s calls)

@@ -1,4 +1,0 @@
-pub mod Demands
-pub mod Numbers
-pub mod Replaying
-pub mod Serving

@@ -1,0 +1,42 @@
+-- A list of calls in bytes, twelve bytes each, and the deck that it starts from.
+use mathlib.Core.List.{List, [], _∷_, _++_}
+use Prim.Native.Nat.{ℕ, zero, suc, _+_, _*_, _/_}
+use lib.Dec.{eqb}
+use lib.ListN.{length, getD}
+use lib.IntN.{ℤ, subℕ}
+use Rattle.arrays.specs.Test.{if}
+use Rattle.plane.specs.Point.{Point}
+use Rattle.model.specs.State.{empty}
+use Rattle.model.specs.Call.{Call, add, withdraw, oneRound, runToEnd}
+use Rattle.model.specs.File.{Read, deck, readFile, number4}
+
+-- The whole number that is n in 32 bits of two's complement: 4,294,967,296 less from 2,147,483,648 on.
+unfoldable pub signed32 : ℕ → ℤ
+signed32 n = subℕ n (4294967296 * (n / 2147483648))
+
+-- The call with this number: 0 adds and 1 withdraws at p, 2 is a round, 3 a run to the end. Any other number is no call.
+unfoldable pub callOf : ℕ → Point → List Call
+callOf n p =
+    if (eqb n 0) (λ _. add p ∷ [])
+    (λ _. if (eqb n 1) (λ _. withdraw p ∷ [])
+    (λ _. if (eqb n 2) (λ _. oneRound ∷ [])
+    (λ _. if (eqb n 3) (λ _. runToEnd ∷ []) (λ _. []))))
+
+-- The twelve bytes of a call from place i on: its number, three bytes that are not looked at (for a kind, a storey and nothing
+-- yet), then x and y.
+unfoldable pub callAt : List ℕ → ℕ → List Call
+callAt b i = callOf (getD b i 0) (record { x = signed32 (number4 b (i + 4)); y = signed32 (number4 b (i + 8)) })
+
+-- The calls in the first n times twelve bytes.
+unfoldable pub firstCalls : ℕ → List ℕ → List Call
+firstCalls zero b = []
+firstCalls (suc n) b = firstCalls n b ++ callAt b (n * 12)
+
+-- All calls of a list of bytes. Fewer than twelve bytes at the end are no call.
+unfoldable pub callsOf : List ℕ → List Call
+callsOf b = firstCalls (length b / 12) b
+
+-- A list starts from the deck of a file, or from an empty deck where there are no bytes.
+unfoldable pub startOf : List ℕ → Read
+startOf [] = deck empty
+startOf (a ∷ b) = readFile (a ∷ b)

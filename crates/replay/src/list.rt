@@ -1,0 +1,68 @@
+// A list of calls in bytes, made on a deck one after the other.
+use deck::Deck;
+use sections::number::number4;
+ghost use mathlib.Core.Path.{_≡_};
+ghost use Prim.Native.Nat.{_+_, _≤_, _<_};
+ghost use lib.ListN.{length};
+ghost use Rattle.deck.specs.Session.{deckAfter};
+ghost use Rattle.replay.specs.Calls as bytes;
+
+// The whole number of 32 bits in two's complement.
+fn signed32(n: usize) -> i32
+    requires { ⌜ n < 4294967296 ⌝ }
+    ensures { λ r. ⌜ r ≡ bytes.signed32 n ⌝ }
+{
+    if n < 2147483648 {
+        return n as i32;
+    }
+    (n - 2147483648) as i32 + -2147483648
+}
+
+// The deck after the call of this number at x, y. A number that is not known is no call.
+fn call(d: Deck, number: u8, x: i32, y: i32) -> Deck
+    ensures { λ r. ⌜ r ≡ deckAfter d (bytes.callOf number (record { x = x; y = y })) ⌝ }
+{
+    match number {
+        0 => {
+            let o = d.add(x, y);
+            o.next
+        }
+        1 => {
+            let o = d.withdraw(x, y);
+            o.next
+        }
+        2 => {
+            let o = d.round();
+            o.next
+        }
+        3 => {
+            let o = d.run_to_end();
+            o.next
+        }
+        4..=255 => d,
+    }
+}
+
+// The deck after the call in the twelve bytes from `at` on. The three bytes after its number are not looked at.
+fn call_at(d: Deck, calls: &[u8], at: usize) -> Deck
+    requires { ⌜ at + 12 ≤ length (now calls) ⌝ }
+    ensures { λ r. ⌜ r ≡ deckAfter d (bytes.callAt (now (calls .entry)) at) ⌝ }
+{
+    let x = signed32(number4(calls, at + 4));
+    let y = signed32(number4(calls, at + 8));
+    call(d, calls[at], x, y)
+}
+
+// The deck after all calls, each handed the deck that the one before it left. Fewer than twelve bytes at the end are no call.
+pub fn call_all(d: Deck, calls: &[u8]) -> Deck
+    ensures { λ r. ⌜ r ≡ deckAfter d (bytes.callsOf (now (calls .entry))) ⌝ }
+{
+    let mut next = d;
+    let n = calls.len() / 12;
+    let mut i = 0;
+    while i < n {
+        next = call_at(next, calls, i * 12);
+        i += 1;
+    }
+    next
+}
