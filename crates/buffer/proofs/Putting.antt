@@ -8,6 +8,8 @@ use native.Mathlib.Omega.{arith}
 use lib.ListN.{length, take, drop, getD, set, length-append, length-drop, take-append-drop}
 use lib.Seq.{sets-eq, length-take-le, take-all, take-suc, take-at, drop-drop, drop-append-add}
 use Rattle.model.specs.File.{magic, bytes2, bytes4, header}
+use Rattle.arrays.specs.Paste.{Pasted}
+use Rattle.arrays.proofs.paste.Parts.{pasted-parts}
 use Rattle.sections.specs.Bytes.{each, over}
 
 module _ (at : ℕ) (l : List ℕ) where
@@ -116,12 +118,10 @@ module _ (f : ℕ → List ℕ) (w : ℕ) (wide : (k : ℕ) → length (f k) ≡
       let e : i ≡ n = omega (arith, p .within) in
       p .shows ∙ ap (λ (z : ℕ). over at (each f (take z l)) old) e
 
--- A text at the front.
-pub over-text : (text old new : List ℕ) (i : ℕ) → i ≤ length text → length text ≤ i → new ≡ take i text ++ drop i old → new ≡ over 0 text old
+-- Items that were put are over the part.
+pub over-of : {items before after : List ℕ} {at r : ℕ} → Pasted items before after at r → after ≡ over at items before
 unfolding over
-over-text text old new i h k e =
-    let q : i ≡ 0 + length text = omega arith in
-    e ∙ ap₂ _++_ (take-all i text k) (ap (λ (z : ℕ). drop z old) q)
+over-of p = pasted-parts p
 
 -- The header, part after part.
 module _ (pins steiner edges : ℕ) (old : List ℕ) (h : 30 ≤ length old) where

@@ -14,10 +14,10 @@ use Rattle.model.specs.Refusal.{check, firstFailed}
 use Rattle.model.specs.State.{State, Valid, maxPins, insert, remove}
 use Rattle.model.specs.Call as call
 use Rattle.arrays.proofs.Set.{has-in}
-use Rattle.plan.specs.declared.Plan.{Plan}
+use Rattle.working.specs.declared.Working.{Working}
 use Rattle.plane.specs.Code.{pointOf, isCode}
-use Rattle.plan.specs.Work.{Planned, stateOf}
-use Rattle.plan.proofs.Arranging.{codes-count}
+use Rattle.working.specs.InOrder.{InOrder, stateOf}
+use Rattle.points.proofs.Coded.{pins-count}
 use Rattle.plane.proofs.codes.Points.{code-in-range}
 use Rattle.plane.proofs.codes.Sets.{points-has}
 use Rattle.arrays.proofs.Test.{true-of, false-of}
@@ -26,21 +26,21 @@ use Rattle.calls.specs.declared.Reply.the-variants.{Done}
 use Rattle.calls.specs.Changes.{replyOf, refusing, ChangedBy}
 
 -- A call that the model refuses leaves the working form, and one that it carries out leads to the model's next state.
-pub refused-is : (w : Plan) → Planned w → (c : call.Call) (n : ℕ) → call.step (stateOf w) c ≡ record { next = stateOf w; reply = call.refused n }
+pub refused-is : (w : Working) → InOrder w → (c : call.Call) (n : ℕ) → call.step (stateOf w) c ≡ record { next = stateOf w; reply = call.refused n }
     → (r : Changed) → r ≡ refusing w n → ChangedBy w c r
 unfolding replyOf
 refused-is w p c n e r is =
     subst⁻¹ (ChangedBy w c) is
-    (record { planned = p; next = ap (λ (o : call.Outcome). o .next) (sym e); reply = ap (λ (o : call.Outcome). replyOf (o .reply)) (sym e) })
+    (record { inOrder = p; next = ap (λ (o : call.Outcome). o .next) (sym e); reply = ap (λ (o : call.Outcome). replyOf (o .reply)) (sym e) })
 
-pub done-is : (w : Plan) (c : call.Call) (v : Plan) (s : State) → Planned v → stateOf v ≡ s → call.step (stateOf w) c ≡ record { next = s; reply = call.done }
-    → ChangedBy w c (record { plan = v; reply = Done })
+pub done-is : (w : Working) (c : call.Call) (v : Working) (s : State) → InOrder v → stateOf v ≡ s → call.step (stateOf w) c ≡ record { next = s; reply = call.done }
+    → ChangedBy w c (record { working = v; reply = Done })
 unfolding replyOf
 done-is w c v s p f e =
-    record { planned = p; next = f ∙ ap (λ (o : call.Outcome). o .next) (sym e); reply = ap (λ (o : call.Outcome). replyOf (o .reply)) (sym e) }
+    record { inOrder = p; next = f ∙ ap (λ (o : call.Outcome). o .next) (sym e); reply = ap (λ (o : call.Outcome). replyOf (o .reply)) (sym e) }
 
 -- The same call by equal points.
-pub by-point : (w : Plan) (f : Point → call.Call) (p q : Point) → p ≡ q → (r : Changed) → ChangedBy w (f p) r → ChangedBy w (f q) r
+pub by-point : (w : Working) (f : Point → call.Call) (p q : Point) → p ≡ q → (r : Changed) → ChangedBy w (f p) r → ChangedBy w (f q) r
 by-point w f p q e r c = subst (λ (z : Point). ChangedBy w (f z) r) e c
 
 pub in-range : (k : ℕ) → T (isCode k) → inRange (pointOf k) ≡ true
@@ -91,9 +91,9 @@ module _ (p : Point) (s : State) where
   none-outside v e = false-of (call.holdsPin p s) (λ t. subst T e (v .placed .pinsRange p (has-in lower lower-order p (s .pins) .0 t)))
 
 -- What a working form says of its pins.
-module _ (w : Plan) (p : Planned w) where
-  pub pin-there : (k : ℕ) → T (isCode k) → has ltb k (take (w .npins) (w .pins)) ≡ call.holdsPin (pointOf k) (stateOf w)
-  pin-there k t = points-has k t (take (w .npins) (w .pins)) (p .arranged .pinCodes .codes)
+module _ (w : Working) (p : InOrder w) where
+  pub pin-there : (k : ℕ) → T (isCode k) → has ltb k (take (w .points .npins) (w .points .pins)) ≡ call.holdsPin (pointOf k) (stateOf w)
+  pin-there k t = points-has k t (take (w .points .npins) (w .points .pins)) (p .arranged .pinCodes .codes)
 
-  pub pin-count : w .npins ≡ length (stateOf w .pins)
-  pin-count = codes-count (w .pins) (w .npins) (p .arranged .pinCodes)
+  pub pin-count : w .points .npins ≡ length (stateOf w .pins)
+  pin-count = sym (pins-count (w .points) (p .arranged))

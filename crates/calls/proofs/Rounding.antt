@@ -7,8 +7,8 @@ use mir.Val.{SFits, toZ, ofZ}
 use mir.ValLaws.{toZ-ofZ}
 use Rattle.model.specs.Round.{RoundAnswer, finished, tap, round}
 use Rattle.model.specs.Call as call
-use Rattle.plan.specs.declared.Plan.{Plan}
-use Rattle.plan.specs.Work.{stateOf}
+use Rattle.working.specs.declared.Working.{Working}
+use Rattle.working.specs.InOrder.{stateOf}
 use Rattle.rounds.specs.declared.Rounded.{Rounded}
 use Rattle.rounds.specs.declared.Ended.{Ended}
 use Rattle.rounds.specs.Rounds.{stepOf, RoundOf, FinishOf}
@@ -26,11 +26,11 @@ unfolding stepReply stepOf replyOf
 step-reply finished = refl
 step-reply (tap p fall) = refl
 
-pub round-is : (w : Plan) (t : Rounded) (r : Reply) → RoundOf w t → r ≡ stepReply (t .step) → ChangedBy w call.oneRound (record { plan = t .plan; reply = r })
+pub round-is : (w : Working) (t : Rounded) (r : Reply) → RoundOf w t → r ≡ stepReply (t .step) → ChangedBy w call.oneRound (record { working = t .working; reply = r })
 unfolding call.step
 round-is w t r by said =
-    record { planned = by .planned; next = by .next; reply = said ∙ ap stepReply (by .step) ∙ step-reply (round (stateOf w) .answer) }
+    record { inOrder = by .inOrder; next = by .next; reply = said ∙ ap stepReply (by .step) ∙ step-reply (round (stateOf w) .answer) }
 
-pub end-is : (w : Plan) (r : Ended) → FinishOf w r → ChangedBy w call.runToEnd (record { plan = r .plan; reply = Rounds (r .count) })
+pub end-is : (w : Working) (r : Ended) → FinishOf w r → ChangedBy w call.runToEnd (record { working = r .working; reply = Rounds (r .count) })
 unfolding call.step replyOf
-end-is w r by = record { planned = by .planned; next = by .final; reply = ap Rounds (by .count) }
+end-is w r by = record { inOrder = by .inOrder; next = by .final; reply = ap Rounds (by .count) }

@@ -3,8 +3,8 @@ use mathlib.Core.Path.{_≡_}
 use Prim.Native.Nat.{ℕ}
 use Rattle.model.specs.Round.{finished, tap}
 use Rattle.model.specs.Call as call
-use Rattle.plan.specs.declared.Plan.{Plan}
-use Rattle.plan.specs.Work.{Planned, stateOf}
+use Rattle.working.specs.declared.Working.{Working}
+use Rattle.working.specs.InOrder.{InOrder, stateOf}
 use Rattle.rounds.specs.declared.Step.{Step}
 use Rattle.rounds.specs.declared.Step.the-variants as step
 use Rattle.calls.specs.declared.Changed.{Changed}
@@ -33,11 +33,11 @@ refusalNumber (Tap x y fall) = 0
 refusalNumber (Rounds n) = 0
 
 -- A refusal hands back the working form it was given.
-abbrev pub refusing : Plan → ℕ → Changed
-refusing w n = record { plan = w; reply = Refused n }
+abbrev pub refusing : Working → ℕ → Changed
+refusing w n = record { working = w; reply = Refused n }
 
 -- The working form r follows from w by the call c: it is in order, its state is the model's next, and the reply is the model's.
-pub record ChangedBy (w : Plan) (c : call.Call) (r : Changed) : Type 0 where
-  pub planned : Planned (r .plan)
-  pub next : stateOf (r .plan) ≡ call.step (stateOf w) c .next
+pub record ChangedBy (w : Working) (c : call.Call) (r : Changed) : Type 0 where
+  pub inOrder : InOrder (r .working)
+  pub next : stateOf (r .working) ≡ call.step (stateOf w) c .next
   pub reply : r .reply ≡ replyOf (call.step (stateOf w) c .reply)

@@ -1,15 +1,15 @@
 // The calls on a working form in order. Each hands back the working form that follows from the one it was given, beside its reply;
 // a refused call hands back the one it was given.
-use plan::Plan;
-use plan::place::Place;
-use plan::place::locate;
+use plane::codes::Located;
+use plane::codes::locate;
 use rounds::Step;
+use working::Working;
 ghost use mathlib.Core.Path.{_≡_};
 ghost use lib.Dec.{T};
 ghost use Rattle.model.specs.State.{Valid};
 ghost use Rattle.model.specs.Call as call;
 ghost use Rattle.plane.specs.Code.{pointOf, isCode};
-ghost use Rattle.plan.specs.Work.{Planned, stateOf};
+ghost use Rattle.working.specs.InOrder.{InOrder, stateOf};
 ghost use Rattle.calls.specs.Changes.{refusing, refusalNumber, stepReply, ChangedBy};
 
 // What a call replies: done, or a refusal by its number; a round: finished, or the new Steiner point and the whole fall in
@@ -24,7 +24,7 @@ pub enum Reply {
 
 // The working form that follows, and the reply.
 pub struct Changed {
-    pub plan: Plan,
+    pub working: Working,
     pub reply: Reply,
 }
 
@@ -52,23 +52,24 @@ fn reply_of(s: Step) -> Reply
 }
 
 // A refusal.
-fn refuse(w: Plan, number: u8) -> Changed
+fn refuse(w: Working, number: u8) -> Changed
     ensures { λ r. ⌜ r ≡ refusing w number ⌝ }
 {
     Changed {
-        plan: w,
+        working: w,
         reply: Reply::Refused(number),
     }
 }
 
 // Adds a pin at a place in range.
-fn add_at(w: Plan, k: u64) -> Changed
-    requires { ⌜ Planned w ⌝ }
+fn add_at(w: Working, k: u64) -> Changed
+    requires { ⌜ InOrder w ⌝ }
     requires { ⌜ T (isCode k) ⌝ }
+    requires { ⌜ Valid (stateOf w) ⌝ }
     ensures { λ r. ⌜ ChangedBy w (call.add (pointOf k)) r ⌝ }
 {
-    let pins = w.pins;
-    let npins = w.npins;
+    let pins = w.points.pins;
+    let npins = w.points.npins;
     let there = arrays::sorted::has(&pins, npins, k);
     let full = 64 <= npins;
     if there {
@@ -77,78 +78,79 @@ fn add_at(w: Plan, k: u64) -> Changed
     if full {
         return refuse(w, 10);
     }
-    let next = plan::change::insert(w, k);
+    let next = working::change::insert(w, k);
     Changed {
-        plan: next,
+        working: next,
         reply: Reply::Done,
     }
 }
 
 // Withdraws a pin at a place in range.
-fn withdraw_at(w: Plan, k: u64) -> Changed
-    requires { ⌜ Planned w ⌝ }
+fn withdraw_at(w: Working, k: u64) -> Changed
+    requires { ⌜ InOrder w ⌝ }
     requires { ⌜ T (isCode k) ⌝ }
     ensures { λ r. ⌜ ChangedBy w (call.withdraw (pointOf k)) r ⌝ }
 {
-    let pins = w.pins;
-    if !arrays::sorted::has(&pins, w.npins, k) {
+    let pins = w.points.pins;
+    if !arrays::sorted::has(&pins, w.points.npins, k) {
         return refuse(w, 9);
     }
-    let next = plan::change::remove(w, k);
+    let next = working::change::remove(w, k);
     Changed {
-        plan: next,
+        working: next,
         reply: Reply::Done,
     }
 }
 
 // Adds a pin. Refusals in the order 7, 8, 10.
-pub fn add(w: Plan, x: i32, y: i32) -> Changed
-    requires { ⌜ Planned w ⌝ }
+pub fn add(w: Working, x: i32, y: i32) -> Changed
+    requires { ⌜ InOrder w ⌝ }
+    requires { ⌜ Valid (stateOf w) ⌝ }
     ensures { λ r. ⌜ ChangedBy w (call.add (record { x = x; y = y })) r ⌝ }
 {
     match locate(x, y) {
-        Place::OutOfRange => refuse(w, 7),
-        Place::At(k) => add_at(w, k),
+        Located::OutOfRange => refuse(w, 7),
+        Located::At(k) => add_at(w, k),
     }
 }
 
 // Withdraws a pin. Refusal 9.
-pub fn withdraw(w: Plan, x: i32, y: i32) -> Changed
-    requires { ⌜ Planned w ⌝ }
+pub fn withdraw(w: Working, x: i32, y: i32) -> Changed
+    requires { ⌜ InOrder w ⌝ }
     requires { ⌜ Valid (stateOf w) ⌝ }
     ensures { λ r. ⌜ ChangedBy w (call.withdraw (record { x = x; y = y })) r ⌝ }
 {
     match locate(x, y) {
-        Place::OutOfRange => refuse(w, 9),
-        Place::At(k) => withdraw_at(w, k),
+        Located::OutOfRange => refuse(w, 9),
+        Located::At(k) => withdraw_at(w, k),
     }
 }
 
 // One round.
-pub fn round(w: Plan) -> Changed
-    requires { ⌜ Planned w ⌝ }
+pub fn round(w: Working) -> Changed
+    requires { ⌜ InOrder w ⌝ }
     requires { ⌜ Valid (stateOf w) ⌝ }
     ensures { λ r. ⌜ ChangedBy w call.oneRound r ⌝ }
 {
     let t = rounds::round_of(w);
-    let swept = t.plan;
+    let swept = t.working;
     let step = t.step;
     Changed {
-        plan: swept,
+        working: swept,
         reply: reply_of(step),
     }
 }
 
 // Rounds until finished.
-pub fn run_to_end(w: Plan) -> Changed
-    requires { ⌜ Planned w ⌝ }
+pub fn run_to_end(w: Working) -> Changed
+    requires { ⌜ InOrder w ⌝ }
     requires { ⌜ Valid (stateOf w) ⌝ }
     ensures { λ r. ⌜ ChangedBy w call.runToEnd r ⌝ }
 {
     let e = rounds::finish_of(w);
-    let ended = e.plan;
+    let ended = e.working;
     Changed {
-        plan: ended,
+        working: ended,
         reply: Reply::Rounds(e.count),
     }
 }

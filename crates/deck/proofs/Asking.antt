@@ -1,21 +1,19 @@
 -- A question on a deck, from that on its working form: refused by 11 where the deck is not sound, else the answer for the working form.
 use mathlib.Core.Path.{_≡_, sym, ap, _∙_}
 use mathlib.Core.Bool.{Bool, true, false}
-use mathlib.Core.List.{List, _++_, map}
-use Prim.Native.Nat.{ℕ, _-_}
+use mathlib.Core.List.{_++_}
+use Prim.Native.Nat.{_-_}
 use lib.ListN.{length, replicate}
 use Rattle.arrays.specs.Test.{if}
-use Rattle.model.specs.State.{State, points}
-use Rattle.model.specs.Question.{listed}
-use Rattle.tree.specs.Keys.{endsAt}
-use Rattle.plan.specs.Work as work
+use Rattle.model.specs.State.{State}
+use Rattle.working.specs.InOrder as work
 use Rattle.questions.specs.declared.Answer.{Answer}
 use Rattle.questions.specs.declared.Answer.the-variants.{Refused}
 use Rattle.questions.specs.Answers.{Listed}
 use Rattle.deck.specs.declared.Deck.{Deck}
 use Rattle.deck.specs.declared.check.Checked.{Checked}
 use Rattle.deck.specs.Check.{Checks}
-use Rattle.deck.specs.Form.{stateOf, sound}
+use Rattle.deck.specs.Form.{edgeNumbers, stateOf, sound}
 use Rattle.deck.specs.Questions.{asked}
 use Rattle.deck.proofs.Forms.{ends-are}
 use Rattle.deck.proofs.Calling.{checked-sound}
@@ -29,23 +27,19 @@ pub asked-sound : (d : Deck) (f : State → Answer) → sound d ≡ true → f (
 unfolding asked
 asked-sound d f e = ap (λ (b : Bool). if b (λ _. f (stateOf d)) (λ _. Refused 11)) (sym e)
 
--- The numbers of the edges' ends of a state, in the listing order.
-abbrev numbers : State → List ℕ
-numbers s = map (endsAt (points s)) (listed s)
-
 -- Every method that asks: the check failed, or the question was asked of the working form.
-module _ (d : Deck) (r : Checked) (k : Checks (sound d) d r) where
+module _ (d : Deck) (r : Checked) (k : Checks (sound d) (d .points) r) where
   pub refused-answer : r .ok ≡ false → (f : State → Answer) → Refused 11 ≡ asked d f
   refused-answer e f = asked-unsound d f (sym (k .ok) ∙ e)
 
-  pub asked-by : r .ok ≡ true → (f : State → Answer) (a : Answer) → a ≡ f (work.stateOf (r .plan)) → a ≡ asked d f
+  pub asked-by : r .ok ≡ true → (f : State → Answer) (a : Answer) → a ≡ f (work.stateOf (r .working)) → a ≡ asked d f
   asked-by e f a is = is ∙ ap f (checked-sound d r k e .2) ∙ asked-sound d f (sym (k .ok) ∙ e)
 
   -- The ends of a sound deck are those of its edges in the listing order.
-  pub ends-listed : r .ok ≡ true → Listed (r .plan) (d .ends)
+  pub ends-listed : r .ok ≡ true → Listed (r .working) (d .ends)
   ends-listed e =
       record {
-        rest = replicate (128 - length (numbers (stateOf d))) 0;
+        rest = replicate (128 - length (edgeNumbers (stateOf d))) 0;
         is = ends-are d (checked-sound d r k e .0)
-            ∙ ap (λ (s : State). numbers s ++ replicate (128 - length (numbers (stateOf d))) 0) (sym (checked-sound d r k e .2));
+            ∙ ap (λ (s : State). edgeNumbers s ++ replicate (128 - length (edgeNumbers (stateOf d))) 0) (sym (checked-sound d r k e .2));
       }

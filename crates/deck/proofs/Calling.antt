@@ -5,7 +5,8 @@ use lib.Dec.{T}
 use Rattle.arrays.specs.Test.{if}
 use Rattle.model.specs.State.{State, Valid}
 use Rattle.model.specs.Call as call
-use Rattle.plan.specs.Work as work
+use Rattle.points.specs.Coded as coded
+use Rattle.working.specs.InOrder as work
 use Rattle.calls.specs.declared.Changed.{Changed}
 use Rattle.calls.specs.Changes.{replyOf, ChangedBy}
 use Rattle.deck.specs.declared.Deck.{Deck}
@@ -18,14 +19,14 @@ use Rattle.arrays.proofs.Test.{of-true}
 use Rattle.deck.proofs.Forms.{sound-is}
 
 -- What the check of a deck gives where it passed: the deck is sound, and its working form stands for its state.
-pub checked-sound : (d : Deck) (r : Checked) → Checks (sound d) d r → r .ok ≡ true → Sound d × work.Planned (r .plan) × (work.stateOf (r .plan) ≡ stateOf d)
+pub checked-sound : (d : Deck) (r : Checked) → Checks (sound d) (d .points) r → r .ok ≡ true → Sound d × work.InOrder (r .working) × (work.stateOf (r .working) ≡ stateOf d)
 checked-sound d r c e =
-    (sound-is d .0 t, c .planned t, (λ i. work.stateAt (c .samePins t i) (c .sameCount t i) (c .sameSteiner t i) (c .sameLeft t i)))
+    (sound-is d .0 t, c .inOrder t, ap coded.stateOf (c .same t))
   where
     t : T (sound d)
     t = of-true (sym (c .ok) ∙ e)
 
-pub checked-valid : (d : Deck) (r : Checked) → Checks (sound d) d r → r .ok ≡ true → work.Planned (r .plan) × Valid (work.stateOf (r .plan))
+pub checked-valid : (d : Deck) (r : Checked) → Checks (sound d) (d .points) r → r .ok ≡ true → work.InOrder (r .working) × Valid (work.stateOf (r .working))
 checked-valid d r c e = let k = checked-sound d r c e in (k .1, subst⁻¹ Valid (k .2) (k .0 .valid))
 
 -- A call by whether the deck is sound.
@@ -38,11 +39,11 @@ unfolding called
 called-sound d c e = ap (λ (b : Bool). if b (λ _. answer (call.step (stateOf d) c)) (λ _. refusal d 11)) (sym e)
 
 -- Every method that changes a deck: the check failed, or the call was made on the working form.
-module _ (d : Deck) (r : Checked) (k : Checks (sound d) d r) (c : call.Call) (o : Outcome) where
+module _ (d : Deck) (r : Checked) (k : Checks (sound d) (d .points) r) (c : call.Call) (o : Outcome) where
   pub refused-by : r .ok ≡ false → o ≡ refusal d 11 → o ≡ called d c
   refused-by e is = is ∙ called-unsound d c (sym (k .ok) ∙ e)
 
-  pub called-by : r .ok ≡ true → (t : Changed) → ChangedBy (r .plan) c t → o ≡ outcomeOf t → o ≡ called d c
+  pub called-by : r .ok ≡ true → (t : Changed) → ChangedBy (r .working) c t → o ≡ outcomeOf t → o ≡ called d c
   unfolding answer
   called-by e t by is =
       is
@@ -52,5 +53,5 @@ module _ (d : Deck) (r : Checked) (k : Checks (sound d) d r) (c : call.Call) (o 
       })
       ∙ called-sound d c (sym (k .ok) ∙ e)
     where
-      same : work.stateOf (r .plan) ≡ stateOf d
+      same : work.stateOf (r .working) ≡ stateOf d
       same = checked-sound d r k e .2

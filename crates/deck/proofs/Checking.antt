@@ -1,191 +1,164 @@
--- The parts of check 11 say together that a deck is sound, and each fails only where it is not.
+-- The parts of check 11 say together that a deck is sound, and each fails only where it is not: a search for a weak Steiner point in
+-- the working form of arranged points tells whether they are those of a valid state; with the same edges the deck is sound.
 use mathlib.Core.Path.{_≡_, refl, sym, ap, _∙_, subst, subst⁻¹}
-use mathlib.Core.Logic.{_⊎_, ⊎-elim, _↔_}
-use mathlib.Core.Bool.{Bool, true, false, not, _&&_}
-use mathlib.Core.List.{List, map, List·Memᴰ, List·Memᴰ·not-nil as not-nil}
-use Prim.Native.Nat.{ℕ, _-_, _≤_}
+use mathlib.Core.Bool.{Bool, true, false}
+use mathlib.Core.Option.{Option, none}
+use mathlib.Core.List.{List, List·Memᴰ}
+use Prim.Native.Nat.{ℕ, _≤_, _<_}
 use native.Mathlib.Omega.{arith}
-use lib.Dec.{T, ltb, leb}
-use borrow.Author.Tests.{leb-true, le-leb}
-use lib.ListN.{length, take, drop, replicate, length-map, length-drop}
-use Rattle.plane.specs.Point.{Point, lower}
-use Rattle.arrays.proofs.Test.{and-parts, and-both, true-of, of-true, false-of}
-use Rattle.arrays.proofs.Order.{nat-order}
-use Rattle.plane.proofs.Order.{lower-order}
-use Rattle.arrays.specs.Set.{rising, all, has}
+use lib.Dec.{T}
+use lib.ListN.{length, take}
 use Rattle.arrays.specs.Same.{sameList}
-use Rattle.arrays.proofs.Set.{all-in, has-not, rising-sorted}
-use Rattle.model.proofs.Prune.{few-steiner}
-use Rattle.model.proofs.Candidate.{map-in}
-use Rattle.arrays.proofs.same.Alike.{same-refl}
-use Rattle.arrays.specs.Array.{noneIn, allZero}
-use Rattle.arrays.proofs.sorted.Search.{all-zero}
-use Rattle.plane.specs.Code.{code, pointOf, isCode}
-use Rattle.plan.specs.Work as work
-use Rattle.plane.proofs.codes.Points.{AllInRange, map-codes, codes-are}
-use Rattle.plane.proofs.codes.Sets.{points-rising}
+use Rattle.arrays.specs.Test.{if}
+use Rattle.arrays.proofs.Test.{and-parts, and-both, true-of, of-true, false-of}
+use Rattle.arrays.proofs.same.Alike.{same-refl, same-eq}
+use Rattle.plane.specs.Point.{Point}
+use Rattle.model.specs.Tree.{mst, edgesAt}
+use Rattle.model.specs.State.{State, empty, points, Valid, valid, lowestWeak}
+use Rattle.model.proofs.Prune.{LowestWeakView, all-strong, weak, lowest-weak-view}
+use Rattle.model.proofs.Validity.{valid-is}
+use Rattle.points.specs.declared.Points.{Points}
+use Rattle.points.specs.Coded as coded
+use Rattle.points.proofs.Codes.{codes-full}
+use Rattle.points.proofs.Coded.{pins-count, arranged-coded}
+use Rattle.points.proofs.check.Tests.{arranged-passes}
+use Rattle.working.specs.Weak.{weakAt}
+use Rattle.working.specs.declared.Working.{Working}
+use Rattle.working.specs.InOrder as work
+use Rattle.working.proofs.Arranging.{arranged-placed}
+use Rattle.working.proofs.Sweeping.{Found, none-weak, at, found, order-degree}
 use Rattle.deck.specs.declared.Deck.{Deck}
+use Rattle.deck.specs.declared.build.Built.{Built}
 use Rattle.deck.specs.declared.check.Checked.{Checked}
-use Rattle.deck.specs.Form.{row, deckOf, stateOf, Sound}
-use Rattle.deck.specs.Check.{ordered, arranged, Checks}
-use Rattle.deck.proofs.Forms.{row-take, row-drop, row-length}
+use Rattle.deck.specs.Form.{deckOf, stateOf, Sound, sound}
+use Rattle.deck.specs.Check.{pointed, Checks, built}
+use Rattle.deck.proofs.Forms.{sound-is, sound-arranged}
 
--- A set of codes with zeros behind, as a test and as facts.
-pub ordered-codes : (a : List ℕ) (n : ℕ) → length a ≡ 64 → n ≤ 64 → T (ordered a n) → work.Codes a n 64
-ordered-codes a n e h t =
-    let p = and-parts (all isCode (take n a)) (rising ltb (take n a) && allZero (drop n a)) t in
-    let q = and-parts (rising ltb (take n a)) (allZero (drop n a)) (p .1) in
-    record {
-      size = e;
-      few = h;
-      codes = all-in isCode (take n a) .0 (p .0);
-      rise = true-of (rising ltb (take n a)) (q .0);
-      rest = all-zero (drop n a) .0 (q .1) ∙ zeros;
-    }
-  where
-    left : length (drop n a) ≡ 64 - n
-    left = omega (arith, length-drop n a, e)
+-- The search in a working form for a Steiner point of at most two edges.
+module _ (w : Working) (p : work.InOrder w) (j : ℕ) (is : j ≡ weakAt w) where
+  abbrev tree : State → List Point → Option Point
+  tree s l = lowestWeak (mst (points s)) l
 
-    zeros : replicate {A = ℕ} (length (drop n a)) 0 ≡ replicate (64 - n) 0
-    zeros = ap (λ (z : ℕ). replicate z 0) left
+  steiner : List ℕ
+  steiner = take (w .points .nsteiner) (w .points .steiner)
 
-pub codes-ordered : (a : List ℕ) (n : ℕ) → work.Codes a n 64 → T (ordered a n)
-codes-ordered a n c =
-    and-both (all isCode (take n a)) (rising ltb (take n a) && allZero (drop n a)) (all-in isCode (take n a) .1 (c .codes))
-    (and-both (rising ltb (take n a)) (allZero (drop n a)) (of-true (c .rise)) (all-zero (drop n a) .1 (c .rest ∙ zeros)))
-  where
-    left : 64 - n ≡ length (drop n a)
-    left = omega (arith, length-drop n a, c .size)
+  search : Found steiner (tree (work.stateOf w) (work.stateOf w .steiner)) j
+  unfolding steiner
+  search =
+      subst⁻¹ (Found steiner (tree (work.stateOf w) (work.stateOf w .steiner))) is
+      (found (take (w .npoints) (w .codes)) (take (w .nkeys) (w .keys)) (mst (points (work.stateOf w))) steiner (order-degree w p))
 
-    zeros : replicate {A = ℕ} (64 - n) 0 ≡ replicate (length (drop n a)) 0
-    zeros = ap (λ (z : ℕ). replicate z 0) left
+  full : length steiner ≡ w .points .nsteiner
+  unfolding steiner
+  full = codes-full (p .arranged .steinerCodes)
 
-pub none-apart : (a b : List ℕ) → T (noneIn b a) ↔ ((k : ℕ) → List·Memᴰ k a → List·Memᴰ k b → ⊥)
-none-apart a b = (
-  λ t k i. has-not ltb nat-order k b .0 (all-in (λ (z : ℕ). not (has ltb z b)) a .0 t k i),
-  λ f. all-in (λ (z : ℕ). not (has ltb z b)) a .1 (λ k i. has-not ltb nat-order k b .1 (f k i)),
-)
+  -- None was found: the state is valid.
+  pub none-found : w .points .nsteiner ≤ j → Valid (work.stateOf w)
+  none-found h =
+      record {
+        few = omega (arith, pins-count (w .points) (p .arranged), p .arranged .pinCodes .few);
+        placed = arranged-placed (w .points) (p .arranged);
+        branching = go refl search (lowest-weak-view (mst (points (work.stateOf w))) (work.stateOf w .steiner));
+      }
+    where
+      Strong : Type 0
+      Strong = (q : Point) → List·Memᴰ q (work.stateOf w .steiner) → 3 ≤ edgesAt q (mst (points (work.stateOf w)))
 
--- The row of a list of points in range is a set of codes.
-row-codes : (l : List Point) → AllInRange l → length l ≤ 64 → T (rising lower l)
-    → work.Codes (row 64 (map code l)) (length l) 64
-row-codes l range few rise =
-    record {
-      size = row-length 64 (map code l) (omega (arith, length-map l code));
-      few = few;
-      codes = λ k i. codes-are l range k (subst (λ (z : List ℕ). List·Memᴰ k z) part i);
-      rise = ap (rising ltb) part ∙ points-rising (map code l) (codes-are l range) ∙ ap (rising lower) (map-codes l range) ∙ true-of (rising lower l) rise;
-      rest = row-drop 64 (map code l) (length l) (length-map l code);
-    }
-  where
-    part : take (length l) (row 64 (map code l)) ≡ map code l
-    part = row-take 64 (map code l) (length l) (length-map l code)
+      all : {o : Option Point} → o ≡ none → LowestWeakView (mst (points (work.stateOf w))) (work.stateOf w .steiner) o → Strong
+      all e (all-strong f) = f
+      all e (weak q i k) = absurd (let z : _≡_ {A = ℕ} 0 1 = cc in omega arith)
 
--- What soundness gives to each part of the check.
-module _ (d : Deck) (s : Sound d) where
-  pins-count : d .npins ≡ length (stateOf d .pins)
-  pins-count = unfold deckOf in λ i. s .same i .npins
+      go : {o : Option Point} {i : ℕ} → i ≡ j → Found steiner o i → LowestWeakView (mst (points (work.stateOf w))) (work.stateOf w .steiner) o → Strong
+      go q none-weak v = all refl v
+      go q (at r l) v = absurd (omega (arith, full))
 
-  steiner-count : d .nsteiner ≡ length (stateOf d .steiner)
-  steiner-count = unfold deckOf in λ i. s .same i .nsteiner
+  -- One was found: it is not.
+  pub one-found : j < w .points .nsteiner → ¬ Valid (work.stateOf w)
+  one-found h v = go refl search (lowest-weak-view (mst (points (work.stateOf w))) (work.stateOf w .steiner))
+    where
+      few : {o : Option Point} → ¬ (o ≡ none) → LowestWeakView (mst (points (work.stateOf w))) (work.stateOf w .steiner) o → ⊥
+      few n (all-strong f) = n refl
+      few n (weak q i k) = omega (arith, v .branching q i, k)
 
-  pins-row : d .pins ≡ row 64 (map code (stateOf d .pins))
-  unfolding deckOf
-  pins-row = λ i. s .same i .pins
-
-  steiner-row : d .steiner ≡ row 64 (map code (stateOf d .steiner))
-  unfolding deckOf
-  steiner-row = λ i. s .same i .steiner
-
-  pub sound-few : d .npins ≤ 64
-  sound-few = omega (arith, pins-count, s .valid .few)
-
-  pub sound-left : d .nsteiner ≤ 62
-  sound-left = ⊎-elim (λ e. omega (arith, steiner-count, e)) (λ h. omega (arith, steiner-count, h, s .valid .few)) (few-steiner (stateOf d) (s .valid))
-
-  pub sound-pins : work.Codes (d .pins) (d .npins) 64
-  sound-pins =
-      subst⁻¹ (λ (z : ℕ). work.Codes (d .pins) z 64) pins-count
-      (subst⁻¹ (λ (a : List ℕ). work.Codes a (length (stateOf d .pins)) 64) pins-row
-      (row-codes (stateOf d .pins) (s .valid .placed .pinsRange) (omega (arith, s .valid .few)) (rising-sorted lower lower-order (stateOf d .pins) .1 (s .valid .placed .pinsRise))))
-
-  pub sound-steiner : work.Codes (d .steiner) (d .nsteiner) 64
-  sound-steiner =
-      subst⁻¹ (λ (z : ℕ). work.Codes (d .steiner) z 64) steiner-count
-      (subst⁻¹ (λ (a : List ℕ). work.Codes a (length (stateOf d .steiner)) 64) steiner-row
-      (row-codes (stateOf d .steiner) (s .valid .placed .steinerRange) (omega (arith, sound-left, steiner-count)) (rising-sorted lower lower-order (stateOf d .steiner) .1 (s .valid .placed .steinerRise))))
-
-  pub sound-apart : (k : ℕ) → List·Memᴰ k (take (d .npins) (d .pins)) → List·Memᴰ k (take (d .nsteiner) (d .steiner)) → ⊥
-  sound-apart k i j =
-      s .valid .placed .apart (pointOf k) (map-in pointOf (take (d .npins) (d .pins)) (pointOf k) .1 (k, i, refl)) (map-in pointOf (take (d .nsteiner) (d .steiner)) (pointOf k) .1 (k, j, refl))
-
-  pub sound-arranged : T (arranged d)
-  sound-arranged =
-      let apart = noneIn (take (d .nsteiner) (d .steiner)) (take (d .npins) (d .pins)) in
-      let steiner = ordered (d .steiner) (d .nsteiner) in
-      let pins = ordered (d .pins) (d .npins) in
-      and-both (leb (d .npins) 64) (leb (d .nsteiner) 62 && (pins && (steiner && apart))) (of-true (le-leb (d .npins) 64 sound-few))
-      (and-both (leb (d .nsteiner) 62) (pins && (steiner && apart)) (of-true (le-leb (d .nsteiner) 62 sound-left))
-      (and-both pins (steiner && apart) (codes-ordered (d .pins) (d .npins) sound-pins)
-      (and-both steiner apart (codes-ordered (d .steiner) (d .nsteiner) sound-steiner) (none-apart (take (d .npins) (d .pins)) (take (d .nsteiner) (d .steiner)) .1 sound-apart))))
-
--- What the first tests of the check give.
-pub arranged-codes : (d : Deck) → length (d .pins) ≡ 64 → length (d .steiner) ≡ 64 → T (arranged d) → work.Arranged (d .pins) (d .npins) (d .steiner) (d .nsteiner)
-arranged-codes d h k t =
-    let a = and-parts (leb (d .npins) 64) (leb (d .nsteiner) 62 && (ordered (d .pins) (d .npins) && (ordered (d .steiner) (d .nsteiner) && apart))) t in
-    let b = and-parts (leb (d .nsteiner) 62) (ordered (d .pins) (d .npins) && (ordered (d .steiner) (d .nsteiner) && apart)) (a .1) in
-    let e = and-parts (ordered (d .pins) (d .npins)) (ordered (d .steiner) (d .nsteiner) && apart) (b .1) in
-    let f = and-parts (ordered (d .steiner) (d .nsteiner)) apart (e .1) in
-    let few : d .npins ≤ 64 = leb-true _ _ (true-of _ (a .0)) in
-    let left : d .nsteiner ≤ 62 = leb-true _ _ (true-of _ (b .0)) in
-    record {
-      pinCodes = ordered-codes (d .pins) (d .npins) h few (e .0);
-      steinerCodes = ordered-codes (d .steiner) (d .nsteiner) k (omega (arith, left)) (f .0);
-      room = omega (arith, left);
-      apart = none-apart (take (d .npins) (d .pins)) (take (d .nsteiner) (d .steiner)) .0 (f .1);
-    }
-  where
-    apart : Bool
-    apart = noneIn (take (d .nsteiner) (d .steiner)) (take (d .npins) (d .pins))
-
-pub arranged-few : (d : Deck) → T (arranged d) → d .npins ≤ 64
-arranged-few d t = leb-true _ _ (true-of _ (and-parts (leb (d .npins) 64) (leb (d .nsteiner) 62 && (ordered (d .pins) (d .npins) && (ordered (d .steiner) (d .nsteiner) && noneIn (take (d .nsteiner) (d .steiner)) (take (d .npins) (d .pins))))) t .0))
-
-pub same-of : {l m : List ℕ} → l ≡ m → T (sameList l m)
-same-of {l} e = subst (λ (z : List ℕ). T (sameList l z)) e (same-refl l)
+      go : {o : Option Point} {i : ℕ} → i ≡ j → Found steiner o i → LowestWeakView (mst (points (work.stateOf w))) (work.stateOf w .steiner) o → ⊥
+      go q none-weak v = omega (arith, full)
+      go q (at r l) v = few (λ e. let z : _≡_ {A = ℕ} 0 1 = cc in omega arith) v
 
 -- A test that answered no is no proof.
 pub refuted : {a b : Bool} → a ≡ b → a ≡ false → ¬ T b
 refuted e n t = subst T (sym e ∙ n) t
 
 -- The answer where a test does not hold, and where it does.
-pub refused : (test : Bool) (d : Deck) (r : Checked) → r .ok ≡ false → ¬ T test → Checks test d r
-refused test d r e never =
-    record {
-      ok = e ∙ sym (false-of test never);
-      planned = λ t. absurd (never t);
-      samePins = λ t. absurd (never t);
-      sameCount = λ t. absurd (never t);
-      sameSteiner = λ t. absurd (never t);
-      sameLeft = λ t. absurd (never t);
-    }
+pub refused : (test : Bool) (q : Points) (r : Checked) → r .ok ≡ false → ¬ T test → Checks test q r
+refused test q r e never =
+    record { ok = e ∙ sym (false-of test never); inOrder = λ t. absurd (never t); same = λ t. absurd (never t) }
 
-pub accepted : (test : Bool) (d : Deck) (r : Checked) → r .ok ≡ true → T test → work.Planned (r .plan) → r .plan .pins ≡ d .pins → r .plan .npins ≡ d .npins
-    → r .plan .steiner ≡ d .steiner → r .plan .nsteiner ≡ d .nsteiner → Checks test d r
-accepted test d r e s p e₁ e₂ e₃ e₄ =
-    record {
-      ok = e ∙ sym (true-of test s);
-      planned = λ t. p;
-      samePins = λ t. e₁;
-      sameCount = λ t. e₂;
-      sameSteiner = λ t. e₃;
-      sameLeft = λ t. e₄;
-    }
+pub accepted : (test : Bool) (q : Points) (r : Checked) → r .ok ≡ true → T test → work.InOrder (r .working) → r .working .points ≡ q → Checks test q r
+accepted test q r e s p f = record { ok = e ∙ sym (true-of test s); inOrder = λ t. p; same = λ t. f }
 
--- No points at all.
-none-codes : work.Codes (replicate 64 0) 0 64
-unfolding rising
-none-codes = record { size = refl; few = omega arith; codes = λ k i. absurd (not-nil i); rise = refl; rest = refl }
+-- The points of a deck, by the working form of points that are arranged.
+module _ (q : Points) (w : Working) (a : work.InOrder w × (w .points ≡ q)) (j : ℕ) (is : j ≡ weakAt w) where
+  pub points-weak : j < w .points .nsteiner → ¬ T (pointed q)
+  points-weak h t =
+      one-found w (a .0) j is h
+      (subst⁻¹ (λ (z : Points). Valid (coded.stateOf z)) (a .1) (valid-is (coded.stateOf q) .0 (and-parts (coded.arranged q) (valid (coded.stateOf q)) t .1)))
 
-pub none-arranged : work.Arranged (replicate 64 0) 0 (replicate 64 0) 0
-none-arranged = record { pinCodes = none-codes; steinerCodes = none-codes; room = omega arith; apart = λ k i j. not-nil i }
+  pub points-pass : w .points .nsteiner ≤ j → T (coded.arranged q) → T (pointed q)
+  points-pass h t =
+      and-both (coded.arranged q) (valid (coded.stateOf q)) t
+      (valid-is (coded.stateOf q) .1 (subst (λ (z : Points). Valid (coded.stateOf z)) (a .1) (none-found w (a .0) j is h)))
+
+-- From the points to the whole deck.
+module _ (d : Deck) (r : Checked) (c : Checks (pointed (d .points)) (d .points) r) where
+  pub points-fail : r .ok ≡ false → Checks (sound d) (d .points) r
+  points-fail e = refused (sound d) (d .points) r e (λ t. refuted (c .ok) e (passed (sound-is d .0 t)))
+    where
+      passed : Sound d → T (pointed (d .points))
+      passed s =
+          and-both (coded.arranged (d .points)) (valid (stateOf d)) (arranged-passes (d .points) (sound-arranged d s)) (valid-is (stateOf d) .1 (s .valid))
+
+  module _ (e : r .ok ≡ true) where
+    test : T (pointed (d .points))
+    test = of-true (sym (c .ok) ∙ e)
+
+    pub points-order : work.InOrder (r .working)
+    points-order = c .inOrder test
+
+    pub points-state : work.stateOf (r .working) ≡ stateOf d
+    points-state = ap coded.stateOf (c .same test)
+
+    pub edges-fail : (a : Deck) → a ≡ deckOf (work.stateOf (r .working)) → ¬ T (sameList (d .ends) (a .ends)) → ¬ T (sound d)
+    edges-fail a is n t =
+        n (subst (λ (l : List ℕ). T (sameList (d .ends) l))
+        ((λ i. sound-is d .0 t .same i .ends) ∙ sym (λ i. deckOf (points-state i) .ends) ∙ sym (λ i. is i .ends)) (same-refl (d .ends)))
+
+    pub edges-pass : (a : Deck) → a ≡ deckOf (work.stateOf (r .working)) → T (sameList (d .ends) (a .ends)) → Checks (sound d) (d .points) r
+    edges-pass a is t = accepted (sound d) (d .points) r e (sound-is d .1 whole) points-order (c .same test)
+      where
+        arranged : coded.Arranged (d .points)
+        arranged = subst coded.Arranged (c .same test) (points-order .arranged)
+
+        whole : Sound d
+        whole =
+            record {
+              valid = valid-is (stateOf d) .0 (and-parts (coded.arranged (d .points)) (valid (stateOf d)) test .1);
+              same =
+                  unfold deckOf in
+                  (λ i. record {
+                    points = arranged-coded (d .points) arranged i;
+                    ends = (same-eq (d .ends) (a .ends) t ∙ (λ k. is k .ends) ∙ (λ k. deckOf (points-state k) .ends)) i;
+                  });
+            }
+
+-- A deck from its points.
+module _ (q : Points) where
+  choice : Bool → Built
+  choice b = if b (λ _. record { ok = true; deck = deckOf (coded.stateOf q) }) (λ _. record { ok = false; deck = deckOf empty })
+
+  pub built-none : (e : Deck) → e ≡ deckOf empty → pointed q ≡ false → _≡_ {A = Built} (record { ok = false; deck = e }) (built q)
+  unfolding built choice
+  built-none e is f = (λ i. record { ok = false; deck = is i }) ∙ ap choice (sym f)
+
+  pub built-deck : (e : Deck) → e ≡ deckOf (coded.stateOf q) → pointed q ≡ true → _≡_ {A = Built} (record { ok = true; deck = e }) (built q)
+  unfolding built choice
+  built-deck e is f = (λ i. record { ok = true; deck = is i }) ∙ ap choice (sym f)

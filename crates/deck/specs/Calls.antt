@@ -2,7 +2,7 @@
 use Prim.Native.Nat.{ℕ}
 use Rattle.arrays.specs.Test.{if}
 use Rattle.model.specs.Call as call
-use Rattle.plan.specs.Work as work
+use Rattle.working.specs.InOrder as work
 use Rattle.calls.specs.declared.Changed.{Changed}
 use Rattle.calls.specs.declared.Reply.the-variants.{Refused}
 use Rattle.calls.specs.Changes.{replyOf}
@@ -16,7 +16,7 @@ answer o = record { next = deckOf (o .next); reply = replyOf (o .reply) }
 
 -- A call that changed a working form, as an outcome.
 abbrev pub outcomeOf : Changed → Outcome
-outcomeOf c = record { next = deckOf (work.stateOf (c .plan)); reply = c .reply }
+outcomeOf c = record { next = deckOf (work.stateOf (c .working)); reply = c .reply }
 
 -- A refusal hands back the deck unchanged.
 abbrev pub refusal : Deck → ℕ → Outcome

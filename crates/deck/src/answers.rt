@@ -24,7 +24,7 @@ impl Deck {
         if !c.ok {
             return Answer::Refused(11);
         }
-        questions::length(c.plan)
+        questions::length(c.working)
     }
 
     // The counts of pins, Steiner points and edges.
@@ -35,7 +35,7 @@ impl Deck {
         if !c.ok {
             return Answer::Refused(11);
         }
-        questions::counts(c.plan)
+        questions::counts(c.working)
     }
 
     // The edge at a place in the listing order, places from 0.
@@ -47,7 +47,7 @@ impl Deck {
             return Answer::Refused(11);
         }
         let ends = self.ends;
-        questions::edge_at(c.plan, &ends, i)
+        questions::edge_at(c.working, &ends, i)
     }
 
     // The number of edges at a point, 0 where none is held.
@@ -58,6 +58,6 @@ impl Deck {
         if !c.ok {
             return Answer::Refused(11);
         }
-        questions::degree_at(c.plan, x, y)
+        questions::degree_at(c.working, x, y)
     }
 }

@@ -1,7 +1,8 @@
 // A deck from its points alone.
 use super::Deck;
 use super::check::deck_of;
-use super::check::plan_of;
+use super::check::working_of;
+use points::Points;
 ghost use mathlib.Core.Path.{_≡_};
 ghost use Rattle.deck.specs.Check.{built};
 
@@ -11,17 +12,11 @@ pub struct Built {
     pub deck: Deck,
 }
 
-// The deck of pins and Steiner points kept as codes, if they are those of a valid state with zeros behind.
-pub fn build(pins: [u64; 64], npins: usize, steiner: [u64; 64], nsteiner: usize) -> Built
-    ensures { λ r. ⌜ r ≡ built pins npins steiner nsteiner ⌝ }
+// The deck of points, if they are those of a valid state.
+pub fn build(q: Points) -> Built
+    ensures { λ r. ⌜ r ≡ built q ⌝ }
 {
-    let c = plan_of(Deck {
-        pins,
-        npins,
-        steiner,
-        nsteiner,
-        ends: [0u64; 128],
-    });
+    let c = working_of(q);
     if !c.ok {
         return Built {
             ok: false,
@@ -30,6 +25,6 @@ pub fn build(pins: [u64; 64], npins: usize, steiner: [u64; 64], nsteiner: usize)
     }
     Built {
         ok: true,
-        deck: deck_of(c.plan),
+        deck: deck_of(c.working),
     }
 }

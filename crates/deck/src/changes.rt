@@ -7,7 +7,7 @@ use calls::Changed;
 use calls::Reply;
 ghost use mathlib.Core.Path.{_≡_};
 ghost use Rattle.model.specs.Call as call;
-ghost use Rattle.plan.specs.Work as work;
+ghost use Rattle.working.specs.InOrder as work;
 ghost use Rattle.deck.specs.Calls.{outcomeOf, refusal, called};
 
 // Refusal 11: the deck is handed back unchanged.
@@ -22,12 +22,12 @@ fn refuse(d: Deck) -> Outcome
 
 // The outcome of a call on a working form.
 fn outcome_of(c: Changed) -> Outcome
-    requires { ⌜ work.Planned (c .plan) ⌝ }
+    requires { ⌜ work.InOrder (c .working) ⌝ }
     ensures { λ r. ⌜ r ≡ outcomeOf c ⌝ }
 {
     let reply = c.reply;
     Outcome {
-        next: deck_of(c.plan),
+        next: deck_of(c.working),
         reply,
     }
 }
@@ -41,7 +41,7 @@ impl Deck {
         if !c.ok {
             return refuse(self);
         }
-        outcome_of(calls::add(c.plan, x, y))
+        outcome_of(calls::add(c.working, x, y))
     }
 
     // Withdraws a pin. Refusals in the order 11, 9.
@@ -52,7 +52,7 @@ impl Deck {
         if !c.ok {
             return refuse(self);
         }
-        outcome_of(calls::withdraw(c.plan, x, y))
+        outcome_of(calls::withdraw(c.working, x, y))
     }
 
     // One round. Refusal 11.
@@ -63,7 +63,7 @@ impl Deck {
         if !c.ok {
             return refuse(self);
         }
-        outcome_of(calls::round(c.plan))
+        outcome_of(calls::round(c.working))
     }
 
     // Rounds until finished. Refusal 11.
@@ -74,6 +74,6 @@ impl Deck {
         if !c.ok {
             return refuse(self);
         }
-        outcome_of(calls::run_to_end(c.plan))
+        outcome_of(calls::run_to_end(c.working))
     }
 }

@@ -11,7 +11,7 @@ use Rattle.calls.specs.declared.Reply.the-variants.{Done, Refused, Finished, Ta
 -- The deck with these fields.
 abbrev pub deckAt : List ℕ → ℕ → List ℕ → ℕ → List ℕ → Deck
 deckAt pins npins steiner nsteiner ends =
-    record { pins = pins; npins = npins; steiner = steiner; nsteiner = nsteiner; ends = ends }
+    record { points = record { pins = pins; npins = npins; steiner = steiner; nsteiner = nsteiner }; ends = ends }
 
 -- The number of a kind of reply.
 abbrev pub kindOf : Reply → ℕ

@@ -15,7 +15,7 @@ ghost use Rattle.deck_entries.specs.Shown.{deckAt, Shows};
 pub extern "C" fn entry_empty(
     pins: &mut [u64; 64],
     npins: &mut usize,
-    steiner: &mut [u64; 64],
+    steiner: &mut [u64; 128],
     nsteiner: &mut usize,
     ends: &mut [u64; 128],
 )
@@ -32,7 +32,7 @@ pub extern "C" fn entry_add(
     y: i32,
     pins: &mut [u64; 64],
     npins: &mut usize,
-    steiner: &mut [u64; 64],
+    steiner: &mut [u64; 128],
     nsteiner: &mut usize,
     ends: &mut [u64; 128],
     numbers: &mut [u64; 3],
@@ -65,7 +65,7 @@ pub extern "C" fn entry_withdraw(
     y: i32,
     pins: &mut [u64; 64],
     npins: &mut usize,
-    steiner: &mut [u64; 64],
+    steiner: &mut [u64; 128],
     nsteiner: &mut usize,
     ends: &mut [u64; 128],
     numbers: &mut [u64; 3],
@@ -96,7 +96,7 @@ pub extern "C" fn entry_withdraw(
 pub extern "C" fn entry_round(
     pins: &mut [u64; 64],
     npins: &mut usize,
-    steiner: &mut [u64; 64],
+    steiner: &mut [u64; 128],
     nsteiner: &mut usize,
     ends: &mut [u64; 128],
     numbers: &mut [u64; 3],
@@ -127,7 +127,7 @@ pub extern "C" fn entry_round(
 pub extern "C" fn entry_run_to_end(
     pins: &mut [u64; 64],
     npins: &mut usize,
-    steiner: &mut [u64; 64],
+    steiner: &mut [u64; 128],
     nsteiner: &mut usize,
     ends: &mut [u64; 128],
     numbers: &mut [u64; 3],

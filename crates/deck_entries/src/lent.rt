@@ -4,6 +4,7 @@ use super::replies::numbers_of;
 use super::replies::places_of;
 use deck::Deck;
 use deck::Outcome;
+use points::Points;
 ghost use mathlib.Core.Path.{_≡_};
 ghost use Rattle.deck_entries.specs.Shown.{deckAt, Shows};
 
@@ -11,7 +12,7 @@ ghost use Rattle.deck_entries.specs.Shown.{deckAt, Shows};
 pub fn deck_at(
     pins: &[u64; 64],
     npins: usize,
-    steiner: &[u64; 64],
+    steiner: &[u64; 128],
     nsteiner: usize,
     ends: &[u64; 128],
 ) -> Deck
@@ -21,10 +22,12 @@ pub fn deck_at(
     let steiner = *steiner;
     let ends = *ends;
     Deck {
-        pins,
-        npins,
-        steiner,
-        nsteiner,
+        points: Points {
+            pins,
+            npins,
+            steiner,
+            nsteiner,
+        },
         ends,
     }
 }
@@ -34,19 +37,19 @@ pub fn write<'a>(
     d: Deck,
     pins: &'a mut [u64; 64],
     npins: &'a mut usize,
-    steiner: &'a mut [u64; 64],
+    steiner: &'a mut [u64; 128],
     nsteiner: &'a mut usize,
     ends: &'a mut [u64; 128],
 )
     ensures { λ _. ⌜ deckAt (now (pins .exit)) (now (npins .exit)) (now (steiner .exit)) (now (nsteiner .exit)) (now (ends .exit)) ≡ d ⌝ }
 {
-    let a = d.pins;
-    let b = d.steiner;
+    let a = d.points.pins;
+    let b = d.points.steiner;
     let e = d.ends;
     *pins = a;
-    *npins = d.npins;
+    *npins = d.points.npins;
     *steiner = b;
-    *nsteiner = d.nsteiner;
+    *nsteiner = d.points.nsteiner;
     *ends = e;
 }
 
@@ -55,7 +58,7 @@ pub fn show<'a>(
     o: Outcome,
     pins: &'a mut [u64; 64],
     npins: &'a mut usize,
-    steiner: &'a mut [u64; 64],
+    steiner: &'a mut [u64; 128],
     nsteiner: &'a mut usize,
     ends: &'a mut [u64; 128],
     numbers: &'a mut [u64; 3],

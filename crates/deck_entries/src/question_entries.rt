@@ -13,7 +13,7 @@ ghost use Rattle.deck_entries.specs.Told.{Tells};
 pub extern "C" fn entry_is_valid(
     pins: &[u64; 64],
     npins: usize,
-    steiner: &[u64; 64],
+    steiner: &[u64; 128],
     nsteiner: usize,
     ends: &[u64; 128],
 ) -> bool
@@ -28,7 +28,7 @@ pub extern "C" fn entry_is_valid(
 pub extern "C" fn entry_length(
     pins: &[u64; 64],
     npins: usize,
-    steiner: &[u64; 64],
+    steiner: &[u64; 128],
     nsteiner: usize,
     ends: &[u64; 128],
     numbers: &mut [u64; 3],
@@ -47,7 +47,7 @@ pub extern "C" fn entry_length(
 pub extern "C" fn entry_counts(
     pins: &[u64; 64],
     npins: usize,
-    steiner: &[u64; 64],
+    steiner: &[u64; 128],
     nsteiner: usize,
     ends: &[u64; 128],
     numbers: &mut [u64; 3],
@@ -67,7 +67,7 @@ pub extern "C" fn entry_edge_at(
     i: usize,
     pins: &[u64; 64],
     npins: usize,
-    steiner: &[u64; 64],
+    steiner: &[u64; 128],
     nsteiner: usize,
     ends: &[u64; 128],
     numbers: &mut [u64; 3],
@@ -88,7 +88,7 @@ pub extern "C" fn entry_degree_at(
     y: i32,
     pins: &[u64; 64],
     npins: usize,
-    steiner: &[u64; 64],
+    steiner: &[u64; 128],
     nsteiner: usize,
     ends: &[u64; 128],
     numbers: &mut [u64; 3],

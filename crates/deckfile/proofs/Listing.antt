@@ -19,7 +19,9 @@ use Rattle.model.proofs.FileSize.{listed-count, number-below, runs-length}
 use Rattle.tree.specs.Keys.{endsAt}
 use Rattle.deck.specs.declared.Deck.{Deck}
 use Rattle.deck.specs.Form.{deckOf, stateOf, Sound}
-use Rattle.deck.proofs.Forms.{row-take, ends-are}
+use Rattle.deck.proofs.Forms.{ends-are}
+use Rattle.points.specs.Coded.{coded}
+use Rattle.points.proofs.Codes.{padded-take}
 use Rattle.sections.specs.Bytes.{each, edgeBytes}
 
 pub edge-count : (s : State) → Valid s → length (listed s) ≡ length (s .pins) + length (s .steiner) - 1
@@ -52,22 +54,22 @@ section-edges s v =
 
 -- The edges of a sound deck.
 module _ (d : Deck) (s : Sound d) where
-  pub pins-are : d .npins ≡ length (stateOf d .pins)
-  pins-are = unfold deckOf in λ i. s .same i .npins
+  pub pins-are : d .points .npins ≡ length (stateOf d .pins)
+  pins-are = unfold deckOf coded in λ i. s .same i .points .npins
 
-  pub steiner-are : d .nsteiner ≡ length (stateOf d .steiner)
-  steiner-are = unfold deckOf in λ i. s .same i .nsteiner
+  pub steiner-are : d .points .nsteiner ≡ length (stateOf d .steiner)
+  steiner-are = unfold deckOf coded in λ i. s .same i .points .nsteiner
 
-  pub count-is : length (listed (stateOf d)) ≡ d .npins + d .nsteiner - 1
+  pub count-is : length (listed (stateOf d)) ≡ d .points .npins + d .points .nsteiner - 1
   count-is = omega (arith, edge-count (stateOf d) (s .valid), pins-are, steiner-are)
 
-  pub edges-are : edgeBytes (take (d .npins + d .nsteiner - 1) (d .ends)) ≡ runSection (stateOf d)
+  pub edges-are : edgeBytes (take (d .points .npins + d .points .nsteiner - 1) (d .ends)) ≡ runSection (stateOf d)
   edges-are =
       let l = map (endsAt (points (stateOf d))) (listed (stateOf d)) in
       ap edgeBytes
-      (ap (take (d .npins + d .nsteiner - 1)) (ends-are d s)
-      ∙ row-take 128 l (d .npins + d .nsteiner - 1) (length-map (listed (stateOf d)) (endsAt (points (stateOf d))) ∙ count-is))
+      (ap (take (d .points .npins + d .points .nsteiner - 1)) (ends-are d s)
+      ∙ padded-take 128 l (d .points .npins + d .points .nsteiner - 1) (length-map (listed (stateOf d)) (endsAt (points (stateOf d))) ∙ count-is))
       ∙ section-edges (stateOf d) (s .valid)
 
-  pub edges-long : length (runSection (stateOf d)) ≡ 2 * (d .npins + d .nsteiner - 1)
+  pub edges-long : length (runSection (stateOf d)) ≡ 2 * (d .points .npins + d .points .nsteiner - 1)
   edges-long = omega (arith, runs-length (points (stateOf d)) (listed (stateOf d)), count-is)

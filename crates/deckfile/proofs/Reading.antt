@@ -16,7 +16,7 @@ use Rattle.deck.specs.declared.Outcome.{Outcome}
 use Rattle.deck.specs.Form.{deckOf}
 use Rattle.sections.specs.Layout.{Sections}
 use Rattle.deckfile.specs.Reading.{refusing, accepting, outcomeOf, reading, showing}
-use Rattle.deckfile.proofs.Showing.{pins-count}
+use Rattle.sections.proofs.points.Placed.{pins-count}
 
 -- What a test answered, by its definition.
 pub failed : {a b : Bool} → a ≡ b → not a ≡ true → b ≡ false

@@ -23,7 +23,7 @@ use Rattle.deck.specs.declared.Outcome.{Outcome}
 use Rattle.calls.specs.declared.Reply.the-variants as reply
 use Rattle.deck.specs.Form.{deckOf, stateOf, Sound, sound}
 use Rattle.deck.proofs.Forms.{state-deck, deck-sound, sound-is}
-use Rattle.deck.proofs.Checking.{sound-few, sound-left}
+use Rattle.deck.proofs.Forms.{sound-few, sound-left}
 use Rattle.deckfile.specs.declared.Written.the-variants.{Refused, Length}
 use Rattle.deckfile.specs.Reading.{outcomeOf, reading, accepting}
 use Rattle.deckfile.specs.Writing.{written, left}
@@ -111,7 +111,7 @@ full-back b d l h e full k =
     (w .0 ∙ ap (λ (f : List ℕ). Length (length f)) same, w .1 ∙ ap (λ (f : List ℕ). f ++ drop (length f) l) same)
 
 -- The file of a deck of two pins or more has edges.
-not-plain : (d : Deck) → Sound d → 2 ≤ d .npins → T (not (plain (fileOf (stateOf d))))
+not-plain : (d : Deck) → Sound d → 2 ≤ d .points .npins → T (not (plain (fileOf (stateOf d))))
 unfolding fileOf joined
 not-plain d s h =
     not-T (plain (fileOf (stateOf d)))

@@ -16,7 +16,7 @@ use Rattle.plane.specs.Code.{pointOf}
 use Rattle.deck.specs.declared.Deck.{Deck}
 use Rattle.deck.specs.Form.{stateOf, Sound, sound}
 use Rattle.deck.proofs.Forms.{sound-is}
-use Rattle.deck.proofs.Checking.{sound-few, sound-left}
+use Rattle.deck.proofs.Forms.{sound-few, sound-left}
 use Rattle.deckfile.specs.declared.Written.{Written}
 use Rattle.deckfile.specs.declared.Written.the-variants.{Refused, Length}
 use Rattle.sections.specs.Bytes.{each, pointFour, over}
@@ -31,24 +31,24 @@ section-is [] = refl
 section-is (k ∷ l) = ap (λ (bs : List ℕ). pointFour k ++ bs) (section-is l)
 
 module _ (d : Deck) (s : Sound d) where
-  pub file-parts : fileParts (d .pins) (d .npins) (d .steiner) (d .nsteiner) (d .ends) ≡ fileOf (stateOf d)
+  pub file-parts : fileParts (d .points .pins) (d .points .npins) (d .points .steiner) (d .points .nsteiner) (d .ends) ≡ fileOf (stateOf d)
   unfolding fileOf
   file-parts =
       (λ i. header (pins-long i) (steiner-long i) (sym (edges-long d s) i) ++ (pins i ++ (steiner i ++ edges-are d s i)))
     where
-      pins : each pointFour (take (d .npins) (d .pins)) ≡ sectionOf (stateOf d .pins)
-      pins = section-is (take (d .npins) (d .pins))
+      pins : each pointFour (take (d .points .npins) (d .points .pins)) ≡ sectionOf (stateOf d .pins)
+      pins = section-is (take (d .points .npins) (d .points .pins))
 
-      steiner : each pointFour (take (d .nsteiner) (d .steiner)) ≡ sectionOf (stateOf d .steiner)
-      steiner = section-is (take (d .nsteiner) (d .steiner))
+      steiner : each pointFour (take (d .points .nsteiner) (d .points .steiner)) ≡ sectionOf (stateOf d .steiner)
+      steiner = section-is (take (d .points .nsteiner) (d .points .steiner))
 
-      pins-long : 4 * d .npins ≡ length (sectionOf (stateOf d .pins))
+      pins-long : 4 * d .points .npins ≡ length (sectionOf (stateOf d .pins))
       pins-long = ap (λ (z : ℕ). 4 * z) (pins-are d s) ∙ sym (section-length (stateOf d .pins))
 
-      steiner-long : 4 * d .nsteiner ≡ length (sectionOf (stateOf d .steiner))
+      steiner-long : 4 * d .points .nsteiner ≡ length (sectionOf (stateOf d .steiner))
       steiner-long = ap (λ (z : ℕ). 4 * z) (steiner-are d s) ∙ sym (section-length (stateOf d .steiner))
 
-  pub file-long : 30 + 4 * d .npins + 4 * d .nsteiner + 2 * (d .npins + d .nsteiner - 1) ≡ length (fileOf (stateOf d))
+  pub file-long : 30 + 4 * d .points .npins + 4 * d .points .nsteiner + 2 * (d .points .npins + d .points .nsteiner - 1) ≡ length (fileOf (stateOf d))
   file-long =
       omega (
         arith,
@@ -60,8 +60,8 @@ module _ (d : Deck) (s : Sound d) where
       )
 
   -- The arrays of the deck, and room for its file.
-  pub deck-kept : length (d .pins) ≡ 64 → length (d .steiner) ≡ 64 → length (d .ends) ≡ 128 → (out : List ℕ) → length (fileOf (stateOf d)) ≤ length out
-      → Kept (d .pins) (d .npins) (d .steiner) (d .nsteiner) (d .ends) out
+  pub deck-kept : length (d .points .pins) ≡ 64 → length (d .points .steiner) ≡ 128 → length (d .ends) ≡ 128 → (out : List ℕ) → length (fileOf (stateOf d)) ≤ length out
+      → Kept (d .points .pins) (d .points .npins) (d .points .steiner) (d .points .nsteiner) (d .ends) out
   deck-kept h k l out fits =
       record {
         pinsFew = sound-few d s;

@@ -36,10 +36,10 @@ WrittenRead = (d : Deck) (l : List ℕ) (n : ℕ) → written d l ≡ Length n �
 abbrev pub FullWrittenBack : Type 0
 FullWrittenBack =
     (b : List ℕ) (d : Deck) (l : List ℕ) → ((x : ℕ) → List·Memᴰ x b → x < 256) → reading b ≡ accepting d
-    → T (not (plain b)) ⊎ (d .npins ≤ 1) → length b ≤ length l → (written d l ≡ Length (length b)) × (left d l ≡ b ++ drop (length b) l)
+    → T (not (plain b)) ⊎ (d .points .npins ≤ 1) → length b ≤ length l → (written d l ≡ Length (length b)) × (left d l ≡ b ++ drop (length b) l)
 
 -- Any other file read, which is plain, is written full: "The writer writes every run".
 abbrev pub PlainWrittenFull : Type 0
 PlainWrittenFull =
-    (b : List ℕ) (d : Deck) (l : List ℕ) (n : ℕ) → reading b ≡ accepting d → 2 ≤ d .npins → written d l ≡ Length n
+    (b : List ℕ) (d : Deck) (l : List ℕ) (n : ℕ) → reading b ≡ accepting d → 2 ≤ d .points .npins → written d l ≡ Length n
     → T (not (plain (take n (left d l))))

@@ -4,6 +4,9 @@ use deck::Deck;
 use deck::Outcome;
 use deck::build::Built;
 use deck::build::build;
+use points::MAX_PINS;
+use points::PLACES;
+use points::Points;
 use sections::edges::same_edges;
 use sections::header::is_plain;
 use sections::number::number4;
@@ -49,11 +52,16 @@ fn points_deck(b: &[u8]) -> Built
     let size = number4(b, 10);
     let n = size / 4;
     let m = number4(b, 18) / 4;
-    let mut pins = [0u64; 64];
-    let mut steiner = [0u64; 64];
+    let mut pins = [0u64; MAX_PINS];
+    let mut steiner = [0u64; PLACES];
     decode(b, 30, n, &mut pins);
     decode(b, 30 + size, m, &mut steiner);
-    build(pins, n, steiner, m)
+    build(Points {
+        pins,
+        npins: n,
+        steiner,
+        nsteiner: m,
+    })
 }
 
 // Whether the third section holds the edges of a deck.
@@ -62,7 +70,7 @@ fn has_edges(b: &[u8], d: Deck) -> bool
     requires { ⌜ Sound d ⌝ }
     ensures { λ r. ⌜ r ≡ sameList (section (now (b .entry)) 2) (runSection (stateOf d)) ⌝ }
 {
-    let n = edges_of(d.npins + d.nsteiner);
+    let n = edges_of(d.points.npins + d.points.nsteiner);
     if number4(b, 26) != 2 * n {
         return false;
     }

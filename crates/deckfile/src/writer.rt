@@ -14,7 +14,7 @@ pub fn file_length(d: Deck) -> usize
     requires { ⌜ Sound d ⌝ }
     ensures { λ r. ⌜ r ≡ length (fileOf (stateOf d)) ⌝ }
 {
-    length_for(d.npins, d.nsteiner)
+    length_for(d.points.npins, d.points.nsteiner)
 }
 
 // Puts the file of a deck into a buffer that has room for it.
@@ -23,8 +23,15 @@ pub fn put_file(d: Deck, out: &mut [u8])
     requires { ⌜ length (fileOf (stateOf d)) ≤ length (now out) ⌝ }
     ensures { λ _. ⌜ now (out .exit) ≡ over 0 (fileOf (stateOf d)) (now (out .entry)) ⌝ }
 {
-    let pins = d.pins;
-    let steiner = d.steiner;
+    let pins = d.points.pins;
+    let steiner = d.points.steiner;
     let ends = d.ends;
-    put_parts(&pins, d.npins, &steiner, d.nsteiner, &ends, out);
+    put_parts(
+        &pins,
+        d.points.npins,
+        &steiner,
+        d.points.nsteiner,
+        &ends,
+        out,
+    );
 }

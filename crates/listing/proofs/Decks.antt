@@ -27,12 +27,14 @@ use Rattle.arrays.specs.Paste.{Pasted}
 use Rattle.arrays.proofs.paste.Parts.{front-take, front-count}
 use Rattle.tree.specs.Keys.{endsAt}
 use Rattle.plane.specs.Code.{pointOf}
-use Rattle.plan.proofs.Arranging.{codes-count}
+use Rattle.points.specs.Coded.{padded}
+use Rattle.points.proofs.Codes.{padded-take, padded-length}
+use Rattle.points.proofs.Coded.{pins-count, steiner-count}
 use Rattle.plane.proofs.codes.Sets.{points-union}
 use Rattle.deck.specs.declared.Deck.{Deck}
-use Rattle.deck.specs.Form.{row, stateOf, Sound}
-use Rattle.deck.proofs.Forms.{row-take, row-length, ends-are}
-use Rattle.deck.proofs.Checking.{sound-pins, sound-steiner}
+use Rattle.deck.specs.Form.{stateOf, Sound}
+use Rattle.deck.proofs.Forms.{ends-are}
+use Rattle.deck.proofs.Forms.{sound-arranged}
 use Rattle.listing.specs.Line.{headText, edgeAt, Ended}
 use Rattle.arrays.proofs.paste.Parts.{pasted-same}
 
@@ -82,15 +84,15 @@ module _ (codes : List ℕ) (n : ℕ) (fits : n ≤ length codes) (few : n ≤ 1
 
 -- A sound deck, and its points' codes merged.
 module _ (d : Deck) (s : Sound d) (from codes : List ℕ) (n : ℕ)
-    (w : Pasted (union ltb (take (d .npins) (d .pins)) (take (d .nsteiner) (d .steiner))) from codes 0 n) where
+    (w : Pasted (union ltb (take (d .points .npins) (d .points .pins)) (take (d .points .nsteiner) (d .points .steiner))) from codes 0 n) where
   abbrev all : List ℕ
-  all = union ltb (take (d .npins) (d .pins)) (take (d .nsteiner) (d .steiner))
+  all = union ltb (take (d .points .npins) (d .points .pins)) (take (d .points .nsteiner) (d .points .steiner))
 
   merged : take n codes ≡ all
   merged = front-take w
 
   held : map pointOf (take n codes) ≡ points (stateOf d)
-  held = unfold points in ap (map pointOf) merged ∙ points-union (take (d .npins) (d .pins)) (take (d .nsteiner) (d .steiner)) (sound-pins d s .codes) (sound-steiner d s .codes)
+  held = unfold points in ap (map pointOf) merged ∙ points-union (take (d .points .npins) (d .points .pins)) (take (d .points .nsteiner) (d .points .steiner)) (sound-arranged d s .pinCodes .codes) (sound-arranged d s .steinerCodes .codes)
 
   held-count : n ≡ length (points (stateOf d))
   held-count = front-count w ∙ sym (length-map all pointOf) ∙ ap (λ (l : List ℕ). length (map pointOf l)) (sym merged) ∙ ap length held
@@ -104,10 +106,10 @@ module _ (d : Deck) (s : Sound d) (from codes : List ℕ) (n : ℕ)
       ∙ ap (λ (k : ℕ). k - 1) (sym held-count)
 
   abbrev full : List ℕ
-  full = row 128 (map (endsAt (map pointOf (take n codes))) (question.listed (stateOf d)))
+  full = padded 128 (map (endsAt (map pointOf (take n codes))) (question.listed (stateOf d)))
 
   ends-row : d .ends ≡ full
-  ends-row = ends-are d s ∙ ap (λ (l : List Point). row 128 (map (endsAt l) (question.listed (stateOf d)))) (sym held)
+  ends-row = ends-are d s ∙ ap (λ (l : List Point). padded 128 (map (endsAt l) (question.listed (stateOf d)))) (sym held)
 
   ends-held : (e : Edge) → List·Memᴰ e (question.listed (stateOf d)) → List·Memᴰ (e .lo) (map pointOf (take n codes)) × List·Memᴰ (e .hi) (map pointOf (take n codes))
   unfolding planar
@@ -125,7 +127,7 @@ module _ (d : Deck) (s : Sound d) (from codes : List ℕ) (n : ℕ)
     pub held-ended : Ended (d .ends) m n
     held-ended =
         record {
-          within = omega (arith, ap length ends-row, row-length 128 (map (endsAt (map pointOf (take n codes))) (question.listed (stateOf d))) (omega (arith, size, held-few)), held-few);
+          within = omega (arith, ap length ends-row, padded-length 128 (map (endsAt (map pointOf (take n codes))) (question.listed (stateOf d))) (omega (arith, size, held-few)), held-few);
           low = λ i h. subst⁻¹ (λ (l : List ℕ). getD l i 0 / 128 < n) ends-row (at i h .0);
           high = λ i h. subst⁻¹ (λ (l : List ℕ). getD l i 0 % 128 < n) ends-row (at i h .1);
         }
@@ -138,16 +140,16 @@ module _ (d : Deck) (s : Sound d) (from codes : List ℕ) (n : ℕ)
     pub held-edges : map (edgeAt codes) (take m (d .ends)) ≡ question.listed (stateOf d)
     held-edges =
         ap (λ (l : List ℕ). map (edgeAt codes) (take m l)) ends-row
-        ∙ ap (map (edgeAt codes)) (row-take 128 (map (endsAt (map pointOf (take n codes))) (question.listed (stateOf d))) m size)
+        ∙ ap (map (edgeAt codes)) (padded-take 128 (map (endsAt (map pointOf (take n codes))) (question.listed (stateOf d))) m size)
         ∙ edges-back codes n fits held-few (question.listed (stateOf d)) ends-held
 
 -- The listing from its three parts.
 pub deck-put : (d : Deck) (s : Sound d) (n : ℕ) → n ≡ question.lengthOfState (stateOf d) → {old new : List ℕ} {at r : ℕ}
-    → Pasted (headText (d .npins) (d .nsteiner) n ++ (tapLines (stateOf d .steiner) ++ runLines (question.listed (stateOf d)))) old new at r
+    → Pasted (headText (d .points .npins) (d .points .nsteiner) n ++ (tapLines (stateOf d .steiner) ++ runLines (question.listed (stateOf d)))) old new at r
     → Pasted (listing (stateOf d)) old new at r
 unfolding listing
 deck-put d s n e p =
     pasted-same
-    (λ i. headText (codes-count (d .pins) (d .npins) (sound-pins d s) i) (codes-count (d .steiner) (d .nsteiner) (sound-steiner d s) i) (e i)
+    (λ i. headText (sym (pins-count (d .points) (sound-arranged d s)) i) (sym (steiner-count (d .points) (sound-arranged d s)) i) (e i)
     ++ (tapLines (stateOf d .steiner) ++ runLines (question.listed (stateOf d))))
     p

@@ -75,8 +75,8 @@ fn write_taps(d: Deck, out: &mut [u8], at: usize) -> usize
     ensures { λ r. ⌜ Pasted (model.tapLines (stateOf d .steiner)) (now (out .entry)) (now (out .exit)) at r ⌝ }
     ensures { λ r. ⌜ r ≤ at + 1116 ⌝ }
 {
-    let steiner = d.steiner;
-    tap_lines(out, at, &steiner, d.nsteiner)
+    let steiner = d.points.steiner;
+    tap_lines(out, at, &steiner, d.points.nsteiner)
 }
 
 // The run lines of a sound deck.
@@ -85,10 +85,16 @@ fn write_runs(d: Deck, out: &mut [u8], at: usize) -> usize
     requires { ⌜ Sound d ⌝ }
     ensures { λ r. ⌜ Pasted (model.runLines (question.listed (stateOf d))) (now (out .entry)) (now (out .exit)) at r ⌝ }
 {
-    let pins = d.pins;
-    let steiner = d.steiner;
+    let pins = d.points.pins;
+    let steiner = d.points.steiner;
     let mut codes = [0u64; 128];
-    let n = arrays::sorted::union(&pins, d.npins, &steiner, d.nsteiner, &mut codes);
+    let n = arrays::sorted::union(
+        &pins,
+        d.points.npins,
+        &steiner,
+        d.points.nsteiner,
+        &mut codes,
+    );
     let ends = d.ends;
     run_lines(out, at, &codes, n, &ends, edges_of(n))
 }
@@ -100,7 +106,7 @@ fn write_deck(d: Deck, n: u64, out: &mut [u8]) -> usize
     requires { ⌜ n ≡ question.lengthOfState (stateOf d) ⌝ }
     ensures { λ r. ⌜ Pasted (model.listing (stateOf d)) (now (out .entry)) (now (out .exit)) 0 r ⌝ }
 {
-    let a = head_line(out, d.npins, d.nsteiner, n);
+    let a = head_line(out, d.points.npins, d.points.nsteiner, n);
     let b = write_taps(d, out, a);
     write_runs(d, out, b)
 }

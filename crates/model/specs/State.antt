@@ -86,10 +86,17 @@ pruneFrom (suc k) s =
 unfoldable pub prune : State → State
 prune s = pruneFrom (length (s .steiner)) s
 
+-- The state with a pin at p, where no Steiner point stands then; the state without it.
+abbrev pub withPin : Point → State → State
+withPin p s = record { pins = put lower p (s .pins); steiner = out lower p (s .steiner) }
+
+abbrev pub withoutPin : Point → State → State
+withoutPin p s = record { pins = out lower p (s .pins); steiner = s .steiner }
+
 -- "Add a pin. The point joins, then a sweep. Where a tap stands, it becomes a pin."
 unfoldable pub insert : Point → State → State
-insert p s = prune (record { pins = put lower p (s .pins); steiner = out lower p (s .steiner) })
+insert p s = prune (withPin p s)
 
 -- "Withdraw a pin. The point leaves, then a sweep."
 unfoldable pub remove : Point → State → State
-remove p s = prune (record { pins = out lower p (s .pins); steiner = s .steiner })
+remove p s = prune (withoutPin p s)

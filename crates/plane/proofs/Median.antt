@@ -1,15 +1,13 @@
 -- The median: for a list of whole numbers and any x, some member of the list is no farther from them all together than x.
 -- Of the members take the nearest below x and the nearest above: the sum of distances is linear between the two, so that it does
 -- not rise towards one of them.
-use mathlib.Core.Path.{_≡_, refl, sym, ap, subst}
+use mathlib.Core.Path.{_≡_, refl, sym, subst}
 use mathlib.Core.Logic.{_⊎_, inl, inr, ⊎-elim}
-use mathlib.Core.Bool.{Bool, true, false, not}
 use mathlib.Core.List.{List, [], _∷_, List·Memᴰ, List·Memᴰ·head, List·Memᴰ·tail, List·Memᴰ·cases-cons, List·Memᴰ·not-nil}
-use Prim.Native.Nat.{ℕ, zero, suc, _+_, _*_, _-_, _≤_, _<_}
+use Prim.Native.Nat.{ℕ, zero, suc, _+_, _*_, _-_, _≤_}
 use native.Mathlib.Nat.{mul-le-mul-left, le-refl}
 use native.Mathlib.Omega.{arith}
 use native.Mathlib.Decide.{decLe}
-use lib.Dec.{T}
 use lib.IntN.{ℤ}
 use Rattle.plane.specs.Point.{gap}
 use Rattle.plane.proofs.Whole.{plus, minus, gap-ge, gap-le}

@@ -1,13 +1,12 @@
 -- The distance is a metric: symmetric, 0 at one place alone, with the triangle inequality; and it adds up between.
 use mathlib.Core.Path.{_≡_, refl, ap₂, subst}
-use Prim.Native.Nat.{ℕ, zero, suc, _+_, _-_, _≤_, _<_}
+use Prim.Native.Nat.{ℕ, zero, suc, _+_, _-_, _≤_}
 use native.Mathlib.Nat.{le-antisymm}
 use native.Mathlib.Omega.{arith}
 use lib.Dec.{T}
 use lib.IntN.{ℤ}
 use lib.Signed.{leZ}
 use Rattle.plane.specs.Point.{Point, gap, dist, Lower}
-use Rattle.plane.specs.Edge.{Edge, edgeLength}
 use Rattle.plane.proofs.Whole.{plus, minus, whole-ext, gap-ge, gap-le, atmost-value}
 use Rattle.plane.proofs.Order.{lower-order}
 

@@ -1,21 +1,21 @@
 -- Every difference other than 0, 0 is in exactly one octant, and `octant` gives it. By a chain of tests, `turn`, that finds
 -- the octant: each octant's condition decides every test on its way.
-use mathlib.Core.Path.{_≡_, refl, sym, ap, _∙_, subst}
+use mathlib.Core.Path.{_≡_, sym, ap, _∙_, subst}
 use mathlib.Core.Logic.{_⊎_, inl, inr, ⊎-elim}
 use mathlib.Core.Bool.{Bool, true, false}
 use mathlib.Core.List.{List, [], _∷_}
-use Prim.Native.Nat.{ℕ, zero, suc, _+_, _≤_, _<_}
+use Prim.Native.Nat.{ℕ, zero, suc, _+_, _<_}
 use native.Mathlib.Nat.{suc-inj}
 use native.Mathlib.Omega.{arith}
 use native.Mathlib.Decide.{decLt}
 use lib.Dec.{T, ltb, leb}
-use lib.ListN.{length, getD}
-use lib.IntN.{ℤ, pos, negsuc}
+use lib.ListN.{getD}
+use lib.IntN.{ℤ, pos}
 use borrow.Author.Tests.{lt-ltb, le-ltb, le-leb, lt-leb}
 use Rattle.arrays.specs.Test.{if}
 use Rattle.plane.specs.Octant.{conditions, inOctant, firstTrue, octant}
 use Rattle.plane.proofs.Whole.{plus, minus, whole-ext}
-use Rattle.plane.proofs.Sector.{Sector, SectorOf, to-sector, from-sector}
+use Rattle.plane.proofs.Sector.{Sector, to-sector, from-sector}
 
 -- The octant of a − b, c − d by a chain of tests.
 abbrev turn : ℕ → ℕ → ℕ → ℕ → ℕ

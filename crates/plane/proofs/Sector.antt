@@ -1,20 +1,14 @@
 -- The eight octants: every difference other than 0, 0 is in exactly one, and of two points in one octant the farther from the
 -- corner is nearer to the other than to the corner. By natural numbers: dx is a less b, dy is c less d.
-use mathlib.Core.Path.{_≡_, refl, sym, ap, _∙_, subst}
-use mathlib.Core.Logic.{_⊎_, inl, inr, ⊎-elim}
-use mathlib.Core.Bool.{Bool, true, false, not, _&&_}
-use mathlib.Core.List.{List, [], _∷_}
+use mathlib.Core.Bool.{_&&_}
 use Prim.Native.Nat.{ℕ, zero, suc, _+_, _≤_, _<_}
 use native.Mathlib.Omega.{arith}
-use native.Mathlib.Decide.{decLt}
 use lib.Dec.{T}
-use lib.ListN.{length, getD}
-use lib.IntN.{ℤ, pos, negsuc, negℤ}
+use lib.IntN.{ℤ, pos, negℤ}
 use lib.Signed.{ltZ, leZ}
-use Rattle.arrays.specs.Test.{if}
-use Rattle.plane.specs.Octant.{conditions, inOctant, firstTrue, octant}
+use Rattle.plane.specs.Octant.{conditions, inOctant}
 use Rattle.arrays.proofs.Test.{and-parts, and-both}
-use Rattle.plane.proofs.Whole.{plus, minus, whole-ext, neg-plus, neg-minus, less-value, value-less, atmost-value, value-atmost}
+use Rattle.plane.proofs.Whole.{plus, minus, neg-plus, neg-minus, less-value, value-less, atmost-value, value-atmost}
 
 -- Document 01's conditions on natural numbers.
 abbrev pub Sector : ℕ → ℕ → ℕ → ℕ → ℕ → Type 0

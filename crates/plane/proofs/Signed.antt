@@ -2,24 +2,24 @@
 -- a test of two whole numbers and a bound on one are linear facts on their parts `plus` and `minus`.
 use mathlib.Core.Path.{_≡_, sym, _∙_, subst}
 use mathlib.Core.Logic.{⊎-elim}
-use mathlib.Core.Bool.{true, false}
-use Prim.Native.Nat.{ℕ, _+_, _≤_, _<_}
+use mathlib.Core.Bool.{Bool, true, false, _&&_, cond}
+use Prim.Native.Nat.{ℕ, suc, _+_, _-_, _≤_, _<_}
 use native.Mathlib.Omega.{arith}
 use native.Mathlib.Decide.{decLt, decLe}
-use lib.Dec.{T}
-use lib.IntN.{ℤ, pos, negsuc, natAbs, _+ℤ_, _-ℤ_}
-use lib.Signed.{ltZ, leZ, nonNeg}
-use mir.Syntax.{w16, w32}
-use mir.Val.{Fits, SFits, toZ, ofZ}
+use lib.Dec.{T, ltb}
+use lib.IntN.{ℤ, pos, negsuc, subℕ, _+ℤ_, _-ℤ_}
+use lib.Signed.{ltZ, leZ}
+use mir.Syntax.{w32}
+use mir.Val.{SFits, toZ, ofZ}
 use mir.ValLaws.{toZ-ofZ}
-use Rattle.plane.specs.declared.Coordinate.the-variants.{Stored, OutOfRange}
-use Rattle.plane.specs.Coordinate.{coordinate}
+use Rattle.plane.specs.Point.{limit, coordinateInRange}
+use Rattle.plane.specs.Coordinate.{base, biased}
 use Rattle.plane.specs.Octant.{octant}
-use Rattle.plane.specs.Stored.{storedOf}
-use Rattle.plane.proofs.Whole.{plus, minus, one-sided, add-value, difference-value, whole-ext, less-value, value-less, atmost-value, value-atmost}
-use Rattle.plane.proofs.Sector.{SectorOf}
+use Rattle.arrays.proofs.Test.{and-parts, and-both, same-test}
+use Rattle.plane.proofs.Whole.{plus, minus, one-sided, sub-value, add-value, difference-value, whole-ext, less-value, value-less, atmost-value, value-atmost}
 use Rattle.plane.proofs.Range.{range-values}
-use Rattle.plane.proofs.Stored.{coordinate-value, moved, stored-is, stored-beyond}
+use Rattle.plane.proofs.Stored.{value-range, biased-value}
+use Rattle.plane.proofs.Sector.{SectorOf}
 use Rattle.plane.proofs.Between.{sector-octant, octant-none}
 
 -- What a test says.
@@ -62,6 +62,13 @@ sum-fits a b f g h k =
     (⊎-elim (λ e. omega (arith, bounds a f, add-value a b)) (λ e. omega (arith, bounds a f, add-value a b)) (one-sided (a +ℤ b)))
     (⊎-elim (λ e. omega (arith, bounds b g, add-value a b)) (λ e. omega (arith, bounds b g, add-value a b)) (one-sided (a +ℤ b)))
 
+-- Numbers handed on are read back from their bits.
+abbrev pub read : ℤ → ℤ
+read z = toZ w32 (ofZ w32 z)
+
+pub read-two : {A : Type 0} (f : ℤ → ℤ → A) (x y : ℤ) → SFits w32 x → SFits w32 y → f (read x) (read y) ≡ f x y
+read-two f x y h k i = f (toZ-ofZ w32 x h i) (toZ-ofZ w32 y k i)
+
 -- The octant of two numbers, by what is read back from their bits.
 pub read-fits : (z : ℤ) → SFits w32 z → SFits w32 (toZ w32 (ofZ w32 z))
 read-fits z f = subst (SFits w32) (sym (toZ-ofZ w32 z f)) f
@@ -75,40 +82,27 @@ pub read-none : (dx dy : ℤ) → SFits w32 dx → SFits w32 dy → plus (toZ w3
 read-none dx dy f g e h =
     sym (octant-none (toZ w32 (ofZ w32 dx)) (toZ w32 (ofZ w32 dy)) e h) ∙ (λ i. octant (toZ-ofZ w32 dx f i) (toZ-ofZ w32 dy g i))
 
--- The stored form of a whole number in range, and that of one beyond it.
-module _ (z : ℤ) (low : ltZ z (negsuc 29999) ≡ false) (high : ltZ (pos 30000) z ≡ false) where
-  raised : natAbs (z +ℤ pos 30000) + minus z ≡ plus z + 30000
-  raised = moved z 30000 (omega (arith, less-no z (negsuc 29999) low))
+-- A coordinate in range lies between two bounds; raised by 30,000 it is its stored form.
+pub between-limits : (z : ℤ) → leZ (negsuc 29999) z && leZ z (pos limit) ≡ coordinateInRange z
+between-limits z =
+    same-test (leZ (negsuc 29999) z && leZ z (pos limit)) (coordinateInRange z)
+    (λ t. let h = and-parts (leZ (negsuc 29999) z) (leZ z (pos limit)) t in
+    value-range z (omega (arith, atmost-value (negsuc 29999) z (h .0))) (omega (arith, atmost-value z (pos limit) (h .1))))
+    (λ t. let h = range-values z t in
+    and-both (leZ (negsuc 29999) z) (leZ z (pos limit)) (value-atmost (negsuc 29999) z (omega arith)) (value-atmost z (pos limit) (omega arith)))
 
-  pub raised-fits : SFits w32 (z +ℤ pos 30000)
-  raised-fits =
-      ⊎-elim
-      (λ e. fits-by (z +ℤ pos 30000) (omega arith) (omega (arith, add-value z (pos 30000), less-no z (negsuc 29999) low)))
-      (λ e. fits-by (z +ℤ pos 30000) (omega (arith, add-value z (pos 30000), less-no (pos 30000) z high)) (omega arith))
-      (one-sided (z +ℤ pos 30000))
+pub raised : (z : ℤ) → T (coordinateInRange z) → z +ℤ pos limit ≡ pos (biased z)
+raised z t =
+    let h = range-values z t in
+    whole-ext (z +ℤ pos limit) (pos (biased z)) (omega (arith, add-value z (pos limit), biased-value z (omega arith)))
 
-  pub raised-cast : T (nonNeg (z +ℤ pos 30000)) × Fits w16 (natAbs (z +ℤ pos 30000))
-  raised-cast = (not-below (z +ℤ pos 30000) (omega (arith, add-value z (pos 30000), less-no z (negsuc 29999) low)), record { fits = omega (arith, raised, less-no (pos 30000) z high) })
-    where
-      not-below : (y : ℤ) → minus y ≤ plus y → T (nonNeg y)
-      not-below (pos n) h = tt
-      not-below (negsuc n) h = absurd (omega arith)
+-- The difference of two numbers of 16 bits.
+pub lowered : (a b : ℕ) → pos a -ℤ pos b ≡ subℕ a b
+lowered a b = whole-ext (pos a -ℤ pos b) (subℕ a b) (omega (arith, difference-value (pos a) (pos b), sub-value a b))
 
-  pub raised-stored : storedOf z ≡ Stored (natAbs (z +ℤ pos 30000))
-  raised-stored = stored-is z (natAbs (z +ℤ pos 30000)) (omega (arith, raised)) (omega (arith, raised, less-no (pos 30000) z high))
-
-pub stored-low : (z : ℤ) → ltZ z (negsuc 29999) ≡ true → storedOf z ≡ OutOfRange
-stored-low z e = stored-beyond z (λ t. let h = range-values z t in omega (arith, less-yes z (negsuc 29999) e))
-
-pub stored-high : (z : ℤ) → ltZ (pos 30000) z ≡ true → storedOf z ≡ OutOfRange
-stored-high z e = stored-beyond z (λ t. let h = range-values z t in omega (arith, less-yes (pos 30000) z e))
-
--- The whole number of a stored coordinate is a difference that 32 bits hold.
-pub lowered : (u : ℕ) → pos u -ℤ pos 30000 ≡ coordinate u
-lowered u = whole-ext (pos u -ℤ pos 30000) (coordinate u) (omega (arith, difference-value (pos u) (pos 30000), coordinate-value u))
-
-pub lowered-fits : (u : ℕ) → u < 65536 → SFits w32 (pos u -ℤ pos 30000)
-lowered-fits u h =
-    ⊎-elim (λ e. fits-by (pos u -ℤ pos 30000) (omega arith) (omega (arith, difference-value (pos u) (pos 30000))))
-    (λ e. fits-by (pos u -ℤ pos 30000) (omega (arith, difference-value (pos u) (pos 30000))) (omega arith))
-    (one-sided (pos u -ℤ pos 30000))
+pub lowered-fits : (a b : ℕ) → a ≤ base → b ≤ base → SFits w32 (subℕ a b)
+lowered-fits a b h k = go (ltb a b)
+  where
+    go : (t : Bool) → SFits w32 (cond t (negsuc (b - suc a)) (pos (a - b)))
+    go true = record { sfits = omega arith }
+    go false = record { sfits = omega arith }

@@ -1,23 +1,21 @@
 -- Stored coordinates: stored and whole numbers correspond, in the same order, and so do the two bytes of a file. By natural
 -- numbers: `coordinate u` is u less 30,000, and each claim is then a step of arithmetic.
-use mathlib.Core.Path.{_≡_, refl, sym, ap, _∙_, subst}
+use mathlib.Core.Path.{_≡_, sym, ap, _∙_, subst}
 use mathlib.Core.Logic.{_⊎_, inl, inr, ⊎-elim, _↔_}
-use mathlib.Core.Bool.{Bool, true, false}
+use mathlib.Core.Bool.{true, false}
 use Prim.Native.Nat.{ℕ, _+_, _*_, _-_, _/_, _%_, _≤_, _<_}
 use native.Mathlib.Nat.{le-antisymm}
 use native.Mathlib.Omega.{arith}
 use native.Mathlib.Decide.{decLt}
-use lib.Dec.{T, T-not, ltb, ltb→lt, nltb→le, lt→ltb, le→leb}
+use lib.Dec.{T, ltb, ltb→lt, nltb→le, lt→ltb, le→leb}
 use lib.IntN.{ℤ, pos, natAbs, _+ℤ_}
 use lib.Signed.{ltZ}
 use borrow.Author.Tests.{lt-ltb, le-ltb, ltb-false}
-use Rattle.plane.specs.declared.Coordinate.{Coordinate}
-use Rattle.plane.specs.declared.Coordinate.the-variants.{Stored, OutOfRange}
-use Rattle.arrays.specs.Test.{if, thenBy}
+use Rattle.arrays.specs.Test.{thenBy}
 use Rattle.plane.specs.Point.{limit, coordinateInRange, lower, gap}
 use Rattle.plane.specs.Coordinate.{coordinate, biased, signed16, word16}
-use Rattle.plane.specs.Stored.{pointAt, storedOf}
-use Rattle.arrays.proofs.Test.{by-test, thenBy-cases, same-test}
+use Rattle.plane.specs.Stored.{pointAt}
+use Rattle.arrays.proofs.Test.{thenBy-cases, same-test}
 use Rattle.plane.proofs.Range.{range-values}
 use Rattle.plane.proofs.Whole.{plus, minus, one-sided, abs-value, sub-value, add-value, whole-ext, less-value, value-less, gap-ge, gap-le}
 
@@ -116,41 +114,6 @@ coordinate-range u h = value-range (coordinate u) (omega (arith, coordinate-valu
 -- This one holds of every natural number u, as no coordinate u is below −30,000.
 pub biased-coordinate : (u : ℕ) → biased (coordinate u) ≡ u
 biased-coordinate u = omega (arith, coordinate-value u, biased-value (coordinate u) (omega (arith, coordinate-value u)))
-
--- The answer of the check, from bounds.
-pub stored-is : (z : ℤ) (u : ℕ) → plus z + 30000 ≡ u + minus z → u ≤ 60000 → storedOf z ≡ Stored u
-unfolding storedOf
-stored-is z u e h =
-    by-test (λ (r : Coordinate). r ≡ Stored u) (coordinateInRange z) (λ _. Stored (biased z)) (λ _. OutOfRange)
-    (λ t. ap Stored (omega (arith, biased-value z (omega (arith, range-values z t)))))
-    (λ f. absurd (T-not (coordinateInRange z) f (value-range z (omega arith) (omega arith))))
-
-pub stored-beyond : (z : ℤ) → ¬ T (coordinateInRange z) → storedOf z ≡ OutOfRange
-unfolding storedOf
-stored-beyond z n =
-    by-test (λ (r : Coordinate). r ≡ OutOfRange) (coordinateInRange z) (λ _. Stored (biased z)) (λ _. OutOfRange)
-    (λ t. absurd (n t)) (λ f. refl)
-
--- What the answer of the check says of the number.
-pub number-out : (z : ℤ) → storedOf z ≡ OutOfRange → coordinateInRange z ≡ false
-unfolding storedOf
-number-out z e = go (coordinateInRange z) e
-  where
-    go : (b : Bool) → if b (λ _. Stored (biased z)) (λ _. OutOfRange) ≡ OutOfRange → b ≡ false
-    go true f = let h : _≡_ {A = ℕ} 0 1 = cc in absurd (omega arith)
-    go false f = refl
-
-pub number-in : (z : ℤ) (u : ℕ) → storedOf z ≡ Stored u → (coordinateInRange z ≡ true) × (u ≡ biased z)
-unfolding storedOf
-number-in z u e = go (coordinateInRange z) e
-  where
-    go : (b : Bool) → if b (λ _. Stored (biased z)) (λ _. OutOfRange) ≡ Stored u → (b ≡ true) × (u ≡ biased z)
-    go true f = (refl, cc)
-    go false f = let h : _≡_ {A = ℕ} 0 1 = cc in absurd (omega arith)
-
--- What is stored is given back.
-pub stored-again : (u : ℕ) → u ≤ 60000 → storedOf (coordinate u) ≡ Stored u
-stored-again u h = stored-is (coordinate u) u (coordinate-value u) h
 
 -- The whole number of two bytes.
 pub signed-value : (low high : ℕ) → plus (signed16 low high) + 65536 * (high / 128) ≡ low + 256 * high + minus (signed16 low high)

@@ -2,7 +2,10 @@
 use mathlib.Core.Bool.{Bool, _&&_}
 use Prim.Native.Nat.{ℕ, _+_, _*_, _/_, _%_}
 use lib.Dec.{leb}
-use Rattle.plane.specs.Point.{Point}
+use Rattle.plane.specs.declared.codes.Located.{Located}
+use Rattle.plane.specs.declared.codes.Located.the-variants.{OutOfRange, At}
+use Rattle.arrays.specs.Test.{if}
+use Rattle.plane.specs.Point.{Point, inRange}
 use Rattle.plane.specs.Coordinate.{base, storedLimit, biased}
 use Rattle.plane.specs.Stored.{pointAt}
 
@@ -27,3 +30,7 @@ pointOf k = pointAt (xOf k) (yOf k)
 -- Whether a number is the code of a point in range.
 abbrev pub isCode : ℕ → Bool
 isCode k = leb (k / base) storedLimit && leb (k % base) storedLimit
+
+-- The code of a point, or the answer that it is out of range.
+unfoldable pub located : Point → Located
+located p = if (inRange p) (λ _. At (code p)) (λ _. OutOfRange)

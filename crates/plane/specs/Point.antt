@@ -12,6 +12,10 @@ pub record Point : Type 0 where
   pub x : ℤ
   pub y : ℤ
 
+-- The point of two whole numbers.
+abbrev pub point : ℤ → ℤ → Point
+point x y = record { x = x; y = y }
+
 -- The largest coordinate, and without its sign the smallest.
 abbrev pub limit : ℕ
 limit = 30000

@@ -7,21 +7,16 @@ pub mod octants;
 
 ghost use mathlib.Core.Path.{_≡_};
 ghost use Prim.Native.Nat.{_≤_};
-ghost use Rattle.plane.specs.Coordinate.{coordinate, signed16, word16};
+ghost use lib.IntN.{subℕ};
+ghost use Rattle.plane.specs.Coordinate.{base, coordinate, signed16, word16};
 ghost use Rattle.plane.specs.Point.{dist, gap, lower};
-ghost use Rattle.plane.specs.Stored.{pointAt, storedOf};
+ghost use Rattle.plane.specs.Stored.{pointAt};
 
 // One more than the largest number that a stored coordinate can be.
 pub const BASE: u64 = 65536;
 
 // The largest coordinate, and without its sign the smallest.
-const LIMIT: i32 = 30000;
-
-// A coordinate that was checked: as it is stored, or out of range.
-pub enum Coordinate {
-    Stored(u16),
-    OutOfRange,
-}
+pub const LIMIT: i32 = 30000;
 
 // The distance along one axis.
 pub fn apart(a: u16, b: u16) -> u16
@@ -45,6 +40,14 @@ pub fn is_lower(ax: u16, ay: u16, bx: u16, by: u16) -> bool
     if ax == bx { ay < by } else { ax < bx }
 }
 
+// The difference of two numbers of 16 bits.
+fn difference(a: u64, b: u64) -> i32
+    requires { ⌜ (a ≤ base) × (b ≤ base) ⌝ }
+    ensures { λ r. ⌜ r ≡ subℕ a b ⌝ }
+{
+    a as i32 - b as i32
+}
+
 // The 16 bits of a coordinate in two's complement, from its stored form.
 pub fn word_of(u: u16) -> usize
     ensures { λ r. ⌜ r ≡ word16 (coordinate u) ⌝ }
@@ -52,34 +55,17 @@ pub fn word_of(u: u16) -> usize
     ((u as u64 + BASE - LIMIT as u64) % BASE) as usize
 }
 
-// The coordinate of two file bytes. Its 16 bits plus 30,000, where they go round after 65,535, are its stored form.
-pub fn from_bytes(low: u8, high: u8) -> Coordinate
-    ensures { λ r. ⌜ r ≡ storedOf (signed16 low high) ⌝ }
+// The whole number of two file bytes.
+pub fn from_bytes(low: u8, high: u8) -> i32
+    ensures { λ r. ⌜ r ≡ signed16 low high ⌝ }
 {
-    let u = (low as u32 + 256 * (high as u32) + 30000) % 65536;
-    if u <= 60000 {
-        Coordinate::Stored(u as u16)
-    } else {
-        Coordinate::OutOfRange
-    }
-}
-
-// The stored form of a whole number.
-pub fn from_signed(z: i32) -> Coordinate
-    ensures { λ r. ⌜ r ≡ storedOf z ⌝ }
-{
-    if z < -30000 {
-        return Coordinate::OutOfRange;
-    }
-    if 30000 < z {
-        return Coordinate::OutOfRange;
-    }
-    Coordinate::Stored((z + 30000) as u16)
+    let bits = low as u64 + 256 * (high as u64);
+    difference(bits, BASE * (high as u64 / 128))
 }
 
 // The whole number of a stored coordinate.
 pub fn to_signed(u: u16) -> i32
     ensures { λ r. ⌜ r ≡ coordinate u ⌝ }
 {
-    u as i32 - LIMIT
+    difference(u as u64, LIMIT as u64)
 }

@@ -33,11 +33,12 @@ use Rattle.tree.proofs.Numbers.{number-at}
 use Rattle.tree.proofs.Sorted.{tree-keys-mst, ps-sorted}
 use Rattle.arrays.specs.Array.{indexOf}
 use Rattle.plane.specs.Code.{pointOf, isCode}
-use Rattle.plan.specs.declared.Plan.{Plan}
-use Rattle.plan.specs.Work.{Planned, stateOf}
+use Rattle.working.specs.declared.Working.{Working}
+use Rattle.working.specs.InOrder.{InOrder, stateOf}
 use Rattle.plane.proofs.codes.Sets.{points-has}
-use Rattle.plan.proofs.Arranging.{all-codes, all-points, arranged-placed, codes-count}
-use Rattle.plan.proofs.Sweeping.{held-degree}
+use Rattle.working.proofs.Arranging.{all-codes, all-points, arranged-placed}
+use Rattle.points.proofs.Coded.{pins-count, steiner-count}
+use Rattle.working.proofs.Sweeping.{held-degree}
 use Rattle.questions.specs.declared.Answer.the-variants.{Counts, Edge, NoEdge}
 use Rattle.questions.specs.Answers.{countsAnswer, edgeAnswer, edgeOrNone, Listed}
 
@@ -56,7 +57,7 @@ none-beyond s v p e =
     sym (none-at s (v .placed .steinerRise) p (λ i. subst T e (⊎-elim (v .placed .pinsRange p) (v .placed .steinerRange p) (points-in s p .0 i))))
 
 -- A working form: its counts, and the edges at a code.
-module _ (w : Plan) (p : Planned w) where
+module _ (w : Working) (p : InOrder w) where
   abbrev at : ℕ → Point
   at = held (w .xs) (w .ys)
 
@@ -67,17 +68,15 @@ module _ (w : Plan) (p : Planned w) where
 
   held-has : (k : ℕ) → T (isCode k) → has ltb k (take (w .npoints) (w .codes)) ≡ has lower (pointOf k) (points (stateOf w))
   held-has k t =
-      ap (has ltb k) (p .codes) ∙ points-has k t _ (all-codes (w .pins) (w .npins) (w .steiner) (w .nsteiner) (p .arranged))
-      ∙ ap (has lower (pointOf k)) (all-points (w .pins) (w .npins) (w .steiner) (w .nsteiner) (p .arranged))
+      ap (has ltb k) (p .codes) ∙ points-has k t _ (all-codes (w .points) (p .arranged))
+      ∙ ap (has lower (pointOf k)) (all-points (w .points) (p .arranged))
 
-  pub counts-answer : Counts (w .npins) (w .nsteiner) (w .nkeys) ≡ countsAnswer (stateOf w)
-  counts-answer =
-      (λ i. Counts (codes-count (w .pins) (w .npins) (p .arranged .pinCodes) i) (codes-count (w .steiner) (w .nsteiner) (p .arranged .steinerCodes) i)
-      (edge-count i))
+  pub counts-answer : Counts (w .points .npins) (w .points .nsteiner) (w .nkeys) ≡ countsAnswer (stateOf w)
+  counts-answer = λ i. Counts (sym (pins-count (w .points) (p .arranged)) i) (sym (steiner-count (w .points) (p .arranged)) i) (edge-count i)
 
   pub degree-none : (k : ℕ) → T (isCode k) → has ltb k (take (w .npoints) (w .codes)) ≡ false → 0 ≡ question.edgeCountAt (pointOf k) (stateOf w)
   degree-none k t e =
-      sym (none-at (stateOf w) (arranged-placed (w .pins) (w .npins) (w .steiner) (w .nsteiner) (p .arranged) .steinerRise) (pointOf k)
+      sym (none-at (stateOf w) (arranged-placed (w .points) (p .arranged) .steinerRise) (pointOf k)
       (λ i. subst T (sym (held-has k t) ∙ e) (has-in lower lower-order (pointOf k) (points (stateOf w)) .1 i)))
 
   pub degree-there : (k i n : ℕ) → T (has ltb k (take (w .npoints) (w .codes))) → i ≡ indexOf k (take (w .npoints) (w .codes)) → n ≡ degree keyGraph i (take (w .nkeys) (w .keys))
@@ -121,17 +120,17 @@ member-at f (a ∷ l) r zero h = (a, refl, head refl, refl)
 member-at f (a ∷ l) r (suc i) h = let m = member-at f l r i (omega arith) in (m .0, m .1, tail (m .2), m .3)
 
 -- The edge at a place of the listing order.
-pub record EdgeThere (w : Plan) (ends : List ℕ) (i : ℕ) : Type 0 where
+pub record EdgeThere (w : Working) (ends : List ℕ) (i : ℕ) : Type 0 where
   pub within : i < length ends
   pub low : getD ends i 0 / 128 < w .npoints
   pub high : getD ends i 0 % 128 < w .npoints
   pub is : edgeAnswer (record { lo = held (w .xs) (w .ys) (getD ends i 0 / 128); hi = held (w .xs) (w .ys) (getD ends i 0 % 128) })
       ≡ edgeOrNone (question.edgeAtPlace i (stateOf w))
 
-module _ (w : Plan) (p : Planned w) where
+module _ (w : Working) (p : InOrder w) where
   count : length (question.listed (stateOf w)) ≡ w .nkeys
   count =
-      listed-count (stateOf w) (arranged-placed (w .pins) (w .npins) (w .steiner) (w .nsteiner) (p .arranged)) ∙ sym (edge-count w p)
+      listed-count (stateOf w) (arranged-placed (w .points) (p .arranged)) ∙ sym (edge-count w p)
 
   pub no-edge : (i : ℕ) → w .nkeys ≤ i → NoEdge ≡ edgeOrNone (question.edgeAtPlace i (stateOf w))
   unfolding edgeOrNone

@@ -8,8 +8,8 @@ use Rattle.plane.specs.Edge.{Edge as PlaneEdge, edgeLength}
 use Rattle.model.specs.State.{State, points}
 use Rattle.model.specs.Question as question
 use Rattle.tree.specs.Keys.{endsAt}
-use Rattle.plan.specs.declared.Plan.{Plan}
-use Rattle.plan.specs.Work.{stateOf}
+use Rattle.working.specs.declared.Working.{Working}
+use Rattle.working.specs.InOrder.{stateOf}
 use Rattle.questions.specs.declared.Answer.{Answer}
 use Rattle.questions.specs.declared.Answer.the-variants.{Length, Counts, Edge, NoEdge, Degree}
 
@@ -38,6 +38,6 @@ abbrev pub degreeAnswer : Point → State → Answer
 degreeAnswer p s = Degree (question.edgeCountAt p s)
 
 -- An array begins with the numbers of the edges' ends, in the listing order.
-pub record Listed (w : Plan) (ends : List ℕ) : Type 0 where
+pub record Listed (w : Working) (ends : List ℕ) : Type 0 where
   pub rest : List ℕ
   pub is : ends ≡ map (endsAt (points (stateOf w))) (question.listed (stateOf w)) ++ rest

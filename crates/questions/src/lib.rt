@@ -1,7 +1,7 @@
 // The questions on a working form in order.
-use plan::Plan;
-use plan::place::Place;
-use plan::place::locate;
+use plane::codes::Located;
+use plane::codes::locate;
+use working::Working;
 ghost use mathlib.Core.Path.{_≡_};
 ghost use Prim.Native.Nat.{_/_, _%_, _<_};
 ghost use lib.Dec.{T};
@@ -9,7 +9,7 @@ ghost use Rattle.model.specs.State.{Valid};
 ghost use Rattle.model.specs.Question as question;
 ghost use Rattle.tree.specs.Held.{held};
 ghost use Rattle.plane.specs.Code.{pointOf, isCode};
-ghost use Rattle.plan.specs.Work.{Planned, stateOf};
+ghost use Rattle.working.specs.InOrder.{InOrder, stateOf};
 ghost use Rattle.questions.specs.Answers.{lengthAnswer, countsAnswer, edgeAnswer, edgeAtAnswer, degreeAnswer, Listed};
 
 // What a question answers: a refusal by its number; the length; the counts of pins, Steiner points and edges; an edge by its
@@ -24,8 +24,8 @@ pub enum Answer {
 }
 
 // The edge between two points, whose numbers stand in one.
-fn edge_between(w: Plan, ends: u64) -> Answer
-    requires { ⌜ Planned w ⌝ }
+fn edge_between(w: Working, ends: u64) -> Answer
+    requires { ⌜ InOrder w ⌝ }
     requires { ⌜ (ends / 128 < w .npoints) × (ends % 128 < w .npoints) ⌝ }
     ensures { λ r. ⌜ r ≡ edgeAnswer (record { lo = held (w .xs) (w .ys) (ends / 128); hi = held (w .xs) (w .ys) (ends % 128) }) ⌝ }
 {
@@ -42,8 +42,8 @@ fn edge_between(w: Plan, ends: u64) -> Answer
 }
 
 // The number of edges at a place in range, 0 where no point is held.
-fn degree_of(w: Plan, k: u64) -> usize
-    requires { ⌜ Planned w ⌝ }
+fn degree_of(w: Working, k: u64) -> usize
+    requires { ⌜ InOrder w ⌝ }
     requires { ⌜ T (isCode k) ⌝ }
     ensures { λ r. ⌜ r ≡ question.edgeCountAt (pointOf k) (stateOf w) ⌝ }
 {
@@ -60,24 +60,28 @@ fn degree_of(w: Plan, k: u64) -> usize
 }
 
 // The length of the tree.
-pub fn length(w: Plan) -> Answer
-    requires { ⌜ Planned w ⌝ }
+pub fn length(w: Working) -> Answer
+    requires { ⌜ InOrder w ⌝ }
     ensures { λ r. ⌜ r ≡ lengthAnswer (stateOf w) ⌝ }
 {
     Answer::Length(rounds::length_of(w))
 }
 
 // The counts of pins, Steiner points and edges.
-pub fn counts(w: Plan) -> Answer
-    requires { ⌜ Planned w ⌝ }
+pub fn counts(w: Working) -> Answer
+    requires { ⌜ InOrder w ⌝ }
     ensures { λ r. ⌜ r ≡ countsAnswer (stateOf w) ⌝ }
 {
-    Answer::Counts(w.npins as u64, w.nsteiner as u64, w.nkeys as u64)
+    Answer::Counts(
+        w.points.npins as u64,
+        w.points.nsteiner as u64,
+        w.nkeys as u64,
+    )
 }
 
 // The edge at a place in the listing order, places from 0, where `ends` begins with the edges in that order.
-pub fn edge_at(w: Plan, ends: &[u64; 128], i: usize) -> Answer
-    requires { ⌜ Planned w ⌝ }
+pub fn edge_at(w: Working, ends: &[u64; 128], i: usize) -> Answer
+    requires { ⌜ InOrder w ⌝ }
     requires { ⌜ Listed w (now ends) ⌝ }
     ensures { λ r. ⌜ r ≡ edgeAtAnswer i (stateOf w) ⌝ }
 {
@@ -88,13 +92,13 @@ pub fn edge_at(w: Plan, ends: &[u64; 128], i: usize) -> Answer
 }
 
 // The number of edges at a point, 0 where none is held.
-pub fn degree_at(w: Plan, x: i32, y: i32) -> Answer
-    requires { ⌜ Planned w ⌝ }
+pub fn degree_at(w: Working, x: i32, y: i32) -> Answer
+    requires { ⌜ InOrder w ⌝ }
     requires { ⌜ Valid (stateOf w) ⌝ }
     ensures { λ r. ⌜ r ≡ degreeAnswer (record { x = x; y = y }) (stateOf w) ⌝ }
 {
     match locate(x, y) {
-        Place::OutOfRange => Answer::Degree(0),
-        Place::At(k) => Answer::Degree(degree_of(w, k) as u64),
+        Located::OutOfRange => Answer::Degree(0),
+        Located::At(k) => Answer::Degree(degree_of(w, k) as u64),
     }
 }

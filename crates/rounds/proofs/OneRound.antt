@@ -4,7 +4,7 @@ use mathlib.Core.Logic.{inl, ⊎-elim}
 use mathlib.Core.Bool.{true, false}
 use mathlib.Core.Option.{Option, none, some}
 use mathlib.Core.List.{List·Memᴰ}
-use Prim.Native.Nat.{ℕ, _-_, _≤_, _<_}
+use Prim.Native.Nat.{ℕ, _+_, _-_, _≤_, _<_}
 use native.Mathlib.Omega.{arith}
 use lib.Dec.{T}
 use lib.ListN.{length}
@@ -18,13 +18,14 @@ use Rattle.model.specs.State.{State, Valid, points, prune}
 use Rattle.model.specs.Tree.{treeLength}
 use Rattle.model.specs.Round.{RoundResult, finished, tap, withSteiner, best, round}
 use Rattle.model.specs.Choice.{Candidate}
-use Rattle.model.proofs.Prune.{points-in, few-steiner}
+use Rattle.model.proofs.Prune.{points-in}
 use Rattle.model.proofs.Choice.{Choice, none-saves, some-chosen, best-choice, saved-shorter}
 use Rattle.model.proofs.Round.{candidate-range, prune-shorter}
-use Rattle.plan.specs.declared.Plan.{Plan}
+use Rattle.working.specs.declared.Working.{Working}
 use Rattle.plane.specs.Code.{packed, code, pointOf, isCode}
-use Rattle.plan.specs.Work as work
-use Rattle.plan.proofs.Arranging.{codes-count}
+use Rattle.working.specs.InOrder as work
+use Rattle.points.specs.Coded.{maxPoints}
+use Rattle.points.proofs.Coded.{valid-few, pins-count, steiner-count}
 use Rattle.plane.proofs.codes.Points.{point-code, code-is}
 use Rattle.crossing.specs.declared.found.Best.the-variants.{Nothing, At}
 use Rattle.crossing.specs.Search.{answerOf}
@@ -120,10 +121,6 @@ module _ (s : State) (u v k : ℕ) (j : Joins s u v k) where
   pub joins-shorter : Valid s → treeLength (points (prune (withSteiner (pointOf k) s))) ≤ treeLength (points s)
   joins-shorter w = omega (arith, j .shorter, prune-shorter s w (pointOf k) (j .candidate))
 
--- There is room for one more Steiner point.
-pub steiner-room : (w : Plan) → work.Planned w → Valid (work.stateOf w) → w .nsteiner < 63
-steiner-room w p v =
-    ⊎-elim (λ e. omega (arith, count, e)) (λ h. omega (arith, count, h, v .few)) (few-steiner (work.stateOf w) v)
-  where
-    count : w .nsteiner ≡ length (work.stateOf w .steiner)
-    count = codes-count (w .steiner) (w .nsteiner) (p .arranged .steinerCodes)
+-- There is room for one more point.
+pub point-room : (w : Working) → work.InOrder w → Valid (work.stateOf w) → w .points .npins + w .points .nsteiner < maxPoints
+point-room w p v = omega (arith, valid-few (work.stateOf w) v, pins-count (w .points) (p .arranged), steiner-count (w .points) (p .arranged))

@@ -7,12 +7,12 @@ use Rattle.model.specs.State.{points}
 use Rattle.model.specs.Tree.{treeLength}
 use Rattle.model.specs.Round.{best}
 use Rattle.tree.specs.Keys.{weight}
-use Rattle.plan.specs.declared.Plan.{Plan}
-use Rattle.plan.specs.Work.{Planned, stateOf}
+use Rattle.working.specs.declared.Working.{Working}
+use Rattle.working.specs.InOrder.{InOrder, stateOf}
 use Rattle.crossing.specs.Search.{TreeGiven, pointsOf, answerOf}
 use Rattle.crossing.proofs.Sum.{keys-length}
 
-module _ (w : Plan) (p : Planned w) (hx : length (w .xs) ≡ 128) (hy : length (w .ys) ≡ 128) (hk : length (w .keys) ≡ 136) where
+module _ (w : Working) (p : InOrder w) (hx : length (w .xs) ≡ 128) (hy : length (w .ys) ≡ 128) (hk : length (w .keys) ≡ 136) where
   pub given : TreeGiven (w .xs) (w .ys) (w .npoints) (w .keys) (w .nkeys)
   given =
       record {

@@ -9,8 +9,8 @@ use Rattle.model.specs.Question.{lengthOfState}
 use Rattle.model.specs.Session.{RoundsTo, ended, added}
 use Rattle.model.proofs.Round.{round-valid, round-falls, finish-rounds}
 use Rattle.model.proofs.Session.{valid-session}
-use Rattle.plan.specs.declared.Plan.{Plan}
-use Rattle.plan.specs.Work as work
+use Rattle.working.specs.declared.Working.{Working}
+use Rattle.working.specs.InOrder as work
 use Rattle.rounds.specs.declared.Rounded.{Rounded}
 use Rattle.rounds.specs.Rounds.{adds, RoundOf, FinishOf}
 
@@ -26,18 +26,18 @@ is-finished finished e = refl
 is-finished (tap c fall) e = let z : _≡_ {A = ℕ} 0 1 = cc in absurd (omega arith)
 
 -- While rounds go on: after `count` rounds that added a Steiner point the working form is `at`, and `t` is the round on it.
-pub record Running (w at : Plan) (t : Rounded) (count : ℕ) : Type 0 where
-  pub planned : work.Planned at
+pub record Running (w at : Working) (t : Rounded) (count : ℕ) : Type 0 where
+  pub inOrder : work.InOrder at
   pub valid : Valid (work.stateOf at)
   pub rounded : RoundOf at t
   pub rest : (k : ℕ) (r : State) → RoundsTo (work.stateOf at) k r → RoundsTo (work.stateOf w) (count + k) r
   pub left : lengthOfState (work.stateOf at) + count ≤ lengthOfState (work.stateOf w)
   pub fits : lengthOfState (work.stateOf w) ≤ 15120000
 
-pub running-start : (w : Plan) (t : Rounded) → work.Planned w → Valid (work.stateOf w) → RoundOf w t → Running w w t 0
+pub running-start : (w : Working) (t : Rounded) → work.InOrder w → Valid (work.stateOf w) → RoundOf w t → Running w w t 0
 running-start w t p v r =
     record {
-      planned = p;
+      inOrder = p;
       valid = v;
       rounded = r;
       rest = λ k e x. subst (λ (n : ℕ). RoundsTo (work.stateOf w) n e) (omega arith) x;
@@ -45,7 +45,7 @@ running-start w t p v r =
       fits = valid-session (work.stateOf w) v .length-fits;
     }
 
-module _ (w at : Plan) (t : Rounded) (count : ℕ) (run : Running w at t count) where
+module _ (w at : Working) (t : Rounded) (count : ℕ) (run : Running w at t count) where
   abbrev s : State
   s = work.stateOf at
 
@@ -65,13 +65,13 @@ module _ (w at : Plan) (t : Rounded) (count : ℕ) (run : Running w at t count) 
     pub running-fits : count < 15120000
     running-fits = omega (arith, running-less, run .fits)
 
-    pub running-next : work.Planned (t .plan) × Valid (work.stateOf (t .plan))
-    running-next = (run .rounded .planned, subst⁻¹ Valid (run .rounded .next) (round-valid s (run .valid)))
+    pub running-next : work.InOrder (t .working) × Valid (work.stateOf (t .working))
+    running-next = (run .rounded .inOrder, subst⁻¹ Valid (run .rounded .next) (round-valid s (run .valid)))
 
-    pub running-more : (u : Rounded) → RoundOf (t .plan) u → Running w (t .plan) u (count + 1)
+    pub running-more : (u : Rounded) → RoundOf (t .working) u → Running w (t .working) u (count + 1)
     running-more u r =
         record {
-          planned = running-next .0;
+          inOrder = running-next .0;
           valid = running-next .1;
           rounded = r;
           rest = λ k e x. subst (λ (n : ℕ). RoundsTo (work.stateOf w) n e) (omega arith) (run .rest (suc k) e (fell .1 k e (subst (λ (z : State). RoundsTo z k e) (run .rounded .next) x)));
@@ -79,8 +79,8 @@ module _ (w at : Plan) (t : Rounded) (count : ℕ) (run : Running w at t count) 
           fits = run .fits;
         }
 
-  pub running-end : Valid (work.stateOf w) → t .added ≡ false → FinishOf w (record { plan = at; count = count })
+  pub running-end : Valid (work.stateOf w) → t .added ≡ false → FinishOf w (record { working = at; count = count })
   running-end v stop =
       let f = is-finished (round s .answer) (sym (run .rounded .added) ∙ stop) in
       let h = same-end (run .rest 0 s (ended f)) (finish-rounds (work.stateOf w) v .0) in
-      record { planned = run .planned; final = h .1; count = omega (arith, h .0) }
+      record { inOrder = run .inOrder; final = h .1; count = omega (arith, h .0) }

@@ -2,8 +2,8 @@
 use mathlib.Core.Path.{_≡_}
 use mathlib.Core.Bool.{Bool, true, false}
 use Rattle.model.specs.Round.{RoundAnswer, finished, tap, round, finish}
-use Rattle.plan.specs.declared.Plan.{Plan}
-use Rattle.plan.specs.Work as work
+use Rattle.working.specs.declared.Working.{Working}
+use Rattle.working.specs.InOrder as work
 use Rattle.rounds.specs.declared.Rounded.{Rounded}
 use Rattle.rounds.specs.declared.Ended.{Ended}
 use Rattle.rounds.specs.declared.Step.{Step}
@@ -19,13 +19,13 @@ unfoldable pub stepOf : RoundAnswer → Step
 stepOf finished = Finished
 stepOf (tap p fall) = Tap (p .x) (p .y) fall
 
-pub record RoundOf (w : Plan) (r : Rounded) : Type 0 where
-  pub planned : work.Planned (r .plan)
-  pub next : work.stateOf (r .plan) ≡ round (work.stateOf w) .next
+pub record RoundOf (w : Working) (r : Rounded) : Type 0 where
+  pub inOrder : work.InOrder (r .working)
+  pub next : work.stateOf (r .working) ≡ round (work.stateOf w) .next
   pub added : r .added ≡ adds (round (work.stateOf w) .answer)
   pub step : r .step ≡ stepOf (round (work.stateOf w) .answer)
 
-pub record FinishOf (w : Plan) (r : Ended) : Type 0 where
-  pub planned : work.Planned (r .plan)
-  pub final : work.stateOf (r .plan) ≡ finish (work.stateOf w) .final
+pub record FinishOf (w : Working) (r : Ended) : Type 0 where
+  pub inOrder : work.InOrder (r .working)
+  pub final : work.stateOf (r .working) ≡ finish (work.stateOf w) .final
   pub count : r .count ≡ finish (work.stateOf w) .count

@@ -1,12 +1,12 @@
 // The round and the run to the end on a working form. Each function asks for a working form in order; whoever hands one in has to
 // show that it is, as the check of a deck does.
 use crossing::found::Best;
-use plan::Plan;
+use working::Working;
 ghost use mathlib.Core.Path.{_≡_};
 ghost use Rattle.model.specs.State.{Valid, points};
 ghost use Rattle.model.specs.Tree.{treeLength};
 ghost use Rattle.model.specs.Round as round;
-ghost use Rattle.plan.specs.Work as work;
+ghost use Rattle.working.specs.InOrder as work;
 ghost use Rattle.crossing.specs.Search.{answerOf};
 ghost use Rattle.rounds.specs.Rounds.{RoundOf, FinishOf};
 
@@ -18,20 +18,20 @@ pub enum Step {
 
 // A working form after a round, whether the round added a Steiner point, and what it did.
 pub struct Rounded {
-    pub plan: Plan,
+    pub working: Working,
     pub added: bool,
     pub step: Step,
 }
 
 // A working form after a run to the end, and how many rounds added a Steiner point.
 pub struct Ended {
-    pub plan: Plan,
+    pub working: Working,
     pub count: u64,
 }
 
 // The length of its tree.
-pub fn length_of(w: Plan) -> u64
-    requires { ⌜ work.Planned w ⌝ }
+pub fn length_of(w: Working) -> u64
+    requires { ⌜ work.InOrder w ⌝ }
     ensures { λ r. ⌜ r ≡ treeLength (points (work.stateOf w)) ⌝ }
 {
     let keys = w.keys;
@@ -39,8 +39,8 @@ pub fn length_of(w: Plan) -> u64
 }
 
 // The lowest crossing of greatest saving, if one saves more than 0.
-fn best_of(w: Plan) -> Best
-    requires { ⌜ work.Planned w ⌝ }
+fn best_of(w: Working) -> Best
+    requires { ⌜ work.InOrder w ⌝ }
     ensures { λ r. ⌜ r ≡ answerOf (round.best (points (work.stateOf w))) ⌝ }
 {
     let xs = w.xs;
@@ -50,24 +50,24 @@ fn best_of(w: Plan) -> Best
 }
 
 // One round: finished, or the best crossing joins as a Steiner point and a sweep follows.
-pub fn round_of(w: Plan) -> Rounded
-    requires { ⌜ work.Planned w ⌝ }
+pub fn round_of(w: Working) -> Rounded
+    requires { ⌜ work.InOrder w ⌝ }
     requires { ⌜ Valid (work.stateOf w) ⌝ }
     ensures { λ r. ⌜ RoundOf w r ⌝ }
 {
     match best_of(w) {
         Best::Nothing => Rounded {
-            plan: w,
+            working: w,
             added: false,
             step: Step::Finished,
         },
         Best::At(u, v) => {
-            let next = plan::change::with_steiner(w, plane::codes::pack(u, v));
+            let next = working::change::with_steiner(w, plane::codes::pack(u, v));
             let fall = length_of(w) - length_of(next);
             let x = plane::to_signed(u);
             let y = plane::to_signed(v);
             Rounded {
-                plan: next,
+                working: next,
                 added: true,
                 step: Step::Tap(x, y, fall),
             }
@@ -76,8 +76,8 @@ pub fn round_of(w: Plan) -> Rounded
 }
 
 // Rounds until one is finished.
-pub fn finish_of(w: Plan) -> Ended
-    requires { ⌜ work.Planned w ⌝ }
+pub fn finish_of(w: Working) -> Ended
+    requires { ⌜ work.InOrder w ⌝ }
     requires { ⌜ Valid (work.stateOf w) ⌝ }
     ensures { λ r. ⌜ FinishOf w r ⌝ }
 {
@@ -86,10 +86,10 @@ pub fn finish_of(w: Plan) -> Ended
     let mut last = round_of(at);
     let mut more = last.added;
     while more {
-        at = last.plan;
+        at = last.working;
         count += 1;
         last = round_of(at);
         more = last.added;
     }
-    Ended { plan: at, count }
+    Ended { working: at, count }
 }

@@ -1,4 +1,2 @@
 pub mod Comparing
-pub mod Decoding
 pub mod Heading
-pub mod Placing

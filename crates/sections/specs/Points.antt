@@ -1,13 +1,13 @@
 -- The points of a section as codes, and check 5 on them.
-use mathlib.Core.Bool.{Bool, not, _&&_}
-use mathlib.Core.List.{List, map}
+use mathlib.Core.Bool.{Bool, _&&_}
+use mathlib.Core.List.{List, [], _∷_, _++_}
 use Prim.Native.Nat.{ℕ, _+_, _*_}
 use lib.Dec.{ltb}
-use lib.ListN.{take, drop, getD}
+use lib.ListN.{length, take, drop, getD}
 use Rattle.arrays.specs.Test.{if}
 use Rattle.plane.specs.Point.{Point, inRange}
 use Rattle.plane.specs.Coordinate.{signed16}
-use Rattle.arrays.specs.Set.{has, rising}
+use Rattle.arrays.specs.Set.{rising}
 use Rattle.model.specs.File.{pointsOf}
 use Rattle.plane.specs.Code.{code}
 use Rattle.arrays.specs.Array.{noneIn}
@@ -16,19 +16,19 @@ use Rattle.arrays.specs.Array.{noneIn}
 abbrev pub pointIn : List ℕ → ℕ → Point
 pointIn b i = record { x = signed16 (getD b i 0) (getD b (i + 1) 0); y = signed16 (getD b (i + 2) 0) (getD b (i + 3) 0) }
 
--- The code of a point, or a larger number where the point is out of range.
-abbrev pub beyond : ℕ
-beyond = 4294967295
+-- The n points from place `at` on.
+abbrev pub pointsIn : List ℕ → ℕ → ℕ → List Point
+pointsIn b at n = pointsOf (take (4 * n) (drop at b))
 
-unfoldable pub mark : Point → ℕ
-mark p = if (inRange p) (λ _. code p) (λ _. beyond)
+-- The codes of the points before the first that is out of range, or of all.
+unfoldable pub codesInFront : List Point → List ℕ
+codesInFront [] = []
+codesInFront (p ∷ l) = if (inRange p) (λ _. code p ∷ codesInFront l) (λ _. [])
 
--- The codes of the n points from place `at` on.
-abbrev pub marks : List ℕ → ℕ → ℕ → List ℕ
-marks b at n = map mark (pointsOf (take (4 * n) (drop at b)))
+-- An array with these codes at its front.
+abbrev pub decoded : List Point → List ℕ → List ℕ
+decoded ps old = codesInFront ps ++ drop (length (codesInFront ps)) old
 
--- Check 5 on codes.
+-- What is left of check 5 where all points are in range, on their codes.
 abbrev pub placedCodes : List ℕ → List ℕ → Bool
-placedCodes pins steiner =
-    not (has ltb beyond pins)
-    && (not (has ltb beyond steiner) && (rising ltb pins && (rising ltb steiner && noneIn steiner pins)))
+placedCodes pins steiner = rising ltb pins && (rising ltb steiner && noneIn steiner pins)

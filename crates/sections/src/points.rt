@@ -1,62 +1,56 @@
 // The sections of points: check 5.
 use super::number::number4;
-use plane::Coordinate;
+use plane::codes::Located;
+use plane::codes::locate;
+use plane::from_bytes;
 ghost use mathlib.Core.Path.{_≡_};
-ghost use mathlib.Core.List.{_++_};
 ghost use Prim.Native.Nat.{_+_, _*_, _≤_};
-ghost use lib.ListN.{length, take, drop};
+ghost use lib.ListN.{length, take};
+ghost use Rattle.plane.specs.Point.{inRange};
+ghost use Rattle.plane.specs.Code.{located};
+ghost use Rattle.arrays.specs.Set.{all};
 ghost use Rattle.model.specs.State.{placed};
 ghost use Rattle.model.specs.File.{shown};
-ghost use Rattle.sections.specs.Points.{mark, marks, pointIn, placedCodes};
+ghost use Rattle.sections.specs.Points.{pointIn, pointsIn, decoded, placedCodes};
 ghost use Rattle.sections.specs.Layout.{Sections, FewPins};
 
-// The mark of a point out of range: larger than every code.
-const BEYOND: u64 = 4294967295;
-
-// The code of the point in the four bytes from place i on, or the mark.
-fn code_at(b: &[u8], i: usize) -> u64
+// Where the point in the four bytes from place i on is.
+fn locate_at(b: &[u8], i: usize) -> Located
     requires { ⌜ i + 4 ≤ length (now b) ⌝ }
-    ensures { λ r. ⌜ r ≡ mark (pointIn (now (b .entry)) i) ⌝ }
+    ensures { λ r. ⌜ r ≡ located (pointIn (now (b .entry)) i) ⌝ }
 {
-    match plane::from_bytes(b[i], b[i + 1]) {
-        Coordinate::OutOfRange => BEYOND,
-        Coordinate::Stored(u) => match plane::from_bytes(b[i + 2], b[i + 3]) {
-            Coordinate::OutOfRange => BEYOND,
-            Coordinate::Stored(v) => u as u64 * 65536 + v as u64,
-        },
-    }
+    locate(from_bytes(b[i], b[i + 1]), from_bytes(b[i + 2], b[i + 3]))
 }
 
-// The codes of the n points from place `at` on, at the front of `out`.
-pub fn decode(b: &[u8], at: usize, n: usize, out: &mut [u64])
+// Whether the n points from place `at` on are in range. The codes of those before the first that is not, or of all, are put at
+// the front of `out`.
+pub fn decode(b: &[u8], at: usize, n: usize, out: &mut [u64]) -> bool
     requires { ⌜ (at + 4 * n ≤ length (now b)) × (n ≤ length (now out)) ⌝ }
-    ensures { λ _. ⌜ now (out .exit) ≡ marks (now (b .entry)) at n ++ drop n (now (out .entry)) ⌝ }
+    ensures { λ r. ⌜ r ≡ all inRange (pointsIn (now (b .entry)) at n) ⌝ }
+    ensures { λ _. ⌜ now (out .exit) ≡ decoded (pointsIn (now (b .entry)) at n) (now (out .entry)) ⌝ }
 {
     let mut i = 0;
     while i < n {
-        out[i] = code_at(b, at + 4 * i);
+        match locate_at(b, at + 4 * i) {
+            Located::OutOfRange => {
+                return false;
+            }
+            Located::At(k) => {
+                out[i] = k;
+            }
+        }
         i += 1;
     }
+    true
 }
 
-// Whether pins and Steiner points, kept as codes, are in range, strictly rising and apart.
+// Whether pins and Steiner points, kept as codes, are strictly rising and apart.
 fn are_placed(pins: &[u64], n: usize, steiner: &[u64], m: usize) -> bool
     requires { ⌜ (n ≤ length (now pins)) × (m ≤ length (now steiner)) ⌝ }
     ensures { λ r. ⌜ r ≡ placedCodes (take n (now (pins .entry))) (take m (now (steiner .entry))) ⌝ }
 {
-    if arrays::sorted::has(pins, n, BEYOND) {
-        return false;
-    }
-    if arrays::sorted::has(steiner, m, BEYOND) {
-        return false;
-    }
-    if !arrays::sorted::rises(pins, n) {
-        return false;
-    }
-    if !arrays::sorted::rises(steiner, m) {
-        return false;
-    }
-    arrays::sorted::none_in(pins, n, steiner, m)
+    arrays::sorted::rises(pins, n)
+        & (arrays::sorted::rises(steiner, m) & arrays::sorted::none_in(pins, n, steiner, m))
 }
 
 // 5: "a coordinate out of range, points of a section not strictly rising, or a tap on a pin". There is room here for all Steiner points
@@ -71,7 +65,11 @@ pub fn is_placed(b: &[u8]) -> bool
     let m = number4(b, 18) / 4;
     let mut pins = [0u64; 64];
     let mut steiner = [0u64; 192];
-    decode(b, 30, n, &mut pins);
-    decode(b, 30 + size, m, &mut steiner);
+    if !decode(b, 30, n, &mut pins) {
+        return false;
+    }
+    if !decode(b, 30 + size, m, &mut steiner) {
+        return false;
+    }
     are_placed(&pins, n, &steiner, m)
 }

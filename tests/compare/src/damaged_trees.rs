@@ -2,7 +2,7 @@
 //! happen to give a sound deck.
 
 use crate::damages::Damaged;
-use crate::deck::{code, Deck};
+use crate::deck::{code, row, Deck};
 use reference::generate::Random;
 use reference::plane::Point;
 use reference::session::{is_valid, State};
@@ -111,17 +111,11 @@ pub fn edges(random: &mut Random, deck: &Deck, count: usize) -> Vec<Damaged> {
 /// The deck with other pins and Steiner points, and the edges left.
 fn with_roles(deck: &Deck, pins: &[Point], steiner: &[Point]) -> Deck {
     let state = State::new(pins.to_vec(), steiner.to_vec());
-    let row = |points: &[Point]| {
-        let mut array = [0; 64];
-        for (place, &point) in points.iter().enumerate().take(64) {
-            array[place] = code(point);
-        }
-        array
-    };
+    let codes = |points: &[Point]| points.iter().take(64).map(|&p| code(p)).collect::<Vec<_>>();
     Deck {
-        pins: row(&state.pins),
+        pins: row(&codes(&state.pins)),
         npins: state.pins.len().min(64),
-        steiner: row(&state.steiner),
+        steiner: row(&codes(&state.steiner)),
         nsteiner: state.steiner.len().min(64),
         ends: deck.ends,
     }

@@ -61,13 +61,13 @@ impl Points {
     }
 
     /// The deck after a change of the array.
-    fn with(&self, deck: &Deck, change: impl Fn(&mut [u64; 64])) -> Deck {
+    fn with(&self, deck: &Deck, change: impl Fn(&mut [u64])) -> Deck {
         let mut damaged = *deck;
-        change(if self.steiner {
-            &mut damaged.steiner
+        if self.steiner {
+            change(&mut damaged.steiner);
         } else {
-            &mut damaged.pins
-        });
+            change(&mut damaged.pins);
+        }
         damaged
     }
 
@@ -76,15 +76,15 @@ impl Points {
         let mut damaged = Vec::new();
         for by in [1, 2, 65_536, 131_072, 65_537] {
             damaged.push((self.moved, self.with(deck, |a| a[i] += by)));
-            let lower = |a: &mut [u64; 64]| a[i] = a[i].saturating_sub(by);
+            let lower = |a: &mut [u64]| a[i] = a[i].saturating_sub(by);
             damaged.push((self.moved, self.with(deck, lower)));
         }
         for y in [60_001, 60_002, 65_535] {
-            let out = |a: &mut [u64; 64]| a[i] = a[i] / 65_536 * 65_536 + y;
+            let out = |a: &mut [u64]| a[i] = a[i] / 65_536 * 65_536 + y;
             damaged.push((self.out_of_range, self.with(deck, out)));
         }
         for x in [60_001, 65_535, 65_536, 1 << 32, (1 << 48) - 1] {
-            let out = |a: &mut [u64; 64]| a[i] = a[i] % 65_536 + 65_536 * x;
+            let out = |a: &mut [u64]| a[i] = a[i] % 65_536 + 65_536 * x;
             damaged.push((self.out_of_range, self.with(deck, out)));
         }
         for j in i + 1..self.count(deck) {

@@ -1,4 +1,4 @@
-//! A deck in the proved form: its five fields, 258 words in all.
+//! A deck in the proved form: its five fields, 322 words in all.
 
 use reference::plane::Point;
 use reference::session::{is_valid, State};
@@ -12,13 +12,13 @@ const BIAS: i64 = 30_000;
 pub struct Deck {
     pub pins: [u64; 64],
     pub npins: usize,
-    pub steiner: [u64; 64],
+    pub steiner: [u64; 128],
     pub nsteiner: usize,
     pub ends: [u64; 128],
 }
 
 /// The number of words of a deck.
-pub const WORDS: usize = 258;
+pub const WORDS: usize = 322;
 
 /// The code of a point in range.
 pub fn code(point: Point) -> u64 {
@@ -32,7 +32,7 @@ fn point(code: u64) -> Point {
 }
 
 /// A list at the front of an array, with zeros behind.
-fn row<const N: usize>(list: &[u64]) -> [u64; N] {
+pub fn row<const N: usize>(list: &[u64]) -> [u64; N] {
     let mut array = [0; N];
     array[..list.len()].copy_from_slice(list);
     array
@@ -80,9 +80,9 @@ impl Deck {
         match place {
             0..64 => Word::Number(&mut self.pins[place]),
             64 => Word::Count(&mut self.npins),
-            65..129 => Word::Number(&mut self.steiner[place - 65]),
-            129 => Word::Count(&mut self.nsteiner),
-            _ => Word::Number(&mut self.ends[place - 130]),
+            65..193 => Word::Number(&mut self.steiner[place - 65]),
+            193 => Word::Count(&mut self.nsteiner),
+            _ => Word::Number(&mut self.ends[place - 194]),
         }
     }
 }

@@ -8,7 +8,7 @@ mod library {
         pub fn entry_empty(
             pins: &mut [u64; 64],
             npins: &mut usize,
-            steiner: &mut [u64; 64],
+            steiner: &mut [u64; 128],
             nsteiner: &mut usize,
             ends: &mut [u64; 128],
         );
@@ -17,7 +17,7 @@ mod library {
             y: i32,
             pins: &mut [u64; 64],
             npins: &mut usize,
-            steiner: &mut [u64; 64],
+            steiner: &mut [u64; 128],
             nsteiner: &mut usize,
             ends: &mut [u64; 128],
             numbers: &mut [u64; 3],
@@ -28,7 +28,7 @@ mod library {
             y: i32,
             pins: &mut [u64; 64],
             npins: &mut usize,
-            steiner: &mut [u64; 64],
+            steiner: &mut [u64; 128],
             nsteiner: &mut usize,
             ends: &mut [u64; 128],
             numbers: &mut [u64; 3],
@@ -37,7 +37,7 @@ mod library {
         pub fn entry_round(
             pins: &mut [u64; 64],
             npins: &mut usize,
-            steiner: &mut [u64; 64],
+            steiner: &mut [u64; 128],
             nsteiner: &mut usize,
             ends: &mut [u64; 128],
             numbers: &mut [u64; 3],
@@ -46,7 +46,7 @@ mod library {
         pub fn entry_run_to_end(
             pins: &mut [u64; 64],
             npins: &mut usize,
-            steiner: &mut [u64; 64],
+            steiner: &mut [u64; 128],
             nsteiner: &mut usize,
             ends: &mut [u64; 128],
             numbers: &mut [u64; 3],
@@ -111,7 +111,7 @@ pub fn empty() -> Deck {
     let mut deck = Deck {
         pins: [NUMBER_BEFORE; 64],
         npins: NUMBER_BEFORE as usize,
-        steiner: [NUMBER_BEFORE; 64],
+        steiner: [NUMBER_BEFORE; 128],
         nsteiner: NUMBER_BEFORE as usize,
         ends: [NUMBER_BEFORE; 128],
     };

@@ -8,14 +8,14 @@ mod library {
         pub fn entry_is_valid(
             pins: &[u64; 64],
             npins: usize,
-            steiner: &[u64; 64],
+            steiner: &[u64; 128],
             nsteiner: usize,
             ends: &[u64; 128],
         ) -> bool;
         pub fn entry_length(
             pins: &[u64; 64],
             npins: usize,
-            steiner: &[u64; 64],
+            steiner: &[u64; 128],
             nsteiner: usize,
             ends: &[u64; 128],
             numbers: &mut [u64; 3],
@@ -24,7 +24,7 @@ mod library {
         pub fn entry_counts(
             pins: &[u64; 64],
             npins: usize,
-            steiner: &[u64; 64],
+            steiner: &[u64; 128],
             nsteiner: usize,
             ends: &[u64; 128],
             numbers: &mut [u64; 3],
@@ -34,7 +34,7 @@ mod library {
             i: usize,
             pins: &[u64; 64],
             npins: usize,
-            steiner: &[u64; 64],
+            steiner: &[u64; 128],
             nsteiner: usize,
             ends: &[u64; 128],
             numbers: &mut [u64; 3],
@@ -45,7 +45,7 @@ mod library {
             y: i32,
             pins: &[u64; 64],
             npins: usize,
-            steiner: &[u64; 64],
+            steiner: &[u64; 128],
             nsteiner: usize,
             ends: &[u64; 128],
             numbers: &mut [u64; 3],

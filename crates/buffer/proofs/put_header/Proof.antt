@@ -1,14 +1,14 @@
 -- `buffer::put_header` meets its contract: one part behind the other.
-use Rattle.buffer.proofs.Putting.{header-put}
+use Rattle.buffer.proofs.Putting.{over-of, header-put}
 use borrow.Author.Needs.{needs}
 use Rattle.buffer.proofs.put_header.Statement.{statement}
 use Rattle.buffer.proofs.put_header.Tie as tie
 
-slice-aggregate-put-text : tie.Need-slice-aggregate-put-text
-slice-aggregate-put-text c = search needs
+slice-aggregate-put-bytes : tie.Need-slice-aggregate-put-bytes
+slice-aggregate-put-bytes c = search needs
 
-put-text-requires : tie.Need-put-text-requires
-put-text-requires c κs = search needs
+put-bytes-requires : tie.Need-put-bytes-requires
+put-bytes-requires c κs = search needs
 
 put2-requires : tie.Need-put2-requires
 put2-requires c κs = search needs
@@ -36,14 +36,20 @@ same-length c = search needs
 
 returns : tie.Need-returns
 returns c =
-    header-put _ _ _ _ (c .before .before .before .before .before .before .before .before .before .before .before .before .before .before .before .before .before .before .before .before .before .before .pre .0) _ _ _ _ _ (c .before .before .before .before .before .before .before .before .before .before .before .before .before .before .before .before .before .before .put-text .ensures) (c .before .before .before .before .before .before .before .before .before .before .before .before .before .before .put2 .ensures) (c .before .before .before .before .before .before .before .before .before .before .put-pair .ensures) (c .before .before .before .before .before .before .put-pair2 .ensures) (c .before .before .put-pair3 .ensures)
+    let third = c .before .before in
+    let second = third .before .before .before .before in
+    let first = second .before .before .before .before in
+    let count = first .before .before .before .before in
+    let start = count .before .before .before .before in
+    header-put _ _ _ _ (start .before .before .before .before .pre .0) _ _ _ _ _ (over-of (start .put-bytes .ensures)) (over-of (count .put2 .ensures))
+    (first .put-pair .ensures) (second .put-pair2 .ensures) (third .put-pair3 .ensures)
 
 pub put-header-spec : {M : Type 1} → statement M
 put-header-spec =
     tie.close
     (tie.spec
-    slice-aggregate-put-text
-    put-text-requires
+    slice-aggregate-put-bytes
+    put-bytes-requires
     put2-requires
     put-pair-requires
     add-put-pair

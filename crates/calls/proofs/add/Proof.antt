@@ -1,7 +1,7 @@
 -- `calls::add` meets its contract: the range first, then the call at a place in range.
 use mathlib.Core.Path.{_∙_}
 use Rattle.model.specs.Call as call
-use Rattle.plan.proofs.Locating.{read-place, place-out, place-code, place-point}
+use Rattle.plane.proofs.codes.Points.{read-located, out-located, located-is}
 use Rattle.calls.proofs.Calling.{refused-is, by-point, add-out}
 use borrow.Author.Needs.{needs}
 use Rattle.calls.proofs.add.Statement.{statement}
@@ -24,23 +24,24 @@ add-at-requires c κs =
     let at-k = c .before in
     let at-locate = at-k .before .before in
     let at-start = at-locate .before in
-    (at-start .pre, place-code _ _ (read-place _ _ _ (at-start .fits .x) (at-start .fits .y) (at-locate .locate .ensures) ∙ at-k .k .given .1))
+    let there = read-located _ _ _ (at-start .fits .x) (at-start .fits .y) (at-locate .locate .ensures) ∙ at-k .k .given .1 in
+    (at-start .pre .0, (located-is _ _ there .1, at-start .pre .1))
 
 returns : tie.Need-returns
 returns c =
     let at-told = c .before in
     let at-locate = at-told .before .before in
     let at-start = at-locate .before in
-    let out = read-place _ _ _ (at-start .fits .x) (at-start .fits .y) (at-locate .locate .ensures) ∙ at-told .enum-told .given .1 in
-    refused-is _ (at-start .pre) _ 7 (add-out _ _ (place-out _ out)) _ (c .refuse .ensures)
+    let out = read-located _ _ _ (at-start .fits .x) (at-start .fits .y) (at-locate .locate .ensures) ∙ at-told .enum-told .given .1 in
+    refused-is _ (at-start .pre .0) _ 7 (add-out _ _ (out-located _ out)) _ (c .refuse .ensures)
 
 returns-2 : tie.Need-returns-2
 returns-2 c =
     let at-k = c .before .before in
     let at-locate = at-k .before .before in
     let at-start = at-locate .before in
-    let there = read-place _ _ _ (at-start .fits .x) (at-start .fits .y) (at-locate .locate .ensures) ∙ at-k .k .given .1 in
-    by-point _ call.add _ _ (place-point _ _ there) _ (c .add-at .ensures)
+    let there = read-located _ _ _ (at-start .fits .x) (at-start .fits .y) (at-locate .locate .ensures) ∙ at-k .k .given .1 in
+    by-point _ call.add _ _ (located-is _ _ there .0) _ (c .add-at .ensures)
 
 pub add-spec : {M : Type 1} → statement M
 add-spec =

@@ -2,6 +2,7 @@
 use mathlib.Core.Path.{sym, _∙_, subst}
 use Prim.Native.Nat.{ℕ, _≤_, _<_}
 use borrow.Author.Tests.{leb-true, leb-false}
+use Rattle.rounds.proofs.OneRound.{point-room}
 use Rattle.calls.proofs.Calling.{in-range, refused-is, done-is, add-there, add-full, add-done, pin-there, pin-count}
 use borrow.Author.Needs.{needs}
 use Rattle.calls.proofs.add_at.Statement.{statement}
@@ -22,8 +23,8 @@ returns c =
     let at-has = at-if .before in
     let at-start = at-has .before .before .before in
     let p = at-start .pre .0 in
-    let there = sym (pin-there _ p _ (at-start .pre .1)) ∙ sym (at-has .has .ensures) ∙ at-if .if1 .taken in
-    refused-is _ p _ 8 (add-there _ _ (in-range _ (at-start .pre .1)) there) _ (c .refuse .ensures)
+    let there = sym (pin-there _ p _ (at-start .pre .1 .0)) ∙ sym (at-has .has .ensures) ∙ at-if .if1 .taken in
+    refused-is _ p _ 8 (add-there _ _ (in-range _ (at-start .pre .1 .0)) there) _ (c .refuse .ensures)
 
 refuse-requires-2 : tie.Need-refuse-requires-2
 refuse-requires-2 c κs = search needs
@@ -36,11 +37,14 @@ returns-2 c =
     let at-start = at-has .before .before .before in
     let p = at-start .pre .0 in
     refused-is _ p _ 10
-    (add-full _ _ (in-range _ (at-start .pre .1)) (sym (pin-there _ p _ (at-start .pre .1)) ∙ sym (at-has .has .ensures) ∙ at-there .if1 .left)
+    (add-full _ _ (in-range _ (at-start .pre .1 .0)) (sym (pin-there _ p _ (at-start .pre .1 .0)) ∙ sym (at-has .has .ensures) ∙ at-there .if1 .left)
     (subst (λ (z : ℕ). 64 ≤ z) (pin-count _ p) (leb-true _ _ (at-full .if2 .taken)))) _ (c .refuse2 .ensures)
 
 insert-requires : tie.Need-insert-requires
-insert-requires c κs = search needs
+insert-requires c κs =
+    let at-start = c .before .before .before .before .before in
+    let q = at-start .pre in
+    (q .0, (q .1 .0, (leb-false _ _ (c .if2 .left), point-room _ (q .0) (q .1 .1))))
 
 returns-3 : tie.Need-returns-3
 returns-3 c =
@@ -50,7 +54,7 @@ returns-3 c =
     let at-start = at-has .before .before .before in
     let p = at-start .pre .0 in
     done-is _ _ _ _ (c .insert .ensures .0) (c .insert .ensures .1)
-    (add-done _ _ (in-range _ (at-start .pre .1)) (sym (pin-there _ p _ (at-start .pre .1)) ∙ sym (at-has .has .ensures) ∙ at-there .if1 .left)
+    (add-done _ _ (in-range _ (at-start .pre .1 .0)) (sym (pin-there _ p _ (at-start .pre .1 .0)) ∙ sym (at-has .has .ensures) ∙ at-there .if1 .left)
     (subst (λ (z : ℕ). z < 64) (pin-count _ p) (leb-false _ _ (at-full .if2 .left))))
 
 pub add-at-spec : {M : Type 1} → statement M

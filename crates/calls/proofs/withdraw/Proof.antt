@@ -1,7 +1,7 @@
 -- `calls::withdraw` meets its contract: the range first, then the call at a place in range.
 use mathlib.Core.Path.{_∙_}
 use Rattle.model.specs.Call as call
-use Rattle.plan.proofs.Locating.{read-place, place-out, place-code, place-point}
+use Rattle.plane.proofs.codes.Points.{read-located, out-located, located-is}
 use Rattle.calls.proofs.Calling.{refused-is, by-point, withdraw-none, none-outside}
 use borrow.Author.Needs.{needs}
 use Rattle.calls.proofs.withdraw.Statement.{statement}
@@ -24,23 +24,23 @@ withdraw-at-requires c κs =
     let at-k = c .before in
     let at-locate = at-k .before .before in
     let at-start = at-locate .before in
-    (at-start .pre .0, place-code _ _ (read-place _ _ _ (at-start .fits .x) (at-start .fits .y) (at-locate .locate .ensures) ∙ at-k .k .given .1))
+    (at-start .pre .0, located-is _ _ (read-located _ _ _ (at-start .fits .x) (at-start .fits .y) (at-locate .locate .ensures) ∙ at-k .k .given .1) .1)
 
 returns : tie.Need-returns
 returns c =
     let at-told = c .before in
     let at-locate = at-told .before .before in
     let at-start = at-locate .before in
-    let out = read-place _ _ _ (at-start .fits .x) (at-start .fits .y) (at-locate .locate .ensures) ∙ at-told .enum-told .given .1 in
-    refused-is _ (at-start .pre .0) _ 9 (withdraw-none _ _ (none-outside _ _ (at-start .pre .1) (place-out _ out))) _ (c .refuse .ensures)
+    let out = read-located _ _ _ (at-start .fits .x) (at-start .fits .y) (at-locate .locate .ensures) ∙ at-told .enum-told .given .1 in
+    refused-is _ (at-start .pre .0) _ 9 (withdraw-none _ _ (none-outside _ _ (at-start .pre .1) (out-located _ out))) _ (c .refuse .ensures)
 
 returns-2 : tie.Need-returns-2
 returns-2 c =
     let at-k = c .before .before in
     let at-locate = at-k .before .before in
     let at-start = at-locate .before in
-    let there = read-place _ _ _ (at-start .fits .x) (at-start .fits .y) (at-locate .locate .ensures) ∙ at-k .k .given .1 in
-    by-point _ call.withdraw _ _ (place-point _ _ there) _ (c .withdraw-at .ensures)
+    let there = read-located _ _ _ (at-start .fits .x) (at-start .fits .y) (at-locate .locate .ensures) ∙ at-k .k .given .1 in
+    by-point _ call.withdraw _ _ (located-is _ _ there .0) _ (c .withdraw-at .ensures)
 
 pub withdraw-spec : {M : Type 1} → statement M
 withdraw-spec =

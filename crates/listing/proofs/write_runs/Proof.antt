@@ -4,7 +4,7 @@ use native.Mathlib.Omega.{arith}
 use lib.ListN.{length}
 use borrow.Author.Needs.{needs}
 use Rattle.model.specs.Listing.{runLines}
-use Rattle.deck.proofs.Checking.{sound-few, sound-left, sound-pins, sound-steiner}
+use Rattle.deck.proofs.Forms.{sound-few, sound-left, sound-arranged}
 use Rattle.listing.proofs.Decks.{held-few, held-ended, held-edges}
 use Rattle.arrays.proofs.paste.Parts.{pasted-same}
 use Rattle.listing.proofs.write_runs.Statement.{statement}
@@ -22,8 +22,8 @@ slice-aggregate-union-3 c = search needs
 union-requires : tie.Need-union-requires
 union-requires c κs =
     let at-start = c .before .before .before .before .before .before in
-    let p = sound-pins (at-start .args .d) (at-start .pre .1) in
-    let s = sound-steiner (at-start .args .d) (at-start .pre .1) in
+    let p = sound-arranged (at-start .args .d) (at-start .pre .1) .pinCodes in
+    let s = sound-arranged (at-start .args .d) (at-start .pre .1) .steinerCodes in
     let most = sound-few (at-start .args .d) (at-start .pre .1) in
     let left = sound-left (at-start .args .d) (at-start .pre .1) in
     (omega (arith, p .few, p .size), (omega (arith, s .few, s .size), (omega (arith, most, left), (p .rise, s .rise))))

@@ -1,7 +1,7 @@
 -- `listing::write_taps` meets its contract: a sound deck has few Steiner points.
 use native.Mathlib.Omega.{arith}
 use borrow.Author.Needs.{needs}
-use Rattle.deck.proofs.Checking.{sound-left, sound-steiner}
+use Rattle.deck.proofs.Forms.{sound-left, sound-arranged}
 use Rattle.listing.proofs.write_taps.Statement.{statement}
 use Rattle.listing.proofs.write_taps.Tie as tie
 
@@ -11,7 +11,7 @@ slice-aggregate-tap-lines c = search needs
 tap-lines-requires : tie.Need-tap-lines-requires
 tap-lines-requires c κs =
     let at-start = c .before .before .before .before in
-    let s = sound-steiner (at-start .args .d) (at-start .pre .1) in
+    let s = sound-arranged (at-start .args .d) (at-start .pre .1) .steinerCodes in
     (omega (arith, sound-left (at-start .args .d) (at-start .pre .1)), omega (arith, s .few, s .size))
 
 same-length : tie.Need-same-length

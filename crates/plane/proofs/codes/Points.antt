@@ -1,16 +1,23 @@
 -- Codes and points in range correspond, and the order of codes is `lower`. By the two stored coordinates of a code: a number is
 -- a code if both are at most 60,000, and then it is nothing but the two.
-use mathlib.Core.Path.{_≡_, refl, ap, ap₂, _∙_, subst⁻¹}
+use mathlib.Core.Path.{_≡_, refl, sym, ap, ap₂, _∙_, subst⁻¹}
 use mathlib.Core.Logic.{⊎-elim}
 use mathlib.Core.Bool.{Bool, true, false}
 use mathlib.Core.List.{List, [], _∷_, map, List·Memᴰ, List·Memᴰ·head as head, List·Memᴰ·tail as tail, List·Memᴰ·cases-cons as cases, List·Memᴰ·not-nil as not-nil}
 use Prim.Native.Nat.{ℕ, _/_, _%_, _≤_, _<_}
 use native.Mathlib.Omega.{arith}
+use lib.IntN.{ℤ}
+use mir.Syntax.{w32}
+use mir.Val.{SFits}
 use lib.Dec.{T, ltb, leb, leb→le, le→leb, ltb→lt, lt→ltb}
-use Rattle.plane.specs.Point.{Point, coordinateInRange, inRange, lower}
+use Rattle.plane.specs.Point.{Point, point, coordinateInRange, inRange, lower}
 use Rattle.plane.specs.Coordinate.{base, storedLimit, coordinate, biased}
-use Rattle.plane.specs.Code.{xOf, yOf, code, pointOf, isCode}
-use Rattle.arrays.proofs.Test.{and-parts, and-both, same-test, true-of}
+use Rattle.plane.specs.Code.{xOf, yOf, code, pointOf, isCode, located}
+use Rattle.arrays.specs.Test.{if}
+use Rattle.plane.specs.declared.codes.Located.{Located}
+use Rattle.plane.specs.declared.codes.Located.the-variants.{OutOfRange, At}
+use Rattle.arrays.proofs.Test.{and-parts, and-both, same-test, true-of, of-true}
+use Rattle.plane.proofs.Signed.{read, read-two}
 use Rattle.plane.proofs.Stored.{coordinate-biased, biased-bound, coordinate-range, biased-coordinate, lower-true, lower-false}
 
 abbrev pub AllCodes : List ℕ → Type 0
@@ -62,6 +69,38 @@ module _ (k : ℕ) (t : T (isCode k)) where
       let h = code-small k t in
       and-both (coordinateInRange (coordinate (xOf k))) (coordinateInRange (coordinate (yOf k)))
       (coordinate-range (xOf k) (omega arith)) (coordinate-range (yOf k) (omega arith))
+
+-- What locating a point answers, and what the answer says of the point.
+pub located-in : (p : Point) → inRange p ≡ true → located p ≡ At (code p)
+unfolding located
+located-in p e = ap (λ (b : Bool). if b (λ _. At (code p)) (λ _. OutOfRange)) e
+
+pub located-out : (p : Point) → inRange p ≡ false → located p ≡ OutOfRange
+unfolding located
+located-out p e = ap (λ (b : Bool). if b (λ _. At (code p)) (λ _. OutOfRange)) e
+
+pub out-located : (p : Point) → located p ≡ OutOfRange → inRange p ≡ false
+out-located p e = go (inRange p) refl
+  where
+    go : (b : Bool) → inRange p ≡ b → inRange p ≡ false
+    go true i = let f = located-in p i in let h : _≡_ {A = ℕ} 0 1 = cc in absurd (omega arith)
+    go false i = i
+
+pub in-located : (p : Point) (k : ℕ) → located p ≡ At k → T (inRange p) × (k ≡ code p)
+in-located p k e = go (inRange p) refl
+  where
+    go : (b : Bool) → inRange p ≡ b → T (inRange p) × (k ≡ code p)
+    go true i = let f = located-in p i in (of-true i, cc)
+    go false i = let f = located-out p i in let h : _≡_ {A = ℕ} 0 1 = cc in absurd (omega arith)
+
+pub located-is : (p : Point) (k : ℕ) → located p ≡ At k → (pointOf k ≡ p) × T (isCode k)
+located-is p k e =
+    let h = in-located p k e in
+    (ap pointOf (h .1) ∙ point-code p (h .0), subst⁻¹ (λ (z : ℕ). T (isCode z)) (h .1) (code-is p (h .0)))
+
+-- The answer for two numbers that are handed on.
+pub read-located : (x y : ℤ) (r : Located) → SFits w32 x → SFits w32 y → r ≡ located (point (read x) (read y)) → located (point x y) ≡ r
+read-located x y r f g e = sym (e ∙ read-two (λ (a b : ℤ). located (point a b)) x y f g)
 
 -- The order of codes is that of their points.
 pub code-order : (a b : ℕ) → T (isCode a) → T (isCode b) → ltb a b ≡ lower (pointOf a) (pointOf b)

@@ -1,8 +1,8 @@
 -- `questions::degree_at` meets its contract: no point is held out of range, and in range the edges at the code are counted.
 use mathlib.Core.Path.{ap, _∙_}
 use Rattle.plane.specs.Point.{Point}
-use Rattle.plan.specs.Work.{stateOf}
-use Rattle.plan.proofs.Locating.{read-place, place-out, place-code, place-point}
+use Rattle.working.specs.InOrder.{stateOf}
+use Rattle.plane.proofs.codes.Points.{read-located, out-located, located-is}
 use Rattle.questions.specs.declared.Answer.the-variants.{Degree}
 use Rattle.questions.specs.Answers.{degreeAnswer}
 use Rattle.questions.proofs.Asking.{none-beyond}
@@ -24,22 +24,22 @@ degree-of-requires c κs =
     let at-k = c .before in
     let at-locate = at-k .before .before in
     let at-start = at-locate .before in
-    (at-start .pre .0, place-code _ _ (read-place _ _ _ (at-start .fits .x) (at-start .fits .y) (at-locate .locate .ensures) ∙ at-k .k .given .1))
+    (at-start .pre .0, located-is _ _ (read-located _ _ _ (at-start .fits .x) (at-start .fits .y) (at-locate .locate .ensures) ∙ at-k .k .given .1) .1)
 
 returns : tie.Need-returns
 returns c =
     let at-locate = c .before .before in
     let at-start = at-locate .before in
-    let out = read-place _ _ _ (at-start .fits .x) (at-start .fits .y) (at-locate .locate .ensures) ∙ c .enum-told .given .1 in
-    ap Degree (none-beyond _ (at-start .pre .1) _ (place-out _ out))
+    let out = read-located _ _ _ (at-start .fits .x) (at-start .fits .y) (at-locate .locate .ensures) ∙ c .enum-told .given .1 in
+    ap Degree (none-beyond _ (at-start .pre .1) _ (out-located _ out))
 
 returns-2 : tie.Need-returns-2
 returns-2 c =
     let at-k = c .before .before in
     let at-locate = at-k .before .before in
     let at-start = at-locate .before in
-    let there = read-place _ _ _ (at-start .fits .x) (at-start .fits .y) (at-locate .locate .ensures) ∙ at-k .k .given .1 in
-    ap Degree (c .degree-of .ensures) ∙ ap (λ (p : Point). degreeAnswer p (stateOf (at-start .args .w))) (place-point _ _ there)
+    let there = read-located _ _ _ (at-start .fits .x) (at-start .fits .y) (at-locate .locate .ensures) ∙ at-k .k .given .1 in
+    ap Degree (c .degree-of .ensures) ∙ ap (λ (p : Point). degreeAnswer p (stateOf (at-start .args .w))) (located-is _ _ there .0)
 
 pub degree-at-spec : {M : Type 1} → statement M
 degree-at-spec =

@@ -4,7 +4,7 @@ use Prim.Native.Nat.{_-_}
 use native.Mathlib.Omega.{arith}
 use borrow.Author.Needs.{needs}
 use Rattle.model.specs.Question.{lengthOfState}
-use Rattle.plan.specs.Work as work
+use Rattle.working.specs.InOrder as work
 use Rattle.rounds.proofs.ToEnd.{Running, running-start, running-less, running-fits, running-next, running-more, running-end}
 use Rattle.rounds.proofs.finish_of.Statement.{statement}
 use Rattle.rounds.proofs.finish_of.Tie as tie

@@ -8,8 +8,8 @@ use Rattle.model.specs.State.{State, points}
 use Rattle.model.specs.Tree.{treeLength}
 use Rattle.model.proofs.Candidate.{map-in}
 use Rattle.plane.specs.Code.{pointOf}
-use Rattle.plan.specs.Work.{stateOf}
-use Rattle.rounds.proofs.OneRound.{Joins, steiner-room, next-stays, added-stays, step-stays, found-at, next-joins, added-joins, step-joins, joins-free, joins-shorter}
+use Rattle.working.specs.InOrder.{stateOf}
+use Rattle.rounds.proofs.OneRound.{Joins, point-room, next-stays, added-stays, step-stays, found-at, next-joins, added-joins, step-joins, joins-free, joins-shorter}
 use borrow.Author.Needs.{needs}
 use Rattle.rounds.proofs.round_of.Statement.{statement}
 use Rattle.rounds.proofs.round_of.Tie as tie
@@ -40,7 +40,7 @@ with-steiner-requires c κs =
     let w = start c .args .w in
     let q = start c .pre in
     let j = joined c in
-    (q .0, (j .isPlace, (omega (arith, steiner-room w (q .0) (q .1)), λ i. joins-free _ _ _ _ j (map-in pointOf _ _ .1 (_, i, refl)))))
+    (q .0, (j .isPlace, (point-room w (q .0) (q .1), λ i. joins-free _ _ _ _ j (map-in pointOf _ _ .1 (_, i, refl)))))
 
 length-of-requires : tie.Need-length-of-requires
 length-of-requires c κs = search needs
@@ -64,7 +64,7 @@ to-signed-requires-2 c κs = search needs
 returns : tie.Need-returns
 returns c =
     let e = sym (c .before .before .best-of .ensures) ∙ c .enum-told .given .1 in
-    record { planned = c .before .before .before .pre .0; next = next-stays _ e; added = added-stays _ e; step = step-stays _ e }
+    record { inOrder = c .before .before .before .pre .0; next = next-stays _ e; added = added-stays _ e; step = step-stays _ e }
 
 returns-2 : tie.Need-returns-2
 returns-2 c =
@@ -75,7 +75,7 @@ returns-2 c =
     let x = toZ-ofZ w32 _ (record { sfits = c .before .to-signed .ok }) ∙ c .before .to-signed .ensures in
     let y = toZ-ofZ w32 _ (record { sfits = c .to-signed2 .ok }) ∙ c .to-signed2 .ensures in
     record {
-      planned = at-steiner .with-steiner .ensures .0;
+      inOrder = at-steiner .with-steiner .ensures .0;
       next = next-joins _ _ _ _ j _ e;
       added = added-joins _ _ _ _ j;
       step = step-joins _ _ _ _ j _ _ _ _ _ e x y (at-length .length-of .ensures) (c .before .before .length-of2 .ensures);

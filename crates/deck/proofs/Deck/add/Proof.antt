@@ -1,9 +1,10 @@
 -- `deck::Deck::add` meets its contract: the check, then the call on the working form.
 use borrow.Author.Tests.{not-true, not-false}
 use Rattle.model.specs.Call as call
-use Rattle.plan.proofs.Locating.{read-point}
+use Rattle.plane.specs.Point.{point}
+use Rattle.plane.proofs.Signed.{read-two}
 use Rattle.calls.proofs.Calling.{by-point}
-use Rattle.deck.proofs.Calling.{checked-sound, refused-by, called-by}
+use Rattle.deck.proofs.Calling.{checked-valid, refused-by, called-by}
 use borrow.Author.Needs.{needs}
 use Rattle.deck.proofs.Deck.add.Statement.{statement}
 use Rattle.deck.proofs.Deck.add.Tie as tie
@@ -23,7 +24,7 @@ returns c =
 add-requires : tie.Need-add-requires
 add-requires c κs =
     let at-check = c .before .before in
-    checked-sound _ _ (at-check .check .ensures) (not-false _ (c .if1 .left)) .1
+    checked-valid _ _ (at-check .check .ensures) (not-false _ (c .if1 .left))
 
 outcome-of-requires : tie.Need-outcome-of-requires
 outcome-of-requires c κs = search needs
@@ -35,7 +36,7 @@ returns-2 c =
     let at-check = at-if .before .before in
     let at-start = at-check .before in
     called-by _ _ (at-check .check .ensures) _ _ (not-false _ (at-if .if1 .left)) _
-    (by-point _ call.add _ _ (read-point _ _ (at-start .fits .x) (at-start .fits .y)) _ (at-call .add .ensures)) (c .outcome-of .ensures)
+    (by-point _ call.add _ _ (read-two point _ _ (at-start .fits .x) (at-start .fits .y)) _ (at-call .add .ensures)) (c .outcome-of .ensures)
 
 pub add-spec : {M : Type 1} → statement M
 add-spec =

@@ -1,9 +1,9 @@
 -- `deck::Deck::degree_at` meets its contract: the check, then the question on the working form.
 use mathlib.Core.Path.{ap, _∙_}
 use borrow.Author.Tests.{not-true, not-false}
-use Rattle.plane.specs.Point.{Point}
-use Rattle.plan.specs.Work as work
-use Rattle.plan.proofs.Locating.{read-point}
+use Rattle.plane.specs.Point.{Point, point}
+use Rattle.working.specs.InOrder as work
+use Rattle.plane.proofs.Signed.{read-two}
 use Rattle.questions.specs.Answers.{degreeAnswer}
 use Rattle.deck.proofs.Calling.{checked-valid}
 use Rattle.deck.proofs.Asking.{refused-answer, asked-by}
@@ -32,7 +32,7 @@ returns-2 c =
     let p : Point = record { x = at-start .args .x; y = at-start .args .y } in
     asked-by _ _ (at-check .check .ensures) (not-false _ (at-if .if1 .left)) (degreeAnswer p) _
     (c .degree-at .ensures
-    ∙ ap (λ (q : Point). degreeAnswer q (work.stateOf (at-check .check .result .plan))) (read-point _ _ (at-start .fits .x) (at-start .fits .y)))
+    ∙ ap (λ (q : Point). degreeAnswer q (work.stateOf (at-check .check .result .working))) (read-two point _ _ (at-start .fits .x) (at-start .fits .y)))
 
 pub degree-at-spec : {M : Type 1} → statement M
 degree-at-spec = tie.close (tie.spec check-requires returns degree-at-requires returns-2)

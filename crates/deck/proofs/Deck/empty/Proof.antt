@@ -1,5 +1,5 @@
 -- `deck::Deck::empty` meets its contract, by computation.
-use mathlib.Core.Path.{refl}
+use lib.ListN.{replicate}
 use Rattle.spanning.specs.Kruskal.{kruskal}
 use Rattle.arrays.specs.Set.{union}
 use Rattle.model.specs.Tree.{pairs, edges, mst}
@@ -9,9 +9,12 @@ use Rattle.deck.specs.Form.{deckOf}
 use Rattle.deck.proofs.Deck.empty.Statement.{statement}
 use Rattle.deck.proofs.Deck.empty.Tie as tie
 
+empty-requires : tie.Need-empty-requires
+empty-requires c κs = tt
+
 returns : tie.Need-returns
 unfolding deckOf listed union mst kruskal edges pairs points
-returns c = refl
+returns c = λ i. record { points = c .empty .ensures i; ends = replicate 128 0 }
 
 pub empty-spec : {M : Type 1} → statement M
-empty-spec = tie.close (tie.spec returns)
+empty-spec = tie.close (tie.spec empty-requires returns)

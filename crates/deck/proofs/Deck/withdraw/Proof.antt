@@ -1,7 +1,8 @@
 -- `deck::Deck::withdraw` meets its contract: the check, then the call on the working form.
 use borrow.Author.Tests.{not-true, not-false}
 use Rattle.model.specs.Call as call
-use Rattle.plan.proofs.Locating.{read-point}
+use Rattle.plane.specs.Point.{point}
+use Rattle.plane.proofs.Signed.{read-two}
 use Rattle.calls.proofs.Calling.{by-point}
 use Rattle.deck.proofs.Calling.{checked-valid, refused-by, called-by}
 use borrow.Author.Needs.{needs}
@@ -35,7 +36,7 @@ returns-2 c =
     let at-check = at-if .before .before in
     let at-start = at-check .before in
     called-by _ _ (at-check .check .ensures) _ _ (not-false _ (at-if .if1 .left)) _
-    (by-point _ call.withdraw _ _ (read-point _ _ (at-start .fits .x) (at-start .fits .y)) _ (at-call .withdraw .ensures)) (c .outcome-of .ensures)
+    (by-point _ call.withdraw _ _ (read-two point _ _ (at-start .fits .x) (at-start .fits .y)) _ (at-call .withdraw .ensures)) (c .outcome-of .ensures)
 
 pub withdraw-spec : {M : Type 1} → statement M
 withdraw-spec =

@@ -2,7 +2,7 @@
 use mathlib.Core.Path.{_≡_}
 use native.Mathlib.Omega.{arith}
 use lib.ListN.{length}
-use Rattle.deck.proofs.FromPlan.{plan-deck}
+use Rattle.deck.proofs.FromWorking.{working-deck}
 use borrow.Author.Needs.{needs}
 use Rattle.deck.proofs.check.deck_of.Statement.{statement}
 use Rattle.deck.proofs.check.deck_of.Tie as tie
@@ -20,7 +20,9 @@ listing-requires c κs =
     (omega (arith, c .before .before .before .pre .keysFew), omega (arith, c .before .before .before .pre .keysFew))
 
 returns : tie.Need-returns
-returns c = plan-deck _ (c .before .before .before .before .before .before .before .pre) _ _ (c .before .before .before .listing .ensures)
+returns c =
+    let listed = c .before .before in
+    working-deck _ (listed .before .before .before .before .pre) _ _ (listed .listing .ensures)
 
 pub deck-of-spec : {M : Type 1} → statement M
 deck-of-spec =

@@ -1,14 +1,21 @@
 -- `deck::check::unsound` meets its contract: a deck without points has a working form.
-use Rattle.deck.proofs.Checking.{none-arranged}
+use mathlib.Core.Path.{subst⁻¹}
+use Rattle.model.specs.State.{empty}
+use Rattle.model.proofs.Session.{empty-valid}
+use Rattle.points.specs.Coded.{Arranged}
+use Rattle.points.proofs.Coded.{valid-arranged}
 use borrow.Author.Needs.{needs}
 use Rattle.deck.proofs.check.unsound.Statement.{statement}
 use Rattle.deck.proofs.check.unsound.Tie as tie
 
+empty-requires : tie.Need-empty-requires
+empty-requires c κs = search needs
+
 arrange-requires : tie.Need-arrange-requires
-arrange-requires c κs = none-arranged
+arrange-requires c κs = subst⁻¹ Arranged (c .empty .ensures) (valid-arranged empty empty-valid)
 
 returns : tie.Need-returns
 returns c = search needs
 
 pub unsound-spec : {M : Type 1} → statement M
-unsound-spec = tie.close (tie.spec arrange-requires returns)
+unsound-spec = tie.close (tie.spec empty-requires arrange-requires returns)

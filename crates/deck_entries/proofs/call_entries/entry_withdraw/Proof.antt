@@ -1,7 +1,8 @@
 -- `deck_entries::call_entries::entry_withdraw` meets its contract: the outcome shown is that of the call on the deck lent.
 use mathlib.Core.Path.{ap}
 use Rattle.model.specs.Call as call
-use Rattle.plan.proofs.Locating.{read-point}
+use Rattle.plane.specs.Point.{point}
+use Rattle.plane.proofs.Signed.{read-two}
 use Rattle.deck_entries.proofs.Handed.{shows-called}
 use borrow.Author.Needs.{needs}
 use Rattle.deck_entries.proofs.call_entries.entry_withdraw.Statement.{statement}
@@ -20,7 +21,7 @@ returns : tie.Need-returns
 returns c =
     let s = c .before .before .before .before .before .before .before .before in
     shows-called (s .before .deck-at .ensures)
-    (ap call.withdraw (read-point _ _ (s .before .before .before .before .before .before .before .fits .x) (s .before .before .before .before .before .before .before .fits .y)))
+    (ap call.withdraw (read-two point _ _ (s .before .before .before .before .before .before .before .fits .x) (s .before .before .before .before .before .before .before .fits .y)))
     (s .withdraw .ensures)
     (c .show .ensures)
 

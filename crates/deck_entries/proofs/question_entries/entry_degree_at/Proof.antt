@@ -1,7 +1,8 @@
 -- `deck_entries::question_entries::entry_degree_at` meets its contract: the answer told is that of the deck lent.
 use mathlib.Core.Path.{ap}
 use Rattle.questions.specs.Answers.{degreeAnswer}
-use Rattle.plan.proofs.Locating.{read-point}
+use Rattle.plane.specs.Point.{point}
+use Rattle.plane.proofs.Signed.{read-two}
 use Rattle.deck_entries.proofs.Handed.{tells-asked}
 use borrow.Author.Needs.{needs}
 use Rattle.deck_entries.proofs.question_entries.entry_degree_at.Statement.{statement}
@@ -19,7 +20,7 @@ tell-requires c κs = search needs
 returns : tie.Need-returns
 returns c =
     let s = c .before .before .before in
-    tells-asked (s .before .deck-at .ensures) (ap degreeAnswer (read-point _ _ (s .before .before .fits .x) (s .before .before .fits .y)))
+    tells-asked (s .before .deck-at .ensures) (ap degreeAnswer (read-two point _ _ (s .before .before .fits .x) (s .before .before .fits .y)))
     (s .degree-at .ensures)
     (c .tell .ensures)
 

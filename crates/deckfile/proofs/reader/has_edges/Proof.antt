@@ -1,7 +1,7 @@
 -- `deckfile::reader::has_edges` meets its contract: as many edges as a tree of so many points has, and the same bytes.
 use mathlib.Core.Path.{_≡_, _∙_}
 use lib.ListN.{length}
-use Rattle.deck.proofs.Checking.{sound-few, sound-left}
+use Rattle.deck.proofs.Forms.{sound-few, sound-left}
 use Rattle.deckfile.proofs.Showing.{edges-other, edges-same}
 use borrow.Author.Needs.{needs}
 use native.Mathlib.Omega.{arith}

@@ -31,7 +31,13 @@ build-requires c κs = search needs
 
 returns : tie.Need-returns
 returns c =
-    c .build .ensures ∙ shown-built (c .before .before .before .before .before .before .before .before .before .before .args .b .now) (c .before .before .before .before .before .before .before .before .before .before .pre .0) (c .before .before .before .before .before .before .before .before .before .before .pre .1 .1 .0) _ _ _ _ (c .before .before .before .before .before .before .before .before .number4 .ensures .0) (c .before .before .before .before .before .before .before .number42 .ensures .0) (c .before .before .before .before .before .decode .ensures) (c .before .before .decode2 .ensures)
+    let second = c .before .before in
+    let first = second .before .before .before in
+    let at-numbers = first .before .before in
+    let s = at-numbers .before .before .before in
+    c .build .ensures
+    ∙ shown-built (s .args .b .now) (s .pre .0) (s .pre .1 .1 .0) _ _ _ _ (at-numbers .before .number4 .ensures .0) (at-numbers .number42 .ensures .0)
+    (first .decode .ensures .1) (second .decode2 .ensures .1)
 
 pub points-deck-spec : {M : Type 1} → statement M
 points-deck-spec =

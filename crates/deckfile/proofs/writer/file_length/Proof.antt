@@ -1,6 +1,6 @@
 -- `deckfile::writer::file_length` meets its contract.
 use mathlib.Core.Path.{_∙_}
-use Rattle.deck.proofs.Checking.{sound-few, sound-left}
+use Rattle.deck.proofs.Forms.{sound-few, sound-left}
 use Rattle.deckfile.proofs.Writing.{file-long}
 use Rattle.deckfile.proofs.writer.file_length.Statement.{statement}
 use Rattle.deckfile.proofs.writer.file_length.Tie as tie

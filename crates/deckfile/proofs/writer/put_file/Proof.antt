@@ -19,8 +19,8 @@ slice-aggregate-put-parts-3 c = search needs
 put-parts-requires : tie.Need-put-parts-requires
 put-parts-requires c κs =
     let d = c .before .before .before .before .before .before .before .before .args .d in
-    let h : length (d .pins) ≡ 64 = search needs in
-    let k : length (d .steiner) ≡ 64 = search needs in
+    let h : length (d .points .pins) ≡ 64 = search needs in
+    let k : length (d .points .steiner) ≡ 128 = search needs in
     let l : length (d .ends) ≡ 128 = search needs in
     deck-kept d (c .before .before .before .before .before .before .before .before .pre .0) h k l _ (c .before .before .before .before .before .before .before .before .pre .1)
 

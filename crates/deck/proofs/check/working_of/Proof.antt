@@ -1,0 +1,66 @@
+-- `deck::check::working_of` meets its contract: each part that fails says that the points are not those of a valid state, and all
+-- together that they are.
+use mathlib.Core.Path.{_≡_, refl, sym, _∙_}
+use lib.ListN.{length}
+use borrow.Author.Tests.{not-true, not-false}
+use Rattle.arrays.proofs.Test.{and-parts, of-true}
+use Rattle.model.specs.State.{valid}
+use Rattle.points.specs.Coded.{arranged, stateOf}
+use Rattle.points.proofs.check.Tests.{passes-arranged}
+use Rattle.deck.proofs.Checking.{refuted, refused, accepted, points-weak, points-pass}
+use borrow.Author.Needs.{needs}
+use Rattle.deck.proofs.check.working_of.Statement.{statement}
+use Rattle.deck.proofs.check.working_of.Tie as tie
+
+is-arranged-requires : tie.Need-is-arranged-requires
+is-arranged-requires c κs = search needs
+
+unsound-requires : tie.Need-unsound-requires
+unsound-requires c κs = search needs
+
+returns : tie.Need-returns
+returns c =
+    let tested = c .before .before in
+    let q = tested .before .args .q in
+    refused _ q _ (c .unsound .ensures)
+    (λ t. refuted (tested .is-arranged .ensures) (not-true _ (c .before .if1 .taken)) (and-parts (arranged q) (valid (stateOf q)) t .0))
+
+arrange-requires : tie.Need-arrange-requires
+arrange-requires c κs =
+    let q = c .before .before .args .q in
+    let h : length (q .pins) ≡ 64 = search needs in
+    let k : length (q .steiner) ≡ 128 = search needs in
+    passes-arranged q h k (of-true (sym (c .before .is-arranged .ensures) ∙ not-false _ (c .if1 .left)))
+
+lowest-weak-requires : tie.Need-lowest-weak-requires
+lowest-weak-requires c κs = search needs
+
+unsound-requires-2 : tie.Need-unsound-requires-2
+unsound-requires-2 c κs = search needs
+
+returns-2 : tie.Need-returns-2
+returns-2 c =
+    let weak = c .before .before .before in
+    refused _ _ _ (c .unsound2 .ensures) (points-weak _ _ (weak .before .arrange .ensures) _ (weak .lowest-weak .ensures) (c .before .if2 .taken))
+
+returns-3 : tie.Need-returns-3
+returns-3 c =
+    let weak = c .before .before in
+    let made = weak .before .arrange .ensures in
+    let tested = weak .before .before in
+    accepted _ _ _ refl
+    (points-pass _ _ made _ (weak .lowest-weak .ensures) (c .if2 .left) (of-true (sym (tested .before .is-arranged .ensures) ∙ not-false _ (tested .if1 .left))))
+    (made .0) (made .1)
+
+pub working-of-spec : {M : Type 1} → statement M
+working-of-spec =
+    tie.close
+    (tie.spec
+    is-arranged-requires
+    unsound-requires
+    returns
+    arrange-requires
+    lowest-weak-requires
+    unsound-requires-2
+    returns-2
+    returns-3)

@@ -1,3 +1,0 @@
-pub mod Place
-pub mod Weak
-pub mod Work

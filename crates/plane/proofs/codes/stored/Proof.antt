@@ -1,0 +1,36 @@
+-- `plane::codes::stored` meets its contract: a coordinate in range, raised, is the number that it is stored as.
+use mathlib.Core.Path.{_≡_, sym, ap, _∙_, subst}
+use native.Mathlib.Omega.{arith}
+use lib.IntN.{ℤ, pos, natAbs, _+ℤ_}
+use mir.Syntax.{w16, w32}
+use mir.Val.{Fits, SFits, toZ, ofZ}
+use mir.ValLaws.{toZ-ofZ}
+use lib.Dec.{T}
+use lib.Signed.{nonNeg}
+use Rattle.plane.specs.Point.{limit}
+use Rattle.plane.specs.Coordinate.{biased}
+use Rattle.plane.proofs.Stored.{biased-bound}
+use Rattle.plane.proofs.Signed.{raised}
+use Rattle.plane.proofs.codes.stored.Statement.{statement}
+use Rattle.plane.proofs.codes.stored.Tie as tie
+
+-- The sum, of what is read back from the bits of z.
+sum : (s : tie.Start) → toZ w32 (ofZ w32 (s .args .z)) +ℤ pos limit ≡ pos (biased (s .args .z))
+sum s = ap (λ (z : ℤ). z +ℤ pos limit) (toZ-ofZ w32 (s .args .z) (s .fits .z)) ∙ raised (s .args .z) (s .pre)
+
+add-result : tie.Need-add-result
+add-result c = subst (SFits w32) (sym (sum c)) (record { sfits = omega (arith, biased-bound (c .args .z) (c .pre)) })
+
+-- It is read back as it is.
+back : (s : tie.Start) → toZ w32 (ofZ w32 (toZ w32 (ofZ w32 (s .args .z)) +ℤ pos limit)) ≡ pos (biased (s .args .z))
+back s = toZ-ofZ w32 _ (add-result s) ∙ sum s
+
+cast-result : tie.Need-cast-result
+cast-result c =
+    subst (λ (z : ℤ). T (nonNeg z) × Fits w16 (natAbs z)) (sym (back c)) (tt, record { fits = omega (arith, biased-bound (c .args .z) (c .pre)) })
+
+returns : tie.Need-returns
+returns c = ap natAbs (back c)
+
+pub stored-spec : {M : Type 1} → statement M
+stored-spec = tie.close (tie.spec add-result cast-result returns)

@@ -1,0 +1,2 @@
+-- Laws of points that join and leave.
+pub mod Joins

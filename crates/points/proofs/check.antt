@@ -1,0 +1,2 @@
+-- Laws of the tests on points.
+pub mod Tests

@@ -1,0 +1,60 @@
+-- `points::check::are_codes` meets its contract. The invariant: the numbers passed are codes.
+use Prim.Native.Nat.{_-_}
+use borrow.Author.Tests.{not-true, not-false}
+use native.Mathlib.Omega.{arith}
+use borrow.Author.Needs.{needs}
+use Rattle.plane.specs.Code.{isCode}
+use Rattle.arrays.proofs.sorted.Scan.{Passed, passed-none, passed-more, passed-fail, passed-end}
+use Rattle.points.proofs.check.are_codes.Statement.{statement}
+use Rattle.points.proofs.check.are_codes.Tie as tie
+
+abbrev Inv-loop : tie.InvT-loop
+Inv-loop a n i₀ i = Passed isCode a n i
+
+abbrev μ-loop : tie.MeasureT-loop
+μ-loop a n i₀ i = n - i
+
+loop-holds : tie.Need-loop-holds Inv-loop μ-loop
+loop-holds c = passed-none _ _ _
+
+mul-is-code : tie.Need-mul-is-code Inv-loop μ-loop
+mul-is-code c = search needs
+
+shared-slice-read-is-code : tie.Need-shared-slice-read-is-code Inv-loop μ-loop
+shared-slice-read-is-code c = search needs
+
+is-code-requires : tie.Need-is-code-requires Inv-loop μ-loop
+is-code-requires c κs = search needs
+
+returns : tie.Need-returns Inv-loop μ-loop
+returns c =
+    passed-fail _ _ _ _ _ (c .before .before .before .before .loop .inv) (omega arith) (c .before .before .before .before .before .before .pre) (c .before .is-code .ensures) (not-true _ (c .if1 .taken))
+
+add-i : tie.Need-add-i Inv-loop μ-loop
+add-i c = search needs
+
+loop-less : tie.Need-loop-less Inv-loop μ-loop
+loop-less c = search needs
+
+loop-again : tie.Need-loop-again Inv-loop μ-loop
+loop-again c =
+    passed-more _ _ _ _ _ (c .before .before .before .before .loop .inv) (omega arith) (c .before .before .before .before .before .before .pre) (c .before .is-code .ensures) (not-false _ (c .if1 .left))
+
+returns-2 : tie.Need-returns-2 Inv-loop μ-loop
+returns-2 c = passed-end _ _ _ _ (c .before .loop .inv) (c .loop-test .left) (c .before .before .before .pre)
+
+pub are-codes-spec : {M : Type 1} → statement M
+are-codes-spec =
+    tie.close
+    (tie.spec
+    Inv-loop
+    μ-loop
+    loop-holds
+    mul-is-code
+    shared-slice-read-is-code
+    is-code-requires
+    returns
+    add-i
+    loop-less
+    loop-again
+    returns-2)

@@ -1,0 +1,38 @@
+// The points of a deck: its pins and its Steiner points (document 01: taps) as codes.
+pub mod change;
+pub mod check;
+
+ghost use mathlib.Core.Path.{_≡_};
+ghost use Rattle.model.specs.State as state;
+ghost use Rattle.points.specs.Coded.{coded};
+
+// The most pins of a deck.
+pub const MAX_PINS: usize = 64;
+
+// The most points held at a time, during a round: 64 pins, 62 Steiner points, and the one that joins.
+pub const MAX_POINTS: usize = 127;
+
+// Places for all points, one more than are held.
+pub const PLACES: usize = 128;
+
+// Codes (see the crate plane) rise in each array, no code stands in both, and unused places hold zeros.
+pub struct Points {
+    pub pins: [u64; MAX_PINS],
+    pub npins: usize,
+    pub steiner: [u64; PLACES],
+    pub nsteiner: usize,
+}
+
+impl Points {
+    // No point.
+    pub fn empty() -> Points
+        ensures { λ r. ⌜ r ≡ coded state.empty ⌝ }
+    {
+        Points {
+            pins: [0u64; MAX_PINS],
+            npins: 0,
+            steiner: [0u64; PLACES],
+            nsteiner: 0,
+        }
+    }
+}

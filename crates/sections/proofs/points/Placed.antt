@@ -1,0 +1,103 @@
+-- Check 5 on codes is check 5 on points: the order of codes is that of points. The points decoded from the first two sections
+-- are those that the file shows.
+use mathlib.Core.Path.{_≡_, refl, sym, ap, ap₂, _∙_}
+use mathlib.Core.Bool.{true, false, not, _&&_}
+use mathlib.Core.List.{List, [], _∷_, map, List·Memᴰ·head as head, List·Memᴰ·tail as tail}
+use Prim.Native.Nat.{ℕ, _+_, _*_, _/_}
+use native.Mathlib.Omega.{arith}
+use lib.Dec.{ltb}
+use lib.ListN.{length, take, drop, length-map}
+use lib.Seq.{take-at}
+use Rattle.plane.specs.Point.{Point, inRange, lower}
+use Rattle.plane.specs.Code.{code}
+use Rattle.arrays.proofs.Test.{of-true, true-of}
+use Rattle.plane.proofs.codes.Points.{AllInRange, code-is, point-code, map-codes, codes-are}
+use Rattle.arrays.specs.Set.{has, rising, all}
+use Rattle.model.specs.State.{placed}
+use Rattle.model.specs.File.{pointsOf, size, shown}
+use Rattle.arrays.proofs.Set.{all-in}
+use Rattle.arrays.specs.Array.{noneIn}
+use Rattle.plane.proofs.codes.Sets.{points-has, points-rising}
+use Rattle.arrays.proofs.Test.{and-no, and-yes}
+use Rattle.sections.specs.Points.{pointsIn, codesInFront, decoded, placedCodes}
+use Rattle.sections.specs.Layout.{Sections}
+use Rattle.sections.proofs.points.Codes.{points-count}
+
+-- Where all points are in range, their codes are decoded.
+pub codes-all : (l : List Point) → AllInRange l → codesInFront l ≡ map code l
+unfolding codesInFront
+codes-all [] r = refl
+codes-all (p ∷ l) r = rw (true-of (inRange p) (r p (head refl))) (ap (λ k. code p ∷ k) (codes-all l (λ q i. r q (tail i))))
+
+codes-taken : {a : List ℕ} {l : List Point} {n : ℕ} (old : List ℕ) → a ≡ decoded l old → AllInRange l → length l ≡ n → take n a ≡ map code l
+codes-taken {l = l} {n = n} old f r e =
+    let same = codes-all l r in
+    ap (take n) f ∙ take-at (codesInFront l) _ n (ap length same ∙ length-map l code ∙ e) ∙ same
+
+rising-test : (l : List Point) → AllInRange l → rising ltb (map code l) ≡ rising lower l
+rising-test l r = points-rising (map code l) (codes-are l r) ∙ ap (rising lower) (map-codes l r)
+
+apart-test : (l m : List Point) → AllInRange l → AllInRange m → noneIn (map code m) (map code l) ≡ all (λ (p : Point). not (has lower p m)) l
+unfolding all
+apart-test [] m r s = refl
+apart-test (p ∷ l) m r s =
+    let i = r p (head refl) in
+    ap₂ _&&_ (ap not (points-has (code p) (code-is p i) (map code m) (codes-are m s) ∙ ap₂ (has lower) (point-code p i) (map-codes m s)))
+    (apart-test l m (λ q j. r q (tail j)) s)
+
+-- The points of the first two sections.
+module _ (b : List ℕ) (d : Sections b) where
+  pins-shown : pointsIn b 30 (size b 0 / 4) ≡ shown b .pins
+  pins-shown =
+      let e : 4 * (size b 0 / 4) ≡ size b 0 = omega (arith, d .whole₀) in
+      ap₂ (λ (n at : ℕ). pointsOf (take n (drop at b))) e (sym (d .offset₀))
+
+  steiner-shown : pointsIn b (30 + size b 0) (size b 1 / 4) ≡ shown b .steiner
+  steiner-shown =
+      let e : 4 * (size b 1 / 4) ≡ size b 1 = omega (arith, d .whole₁) in
+      ap₂ (λ (n at : ℕ). pointsOf (take n (drop at b))) e (sym (d .offset₁))
+
+  pub pins-count : length (shown b .pins) ≡ size b 0 / 4
+  pins-count = ap length (sym pins-shown) ∙ points-count b 30 (size b 0 / 4) (omega (arith, d .total))
+
+  pub steiner-count : length (shown b .steiner) ≡ size b 1 / 4
+  steiner-count = ap length (sym steiner-shown) ∙ points-count b (30 + size b 0) (size b 1 / 4) (omega (arith, d .total))
+
+  -- Check 5: a pin out of range, a Steiner point out of range, and the tests on codes.
+  module _ (u v : ℕ) (e : u ≡ size b 0) (f : v ≡ size b 1) where
+    pub pins-are : pointsIn b 30 (u / 4) ≡ shown b .pins
+    pins-are = ap (λ (z : ℕ). pointsIn b 30 (z / 4)) e ∙ pins-shown
+
+    pub steiner-are : pointsIn b (30 + u) (v / 4) ≡ shown b .steiner
+    steiner-are = ap₂ (λ (z y : ℕ). pointsIn b (30 + z) (y / 4)) e f ∙ steiner-shown
+
+    pub pin-outside : all inRange (pointsIn b 30 (u / 4)) ≡ false → false ≡ placed (shown b)
+    unfolding placed
+    pin-outside x = and-no _ _ (ap (all inRange) (sym pins-are) ∙ x)
+
+    module _ (x : all inRange (pointsIn b 30 (u / 4)) ≡ true) where
+      pins-in : all inRange (shown b .pins) ≡ true
+      pins-in = ap (all inRange) (sym pins-are) ∙ x
+
+      pub steiner-outside : all inRange (pointsIn b (30 + u) (v / 4)) ≡ false → false ≡ placed (shown b)
+      unfolding placed
+      steiner-outside y = and-yes _ _ _ pins-in (and-no _ _ (ap (all inRange) (sym steiner-are) ∙ y))
+
+      pub all-inside : {pins steiner : List ℕ} (old₀ old₁ : List ℕ) → pins ≡ decoded (pointsIn b 30 (u / 4)) old₀
+          → all inRange (pointsIn b (30 + u) (v / 4)) ≡ true → steiner ≡ decoded (pointsIn b (30 + u) (v / 4)) old₁
+          → placedCodes (take (u / 4) pins) (take (v / 4) steiner) ≡ placed (shown b)
+      unfolding placed
+      all-inside old₀ old₁ p y q =
+          and-yes _ _ _ pins-in (and-yes _ _ _ steiner-in
+          (ap₂ placedCodes (codes-taken old₀ (p ∙ ap (λ ps. decoded ps old₀) pins-are) r (pins-count ∙ ap (λ (z : ℕ). z / 4) (sym e)))
+          (codes-taken old₁ (q ∙ ap (λ ps. decoded ps old₁) steiner-are) s (steiner-count ∙ ap (λ (z : ℕ). z / 4) (sym f)))
+          ∙ ap₂ _&&_ (rising-test (shown b .pins) r) (ap₂ _&&_ (rising-test (shown b .steiner) s) (apart-test (shown b .pins) (shown b .steiner) r s))))
+        where
+          steiner-in : all inRange (shown b .steiner) ≡ true
+          steiner-in = ap (all inRange) (sym steiner-are) ∙ y
+
+          r : AllInRange (shown b .pins)
+          r = all-in inRange (shown b .pins) .0 (of-true pins-in)
+
+          s : AllInRange (shown b .steiner)
+          s = all-in inRange (shown b .steiner) .0 (of-true steiner-in)

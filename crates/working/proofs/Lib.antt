@@ -1,0 +1,4 @@
+pub mod Arranging
+pub mod HeldPoints
+pub mod Sweeping
+pub mod Weakness

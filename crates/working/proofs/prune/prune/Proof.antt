@@ -1,0 +1,84 @@
+-- `working::prune::prune` meets its contract. The invariant: what is left to sweep leads to the definition's result. The measure:
+-- the Steiner points that are left.
+use mathlib.Core.Path.{_≡_, refl, ap, _∙_}
+use native.Mathlib.Omega.{arith}
+use borrow.Author.Needs.{needs}
+use Rattle.model.specs.State.{prune}
+use Rattle.points.specs.declared.Points.{Points}
+use Rattle.points.specs.Coded.{stateOf}
+use Rattle.working.proofs.Sweeping.{Sweeping, sweeping-start, sweeping-code, sweeping-less, sweeping-more, sweeping-end}
+use Rattle.working.proofs.prune.prune.Statement.{statement}
+use Rattle.working.proofs.prune.prune.Tie as tie
+
+abbrev Inv-loop : tie.InvT-loop
+Inv-loop w₀ j₀ w j = Sweeping (w₀ .points) w j
+
+abbrev μ-loop : tie.MeasureT-loop
+μ-loop w₀ j₀ w j = w .points .nsteiner
+
+arrange-requires : tie.Need-arrange-requires Inv-loop μ-loop
+arrange-requires c κs = c .pre
+
+lowest-weak-requires : tie.Need-lowest-weak-requires Inv-loop μ-loop
+lowest-weak-requires c κs = c .arrange .ensures .0
+
+loop-holds : tie.Need-loop-holds Inv-loop μ-loop
+loop-holds c = sweeping-start _ _ _ (c .before .arrange .ensures .0, refl) (c .lowest-weak .ensures)
+
+mul-k : tie.Need-mul-k Inv-loop μ-loop
+mul-k c = search needs
+
+array-read-k : tie.Need-array-read-k Inv-loop μ-loop
+array-read-k c =
+    let l = c .before .before .before .loop in
+    omega (arith, l .inv .inOrder .arranged .steinerCodes .few, l .inv .inOrder .arranged .steinerCodes .size)
+
+without-steiner-requires : tie.Need-without-steiner-requires Inv-loop μ-loop
+without-steiner-requires c κs =
+    let l = c .before .before .before .loop in
+    (l .inv .inOrder .arranged, sweeping-code _ _ _ (l .inv) _ (c .before .if1 .taken) refl)
+
+arrange-requires-2 : tie.Need-arrange-requires-2 Inv-loop μ-loop
+arrange-requires-2 c κs = c .without-steiner .ensures .0
+
+lowest-weak-requires-2 : tie.Need-lowest-weak-requires-2 Inv-loop μ-loop
+lowest-weak-requires-2 c κs = c .arrange2 .ensures .0
+
+loop-less : tie.Need-loop-less Inv-loop μ-loop
+loop-less c =
+    let left = c .before .before in
+    let l = left .before .before .before .before in
+    let kept : c .before .arrange2 .result .points ≡ left .without-steiner .result = c .before .arrange2 .ensures .1 in
+    let same : c .before .arrange2 .result .points .nsteiner ≡ left .without-steiner .result .nsteiner = λ i. kept i .nsteiner in
+    omega (arith, same, sweeping-less _ _ _ (l .loop .inv) _ (left .before .before .if1 .taken) refl _ (left .without-steiner .ensures))
+
+loop-again : tie.Need-loop-again Inv-loop μ-loop
+loop-again c =
+    let left = c .before .before in
+    let l = left .before .before .before .before in
+    sweeping-more _ _ _ (l .loop .inv) _ (left .before .before .if1 .taken) refl _ (left .without-steiner .ensures) _ _ (c .before .arrange2 .ensures)
+    (c .lowest-weak2 .ensures)
+
+returns : tie.Need-returns Inv-loop μ-loop
+returns c =
+    let first = c .before .before .before .before in
+    let swept = sweeping-end _ _ _ (c .before .before .loop .inv) (c .if1 .left) in
+    (swept .0, swept .1 ∙ ap (λ (q : Points). prune (stateOf q)) (first .arrange .ensures .1))
+
+pub prune-spec : {M : Type 1} → statement M
+prune-spec =
+    tie.close
+    (tie.spec
+    Inv-loop
+    μ-loop
+    arrange-requires
+    lowest-weak-requires
+    loop-holds
+    mul-k
+    array-read-k
+    without-steiner-requires
+    arrange-requires-2
+    lowest-weak-requires-2
+    loop-less
+    loop-again
+    returns)
