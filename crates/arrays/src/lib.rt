@@ -1,4 +1,5 @@
 // Arrays of numbers, below everything else: no point and no graph is known here.
+pub mod narrow;
 pub mod number;
 pub mod paste;
 pub mod same;

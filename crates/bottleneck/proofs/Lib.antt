@@ -1,4 +1,4 @@
-pub mod Front
-pub mod Merge
-pub mod Pass
-pub mod Row
+pub mod FirstKeys
+pub mod HeaviestEdge
+pub mod Rows
+pub mod TablePass

@@ -1,7 +1,3 @@
-pub mod Columns
-pub mod Coordinates
-pub mod Gather
-pub mod Preparing
-pub mod Scan
-pub mod Steps
+-- What the proofs of `search_all` and `best` use, and those of the rounds.
+mod Candidates
 pub mod Sum

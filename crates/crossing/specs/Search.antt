@@ -15,10 +15,9 @@ use Rattle.arrays.specs.Set.{setOf}
 use Rattle.tree.specs.Build.{Rises}
 use Rattle.tree.specs.Held.{held}
 use Rattle.tree.specs.Keys.{tab, treeKeys}
-use Rattle.regions.specs.Codes.{far, farCode}
-use Rattle.score.specs.Gain.{tableAt, gain}
-use Rattle.regions.specs.Rows.{RowsGiven}
-use Rattle.regions.specs.Nearest.{codeOf, ColumnGiven}
+use Rattle.regions.specs.Rays.{places, tableSize, far}
+use Rattle.regions.specs.Nearest.{ColumnGiven}
+use Rattle.score.specs.Gain.{tableAt, gain, raysAt}
 use Rattle.score.specs.Prepared.{sparedBy}
 use Rattle.crossing.specs.declared.found.Best.{Best}
 use Rattle.crossing.specs.declared.found.Best.the-variants.{Nothing, At}
@@ -28,7 +27,7 @@ use Rattle.crossing.specs.declared.found.Greatest.{Greatest}
 pub record TreeGiven (xs ys : List ℕ) (n : ℕ) (keys : List ℕ) (m : ℕ) : Type 0 where
   pub inXs : n ≤ length xs
   pub inYs : n ≤ length ys
-  pub few : n < 128
+  pub few : n < places
   pub rises : Rises (held xs ys) n
   pub within : m ≤ length keys
   pub tree : take m keys ≡ treeKeys (held xs ys) n
@@ -54,27 +53,16 @@ xsOf ps = setOf ltZ (map (λ (p : Point). p .x) ps)
 abbrev pub ysOf : List Point → List ℤ
 ysOf ps = setOf ltZ (map (λ (p : Point). p .y) ps)
 
--- What the search over columns asks: room for the codes of a column, and the table.
+-- What the search over columns asks: the points of a column's search, the table, and the rows.
 pub record SearchGiven (xs : List ℕ) (n : ℕ) (table gaps ranks rows : List ℕ) (count : ℕ) : Type 0 where
-  pub room : ColumnGiven xs gaps ranks n count 128 128 128 128
-  pub size : length table ≡ 16384
-  pub given : RowsGiven rows count
+  pub room : ColumnGiven xs gaps ranks n count
+  pub size : length table ≡ tableSize
+  pub within : count ≤ length rows
 
--- The first `width` numbers are stored coordinates.
-pub record Stored (columns : List ℕ) (width : ℕ) : Type 0 where
-  pub within : width ≤ length columns
-  pub stored : (i : ℕ) → i < width → getD columns i 0 ≤ 65535
-
--- Margins of the first `count` rows.
-pub record Margins (count : ℕ) (l : List ℕ) : Type 0 where
-  pub within : count ≤ length l
-  pub low : (i : ℕ) → i < count → getD l i 0 ≤ farCode
-
--- At each of the first `count` rows the codes of the four margins gain what the crossing of x with the row spares.
-abbrev pub Spares : List ℕ → ℕ → List ℕ → ℕ → List ℕ → List ℕ → List ℕ → List ℕ → List Point → Type 0
-Spares table x rows count east west north south ps =
-    (i : ℕ) → i < count
-    → gain (tableAt table) [] (codeOf (getD east i 0) ∷ codeOf (getD west i 0) ∷ codeOf (getD north i 0) ∷ codeOf (getD south i 0) ∷ []) ≡ sparedBy ps (pointAt x (getD rows i 0))
+-- At each of the first `count` rows the least rays gain what the crossing of x with the row spares.
+abbrev pub Spares : List ℕ → ℕ → List ℕ → ℕ → List ℕ → List Point → Type 0
+Spares table x rows count least ps =
+    (r : ℕ) → r < count → gain (tableAt table) (raysAt least r) ≡ sparedBy ps (pointAt x (getD rows r 0))
 
 -- The best so far, or the crossing at (x, y) where its gain g is greater.
 abbrev pub greater : Greatest → ℕ → ℕ → ℕ → Greatest

@@ -8,6 +8,6 @@ pub enum Best {
 
 // The greatest gain so far, and the crossing that gives it; nothing while no crossing gains more than makes up for the edge to it.
 pub struct Greatest {
-    pub gain: u32,
+    pub gain: u64,
     pub best: Best,
 }

@@ -22,8 +22,7 @@ use Rattle.deck.specs.declared.Deck.{Deck}
 use Rattle.deck.specs.declared.Outcome.{Outcome}
 use Rattle.calls.specs.declared.Reply.the-variants as reply
 use Rattle.deck.specs.Form.{deckOf, stateOf, Sound, sound}
-use Rattle.deck.proofs.Forms.{state-deck, deck-sound, sound-is}
-use Rattle.deck.proofs.Forms.{sound-few, sound-left}
+use Rattle.deck.proofs.Forms.{state-deck, deck-sound, sound-is, sound-few, sound-left}
 use Rattle.deckfile.specs.declared.Written.the-variants.{Refused, Length}
 use Rattle.deckfile.specs.Reading.{outcomeOf, reading, accepting}
 use Rattle.deckfile.specs.Writing.{written, left}

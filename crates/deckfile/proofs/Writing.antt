@@ -15,8 +15,7 @@ use Rattle.model.proofs.FileSize.{file-length, listed-count}
 use Rattle.plane.specs.Code.{pointOf}
 use Rattle.deck.specs.declared.Deck.{Deck}
 use Rattle.deck.specs.Form.{stateOf, Sound, sound}
-use Rattle.deck.proofs.Forms.{sound-is}
-use Rattle.deck.proofs.Forms.{sound-few, sound-left}
+use Rattle.deck.proofs.Forms.{sound-is, sound-few, sound-left}
 use Rattle.deckfile.specs.declared.Written.{Written}
 use Rattle.deckfile.specs.declared.Written.the-variants.{Refused, Length}
 use Rattle.sections.specs.Bytes.{each, pointFour, over}

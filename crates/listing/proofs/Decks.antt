@@ -33,8 +33,7 @@ use Rattle.points.proofs.Coded.{pins-count, steiner-count}
 use Rattle.plane.proofs.codes.Sets.{points-union}
 use Rattle.deck.specs.declared.Deck.{Deck}
 use Rattle.deck.specs.Form.{stateOf, Sound}
-use Rattle.deck.proofs.Forms.{ends-are}
-use Rattle.deck.proofs.Forms.{sound-arranged}
+use Rattle.deck.proofs.Forms.{ends-are, sound-arranged}
 use Rattle.listing.specs.Line.{headText, edgeAt, Ended}
 use Rattle.arrays.proofs.paste.Parts.{pasted-same}
 

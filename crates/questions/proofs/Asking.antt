@@ -28,7 +28,7 @@ use Rattle.model.proofs.Prune.{points-in, points-rise}
 use Rattle.model.proofs.FileSize.{listed-count}
 use Rattle.tree.specs.Held.{held}
 use Rattle.tree.specs.Keys.{keyGraph, tab, endsAt, edgeOf, treeKeys}
-use Rattle.tree.proofs.Join.{tab-in}
+use Rattle.tree.proofs.Tab.{tab-in}
 use Rattle.tree.proofs.Numbers.{number-at}
 use Rattle.tree.proofs.Sorted.{tree-keys-mst, ps-sorted}
 use Rattle.arrays.specs.Array.{indexOf}

@@ -1,3 +1,3 @@
-pub mod Codes
-pub mod Nearest
+pub mod Rays
 pub mod Rows
+pub mod Nearest

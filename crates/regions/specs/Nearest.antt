@@ -1,110 +1,109 @@
--- The nearest points of a crossing by regions: the least code of each.
+-- The nearest points of a crossing by its four sides: the least ray of each.
 use mathlib.Core.Path.{_≡_}
 use mathlib.Core.Logic.{_⊎_}
 use mathlib.Core.List.{List}
-use Prim.Native.Nat.{ℕ, _+_, _*_, _-_, _≤_, _<_, min}
-use lib.Dec.{ltb}
+use Prim.Native.Nat.{ℕ, _+_, _*_, _-_, _≤_, _<_, max}
 use lib.ListN.{length, getD}
-use Rattle.arrays.specs.Test.{if}
-use Rattle.regions.specs.Codes.{farCode}
-use Rattle.regions.specs.Rows.{gapCode}
+use Rattle.regions.specs.Rays.{places, tableSize, farRay}
+use Rattle.regions.specs.Rows.{scaledGap, widestGap}
 
--- The code of a point for the region north or south, by its distance in x times 128 with its number, and that in y times 128.
-abbrev pub steepCode : ℕ → ℕ → ℕ
-steepCode ahead d = if (ltb ahead d) (λ _. ahead + d) (λ _. farCode)
+-- The sides of a crossing, between its diagonals.
+pub data Side : Type 0 where
+  east : Side
+  west : Side
+  north : Side
+  south : Side
 
--- The same for the region east or west.
-abbrev pub flatCode : ℕ → ℕ → ℕ
-flatCode ahead d = if (ltb ahead d) (λ _. farCode) (λ _. ahead + d)
+-- Where the rays of a side stand in an array of all: 128 rows of each.
+abbrev pub place : Side → ℕ
+place east = 0
+place west = places
+place north = 2 * places
+place south = 3 * places
 
--- A code is kept by its margin, how much it is below `farCode`, so that no code is 0 and the least code has the greatest margin.
-abbrev pub codeOf : ℕ → ℕ
-codeOf margin = farCode - margin
+abbrev pub rayPlaces : ℕ
+rayPlaces = 4 * places
 
--- The distances of a point to the rows, which are small, and margins of the rows up to `to`.
-pub record LapGiven (gaps : List ℕ) (start from to ahead left : ℕ) (steep flat : List ℕ) : Type 0 where
-  pub inside : start + to ≤ length gaps
-  pub rises : from ≤ to
-  pub fits : to ≤ length steep
-  pub fits′ : to ≤ length flat
-  pub short : ahead ≤ 8388607
-  pub leaves : left ≡ farCode - ahead
-  pub near : (r : ℕ) → r < to → getD gaps (start + r) 0 ≤ 8388480
-  pub low : (r : ℕ) → from ≤ r → r < to → getD steep r 0 ≤ farCode
-  pub low′ : (r : ℕ) → from ≤ r → r < to → getD flat r 0 ≤ farCode
+-- A ray is kept as its complement, how much it is below `farRay`: no ray is 0, and the least ray has the greatest complement.
+abbrev pub rayAt : List ℕ → Side → ℕ → ℕ
+rayAt least t r = farRay - getD least (place t + r) 0
 
--- The code of the rows between `from` and `to` is taken where it is less, and the rest is as it was.
-pub record Lapped (gaps : List ℕ) (start from to : ℕ) (code : ℕ → ℕ) (before after : List ℕ) : Type 0 where
-  pub here : (r : ℕ) → from ≤ r → r < to → codeOf (getD after r 0) ≡ min (codeOf (getD before r 0)) (code (getD gaps (start + r) 0))
-  pub low : (r : ℕ) → from ≤ r → r < to → getD after r 0 ≤ farCode
-  pub rest : (r : ℕ) → (r < from) ⊎ (to ≤ r) → getD after r 0 ≡ getD before r 0
+-- An array of complements, and one with no ray.
+pub record Complements (least : List ℕ) : Type 0 where
+  pub size : length least ≡ rayPlaces
+  pub low : (i : ℕ) → getD least i 0 ≤ farRay
 
--- The distances of one point to all rows, of which `rank` are below it, and margins of the rows.
-pub record TurnGiven (gaps : List ℕ) (start rank count ahead left : ℕ) (north south flat : List ℕ) : Type 0 where
-  pub inside : start + count ≤ length gaps
-  pub rises : rank ≤ count
-  pub inNorth : count ≤ length north
-  pub inSouth : count ≤ length south
-  pub inFlat : count ≤ length flat
-  pub short : ahead ≤ 8388607
-  pub leaves : left ≡ farCode - ahead
-  pub near : (r : ℕ) → r < count → getD gaps (start + r) 0 ≤ 8388480
-  pub lowNorth : (r : ℕ) → r < count → getD north r 0 ≤ farCode
-  pub lowSouth : (r : ℕ) → r < count → getD south r 0 ≤ farCode
-  pub lowFlat : (r : ℕ) → r < count → getD flat r 0 ≤ farCode
+pub record NoRays (least : List ℕ) : Type 0 where
+  pub size : length least ≡ rayPlaces
+  pub none : (i : ℕ) → getD least i 0 ≡ 0
 
--- For the column x: the distance in x of the point j, times 128, with its number; the code of its edge to the crossing with the row r.
-abbrev pub aheadOf : List ℕ → ℕ → ℕ → ℕ
-aheadOf xs x j = gapCode (getD xs j 0) x + j
+-- For the column x: the difference in x of the point j, times 128, with its number; and its ray to the crossing with the row r.
+abbrev pub alongOf : List ℕ → ℕ → ℕ → ℕ
+alongOf xs x j = scaledGap (getD xs j 0) x + j
 
-abbrev pub codeAt : List ℕ → List ℕ → ℕ → ℕ → ℕ → ℕ
-codeAt xs gaps x r j = aheadOf xs x j + getD gaps (j * 128 + r) 0
+abbrev pub rayTo : List ℕ → List ℕ → ℕ → ℕ → ℕ → ℕ
+rayTo xs gaps x r j = alongOf xs x j + getD gaps (j * places + r) 0
 
--- The point j is in the region east, west, north or south of the crossing of the column x with the row r.
-abbrev pub East : List ℕ → List ℕ → ℕ → ℕ → ℕ → Type 0
-East xs gaps x r j = (x ≤ getD xs j 0) × (getD gaps (j * 128 + r) 0 ≤ aheadOf xs x j)
+-- The point j is on a side of the crossing of the column x with the row r: east or west where its difference in y is no larger than
+-- that in x, and north or south where it is larger.
+abbrev pub Region : List ℕ → List ℕ → List ℕ → ℕ → ℕ → Side → ℕ → Type 0
+Region xs gaps ranks x r east j = (x ≤ getD xs j 0) × (getD gaps (j * places + r) 0 ≤ alongOf xs x j)
+Region xs gaps ranks x r west j = (getD xs j 0 < x) × (getD gaps (j * places + r) 0 ≤ alongOf xs x j)
+Region xs gaps ranks x r north j = (r < getD ranks j 0) × (alongOf xs x j < getD gaps (j * places + r) 0)
+Region xs gaps ranks x r south j = (getD ranks j 0 ≤ r) × (alongOf xs x j < getD gaps (j * places + r) 0)
 
-abbrev pub West : List ℕ → List ℕ → ℕ → ℕ → ℕ → Type 0
-West xs gaps x r j = (getD xs j 0 < x) × (getD gaps (j * 128 + r) 0 ≤ aheadOf xs x j)
+-- k is the least ray of the first n points that are in a region, or that of no point.
+pub record Nearest (rayOf : ℕ → ℕ) (Inside : ℕ → Type 0) (n k : ℕ) : Type 0 where
+  pub is : (k ≡ farRay) ⊎ ((i : ℕ) × (i < n) × Inside i × (k ≡ rayOf i))
+  pub least : (i : ℕ) → i < n → Inside i → k ≤ rayOf i
 
-abbrev pub North : List ℕ → List ℕ → List ℕ → ℕ → ℕ → ℕ → Type 0
-North xs gaps ranks x r j = (r < getD ranks j 0) × (aheadOf xs x j < getD gaps (j * 128 + r) 0)
+-- The array has the least rays of the first n points, for each side and each of the first `count` rows.
+pub record AtRows (xs gaps ranks : List ℕ) (x n count : ℕ) (least : List ℕ) : Type 0 where
+  pub complements : Complements least
+  pub near : (t : Side) (r : ℕ) → r < count → Nearest (rayTo xs gaps x r) (Region xs gaps ranks x r t) n (rayAt least t r)
 
-abbrev pub South : List ℕ → List ℕ → List ℕ → ℕ → ℕ → ℕ → Type 0
-South xs gaps ranks x r j = (getD ranks j 0 ≤ r) × (aheadOf xs x j < getD gaps (j * 128 + r) 0)
-
--- k is the least code of the first n points that are in a region, or that of no point.
-pub record Nearest (code : ℕ → ℕ) (Region : ℕ → Type 0) (n k : ℕ) : Type 0 where
-  pub is : (k ≡ farCode) ⊎ ((i : ℕ) × (i < n) × Region i × (k ≡ code i))
-  pub least : (i : ℕ) → i < n → Region i → k ≤ code i
-  pub short : k ≤ farCode
-
--- The least codes of the four regions, at the row r.
-pub record AtRow (xs gaps ranks : List ℕ) (x n r east west north south : ℕ) : Type 0 where
-  pub inEast : Nearest (codeAt xs gaps x r) (East xs gaps x r) n east
-  pub inWest : Nearest (codeAt xs gaps x r) (West xs gaps x r) n west
-  pub inNorth : Nearest (codeAt xs gaps x r) (North xs gaps ranks x r) n north
-  pub inSouth : Nearest (codeAt xs gaps x r) (South xs gaps ranks x r) n south
-
--- The same at each of the first `count` rows, by arrays of margins.
-pub record AtRows (xs gaps ranks : List ℕ) (x n count : ℕ) (east west north south : List ℕ) : Type 0 where
-  pub row : (r : ℕ) → r < count
-      → AtRow xs gaps ranks x n r (codeOf (getD east r 0)) (codeOf (getD west r 0)) (codeOf (getD north r 0)) (codeOf (getD south r 0))
-  pub lowEast : (r : ℕ) → r < count → getD east r 0 ≤ farCode
-  pub lowWest : (r : ℕ) → r < count → getD west r 0 ≤ farCode
-  pub lowNorth : (r : ℕ) → r < count → getD north r 0 ≤ farCode
-  pub lowSouth : (r : ℕ) → r < count → getD south r 0 ≤ farCode
-
--- The points of a column's search, and arrays with room for the margins of the rows.
-pub record ColumnGiven (xs gaps ranks : List ℕ) (n count : ℕ) (east west north south : ℕ) : Type 0 where
+-- What the search of a column asks of the points: their ranks and distances are those of at most 128 rows.
+pub record ColumnGiven (xs gaps ranks : List ℕ) (n count : ℕ) : Type 0 where
   pub inXs : n ≤ length xs
   pub inRanks : n ≤ length ranks
-  pub few : n ≤ 128
-  pub size : length gaps ≡ 16384
-  pub rows : count ≤ 128
+  pub few : n ≤ places
+  pub size : length gaps ≡ tableSize
+  pub rows : count ≤ places
   pub ranked : (j : ℕ) → j < n → getD ranks j 0 ≤ count
-  pub near : (j r : ℕ) → j < n → r < count → getD gaps (j * 128 + r) 0 ≤ 8388480
-  pub inEast : count ≤ east
-  pub inWest : count ≤ west
-  pub inNorth : count ≤ north
-  pub inSouth : count ≤ south
+  pub near : (j : ℕ) → j < n → (r : ℕ) → r < count → getD gaps (j * places + r) 0 ≤ widestGap
+
+-- A ray that counts where P holds is taken where it is less than the one before: by their complements.
+pub record Offered (P : Type 0) (k before after : ℕ) : Type 0 where
+  pub taken : P → after ≡ max before (farRay - k)
+  pub kept : ¬ P → after ≡ before
+
+-- What relaxing the rows from `from` to `to` asks: the distances of one point to the rows, from the place `start` on; its difference
+-- in x and the complement of that; and the places of two sides, those of the flat one before those of the steep one.
+pub record RelaxGiven (gaps : List ℕ) (start from to along complement : ℕ) (least : List ℕ) (steep flat : ℕ) : Type 0 where
+  pub inside : start + to ≤ length gaps
+  pub rises : from ≤ to
+  pub apart : flat + to ≤ steep
+  pub fits : steep + to ≤ rayPlaces
+  pub short : along < widestGap + places
+  pub leaves : complement ≡ farRay - along
+  pub near : (r : ℕ) → r < to → getD gaps (start + r) 0 ≤ widestGap
+  pub complements : Complements least
+
+-- The place i is none of those of the rows from `from` to `to` on the two sides.
+abbrev pub Elsewhere : ℕ → ℕ → ℕ → ℕ → ℕ → Type 0
+Elsewhere steep flat from to i = (r : ℕ) → from ≤ r → r < to → ¬ (i ≡ steep + r) × ¬ (i ≡ flat + r)
+
+-- The point's ray was offered to the rows from `from` to `to`, on the steep side where its difference in y is the larger, and else on
+-- the flat side. The rest is as it was.
+pub record Relaxed (gaps : List ℕ) (start from to along steep flat : ℕ) (before after : List ℕ) : Type 0 where
+  pub complements : Complements after
+  pub onSteep : (r : ℕ) → r < to → from ≤ r
+      → Offered (along < getD gaps (start + r) 0) (along + getD gaps (start + r) 0) (getD before (steep + r) 0) (getD after (steep + r) 0)
+  pub onFlat : (r : ℕ) → r < to → from ≤ r
+      → Offered (getD gaps (start + r) 0 ≤ along) (along + getD gaps (start + r) 0) (getD before (flat + r) 0) (getD after (flat + r) 0)
+  pub rest : (i : ℕ) → Elsewhere steep flat from to i → getD after i 0 ≡ getD before i 0
+
+-- The place `flat` is that of the side, west or east, on which the point j is.
+pub record FlatSide (xs : List ℕ) (x j flat : ℕ) : Type 0 where
+  pub low : flat ≤ place west
+  pub is : ((getD xs j 0 < x) × (flat ≡ place west)) ⊎ ((x ≤ getD xs j 0) × (flat ≡ place east))

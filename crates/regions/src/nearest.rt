@@ -1,112 +1,136 @@
-// The nearest points of the crossings of one column, by regions: for each row the least code of each region, all rows at a time.
+// The nearest points of the crossings of one column, by sides: for each row the least ray of each side, all rows at a time.
 //
-// A code is kept by its margin, how much it is below FAR_CODE: no code is 0, and the least code has the greatest margin.
+// A ray is kept as its complement, how much it is below FAR_RAY: no ray is 0, and the least ray has the greatest complement.
+use super::rows::PLACES;
+use super::rows::SCALE;
 ghost use mathlib.Core.Path.{_≡_};
-ghost use Prim.Native.Nat.{ℕ, _+_, _-_, _≤_, _<_, max};
+ghost use Prim.Native.Nat.{_+_, _-_, _≤_, _<_, max};
 ghost use lib.Dec.{ltb};
-ghost use lib.ListN.{length, getD};
-ghost use Rattle.regions.specs.Codes.{farCode};
-ghost use Rattle.regions.specs.Nearest.{codeOf, steepCode, flatCode, LapGiven, Lapped, TurnGiven, ColumnGiven, AtRows};
+ghost use Rattle.arrays.specs.Test.{if};
+ghost use Rattle.regions.specs.Rays.{farRay};
+ghost use Rattle.regions.specs.Nearest as spec;
 
-// The code of no point: an edge of length FAR.
-const FAR_CODE: u32 = 16777216;
+// Longer than every edge between two places: stored coordinates are at most 65,535 apart on each axis.
+pub const FAR: u32 = 131072;
 
-// No code at any row.
-pub fn no_codes() -> [u32; 128]
-    ensures { λ r. ⌜ (length r ≡ 128) × ((i : ℕ) → i < 128 → getD r i 0 ≡ 0) ⌝ }
+// The ray of no point: one of length FAR to point 0.
+const FAR_RAY: u32 = FAR * SCALE;
+
+// Where the rays of each side stand in an array of all: PLACES rows of each.
+pub const EAST: usize = 0;
+
+pub const WEST: usize = PLACES;
+
+pub const NORTH: usize = 2 * PLACES;
+
+pub const SOUTH: usize = 3 * PLACES;
+
+// Room for the rays of four sides.
+pub const RAY_PLACES: usize = 4 * PLACES;
+
+// No ray at any row.
+pub fn no_rays() -> [u32; RAY_PLACES]
+    ensures { λ r. ⌜ spec.NoRays r ⌝ }
 {
-    [0u32; 128]
+    [0u32; RAY_PLACES]
 }
 
-// The code of a margin.
-pub fn code_of(margin: u32) -> u32
-    requires { ⌜ margin ≤ farCode ⌝ }
-    ensures { λ r. ⌜ r ≡ codeOf margin ⌝ }
+// The ray of a complement.
+pub fn ray_of(complement: u32) -> u32
+    requires { ⌜ complement ≤ farRay ⌝ }
+    ensures { λ r. ⌜ r ≡ farRay - complement ⌝ }
 {
-    FAR_CODE - margin
+    FAR_RAY - complement
 }
 
 // Whether a is less than b. Signed numbers compare faster, four at a time.
 fn less(a: u32, b: u32) -> bool
-    requires { ⌜ (a ≤ 2147483647) × (b ≤ 2147483647) ⌝ }
+    requires { ⌜ (a ≤ farRay) × (b ≤ farRay) ⌝ }
     ensures { λ r. ⌜ r ≡ ltb a b ⌝ }
 {
     (a as i32) < (b as i32)
 }
 
-// The larger of two numbers.
-fn most(a: u32, b: u32) -> u32
-    requires { ⌜ (a ≤ 2147483647) × (b ≤ 2147483647) ⌝ }
-    ensures { λ r. ⌜ r ≡ max a b ⌝ }
+// The first number where the test passes, else the second.
+fn choose(test: bool, a: u32, b: u32) -> u32
+    ensures { λ r. ⌜ (r ≡ if test (λ _. a) (λ _. b)) × (r ≤ max a b) ⌝ }
 {
-    if less(a, b) { b } else { a }
+    if test { a } else { b }
 }
 
-// The margin of a point for the region north or south of a crossing. `ahead` is its distance in x times 128, with its number, and
-// `left` what it leaves of FAR_CODE, and d its distance in y times 128.
-fn steep_margin(ahead: u32, left: u32, d: u32) -> u32
-    requires { ⌜ (ahead ≤ 8388607) × (left ≡ farCode - ahead) × (d ≤ 8388480) ⌝ }
-    ensures { λ r. ⌜ r ≡ farCode - steepCode ahead d ⌝ }
-    ensures { λ r. ⌜ r ≤ farCode ⌝ }
+// The larger of two numbers, compared as `less` does.
+fn larger(a: u32, b: u32) -> u32
+    requires { ⌜ (a ≤ farRay) × (b ≤ farRay) ⌝ }
+    ensures { λ r. ⌜ (r ≡ max a b) × (r ≤ farRay) ⌝ }
 {
-    if less(ahead, d) { left - d } else { 0 }
+    choose(less(a, b), b, a)
 }
 
-// The same for the region east or west.
-fn flat_margin(ahead: u32, left: u32, d: u32) -> u32
-    requires { ⌜ (ahead ≤ 8388607) × (left ≡ farCode - ahead) × (d ≤ 8388480) ⌝ }
-    ensures { λ r. ⌜ r ≡ farCode - flatCode ahead d ⌝ }
-    ensures { λ r. ⌜ r ≤ farCode ⌝ }
-{
-    if less(ahead, d) { 0 } else { left - d }
-}
-
-// One point against the rows from one number to another: its code is taken where it is less.
-fn lap(
+// Offers one point's rays to the rows from one number to another: to the steep side, whose rays stand from the place `steep` on, where
+// the point's difference in y, the gap, is larger than that in x, else to the flat side. `along` is the difference in x times 128,
+// with the point's number.
+fn relax_rows(
     gaps: &[u32],
     start: usize,
     from: usize,
     to: usize,
-    ahead: u32,
-    left: u32,
-    steep: &mut [u32],
-    flat: &mut [u32],
+    along: u32,
+    complement: u32,
+    least: &mut [u32],
+    steep: usize,
+    flat: usize,
 )
-    requires { ⌜ LapGiven (now gaps) start from to ahead left (now steep) (now flat) ⌝ }
-    ensures { λ _. ⌜ Lapped (now (gaps .entry)) start from to (steepCode ahead) (now (steep .entry)) (now (steep .exit)) ⌝ }
-    ensures { λ _. ⌜ Lapped (now (gaps .entry)) start from to (flatCode ahead) (now (flat .entry)) (now (flat .exit)) ⌝ }
+    requires { ⌜ spec.RelaxGiven (now gaps) start from to along complement (now least) steep flat ⌝ }
+    ensures { λ _. ⌜ spec.Relaxed (now (gaps .entry)) start from to along steep flat (now (least .entry)) (now (least .exit)) ⌝ }
 {
     let mut r = from;
     while r < to {
         let d = gaps[start + r];
-        steep[r] = most(steep[r], steep_margin(ahead, left, d));
-        flat[r] = most(flat[r], flat_margin(ahead, left, d));
+        let steeper = less(along, d);
+        let k = complement - d;
+        let s = larger(least[steep + r], choose(steeper, k, 0));
+        let f = larger(least[flat + r], choose(steeper, 0, k));
+        least[steep + r] = s;
+        least[flat + r] = f;
         r += 1;
     }
 }
 
-// One point against all rows: it is north of those below it, south of the others, or east or west of both.
-fn turn(
+// The least rays with one point more, the point j: it is north of the rows below it, south of the others, or on the flat side of both.
+fn relax_point(
+    xs: &[u16],
+    n: usize,
+    j: usize,
     gaps: &[u32],
-    start: usize,
-    rank: usize,
+    ranks: &[usize],
     count: usize,
-    ahead: u32,
-    left: u32,
-    north: &mut [u32],
-    south: &mut [u32],
-    flat: &mut [u32],
+    x: u16,
+    least: &mut [u32],
+    flat: usize,
 )
-    requires { ⌜ TurnGiven (now gaps) start rank count ahead left (now north) (now south) (now flat) ⌝ }
-    ensures { λ _. ⌜ Lapped (now (gaps .entry)) start 0 rank (steepCode ahead) (now (north .entry)) (now (north .exit)) ⌝ }
-    ensures { λ _. ⌜ Lapped (now (gaps .entry)) start rank count (steepCode ahead) (now (south .entry)) (now (south .exit)) ⌝ }
-    ensures { λ _. ⌜ Lapped (now (gaps .entry)) start 0 count (flatCode ahead) (now (flat .entry)) (now (flat .exit)) ⌝ }
+    requires { ⌜ spec.ColumnGiven (now xs) (now gaps) (now ranks) n count × (j < n) × spec.FlatSide (now xs) x j flat ⌝ }
+    requires { ⌜ spec.AtRows (now xs) (now gaps) (now ranks) x j count (now least) ⌝ }
+    ensures { λ _. ⌜ spec.AtRows (now (xs .entry)) (now (gaps .entry)) (now (ranks .entry)) x (j + 1) count (now (least .exit)) ⌝ }
 {
-    lap(gaps, start, 0, rank, ahead, left, north, flat);
-    lap(gaps, start, rank, count, ahead, left, south, flat);
+    let along = plane::apart(xs[j], x) as u32 * SCALE + j as u32;
+    let complement = FAR_RAY - along;
+    let rank = ranks[j];
+    let start = j * PLACES;
+    relax_rows(gaps, start, 0, rank, along, complement, least, NORTH, flat);
+    relax_rows(
+        gaps,
+        start,
+        rank,
+        count,
+        along,
+        complement,
+        least,
+        SOUTH,
+        flat,
+    );
 }
 
-// The least codes with one point more, the point j.
+// The same, on the side where the point is.
 fn join_point(
     xs: &[u16],
     n: usize,
@@ -115,47 +139,20 @@ fn join_point(
     ranks: &[usize],
     count: usize,
     x: u16,
-    east: &mut [u32],
-    west: &mut [u32],
-    north: &mut [u32],
-    south: &mut [u32],
+    least: &mut [u32],
 )
-    requires { ⌜ ColumnGiven (now xs) (now gaps) (now ranks) n count (length (now east)) (length (now west)) (length (now north)) (length (now south)) ⌝ }
-    requires { ⌜ j < n ⌝ }
-    requires { ⌜ AtRows (now xs) (now gaps) (now ranks) x j count (now east) (now west) (now north) (now south) ⌝ }
-    ensures { λ _. ⌜ AtRows (now (xs .entry)) (now (gaps .entry)) (now (ranks .entry)) x (j + 1) count
-        (now (east .exit)) (now (west .exit)) (now (north .exit)) (now (south .exit)) ⌝ }
+    requires { ⌜ spec.ColumnGiven (now xs) (now gaps) (now ranks) n count × (j < n) ⌝ }
+    requires { ⌜ spec.AtRows (now xs) (now gaps) (now ranks) x j count (now least) ⌝ }
+    ensures { λ _. ⌜ spec.AtRows (now (xs .entry)) (now (gaps .entry)) (now (ranks .entry)) x (j + 1) count (now (least .exit)) ⌝ }
 {
-    let ahead = plane::apart(xs[j], x) as u32 * 128 + j as u32;
-    let left = FAR_CODE - ahead;
     if xs[j] < x {
-        turn(
-            gaps,
-            j * 128,
-            ranks[j],
-            count,
-            ahead,
-            left,
-            north,
-            south,
-            west,
-        );
+        relax_point(xs, n, j, gaps, ranks, count, x, least, WEST);
         return;
     }
-    turn(
-        gaps,
-        j * 128,
-        ranks[j],
-        count,
-        ahead,
-        left,
-        north,
-        south,
-        east,
-    );
+    relax_point(xs, n, j, gaps, ranks, count, x, least, EAST);
 }
 
-// The least code of each region at each row of the column x, from arrays with no code yet.
+// The least ray of each side at each of the first `count` rows of the column x, into an array with no ray.
 pub fn nearest(
     xs: &[u16],
     n: usize,
@@ -163,19 +160,14 @@ pub fn nearest(
     ranks: &[usize],
     count: usize,
     x: u16,
-    east: &mut [u32],
-    west: &mut [u32],
-    north: &mut [u32],
-    south: &mut [u32],
+    least: &mut [u32],
 )
-    requires { ⌜ ColumnGiven (now xs) (now gaps) (now ranks) n count (length (now east)) (length (now west)) (length (now north)) (length (now south)) ⌝ }
-    requires { ⌜ AtRows (now xs) (now gaps) (now ranks) x 0 count (now east) (now west) (now north) (now south) ⌝ }
-    ensures { λ _. ⌜ AtRows (now (xs .entry)) (now (gaps .entry)) (now (ranks .entry)) x n count
-        (now (east .exit)) (now (west .exit)) (now (north .exit)) (now (south .exit)) ⌝ }
+    requires { ⌜ spec.ColumnGiven (now xs) (now gaps) (now ranks) n count × spec.NoRays (now least) ⌝ }
+    ensures { λ _. ⌜ spec.AtRows (now (xs .entry)) (now (gaps .entry)) (now (ranks .entry)) x n count (now (least .exit)) ⌝ }
 {
     let mut j = 0;
     while j < n {
-        join_point(xs, n, j, gaps, ranks, count, x, east, west, north, south);
+        join_point(xs, n, j, gaps, ranks, count, x, least);
         j += 1;
     }
 }

@@ -1,10 +1,11 @@
--- The bottleneck of the crossing and a held point goes over exactly one of the crossing's edges: a walk leaves the crossing by
--- an edge, and goes on by edges between held points, whose bottlenecks are known.
+-- The bottleneck of the crossing and a held point goes over exactly one of the crossing's rays: a walk leaves the crossing by a ray,
+-- and goes on by edges between held points, whose bottlenecks are known.
 use mathlib.Core.Path.{_≡_, refl, sym, ap, _∙_, subst}
-use mathlib.Core.Logic.{_⊎_, inl, inr, ⊎-elim, _↔_}
-use mathlib.Core.List.{List, [], _∷_, List·Memᴰ, List·Memᴰ·head as head, List·Memᴰ·tail as tail, List·Memᴰ·cases-cons as cases, List·Memᴰ·not-nil as not-nil}
+use mathlib.Core.Logic.{_⊎_, inl, inr, ⊎-elim, _↔_, dite}
+use mathlib.Core.List.{List, [], _∷_, _++_, map, List·Memᴰ, List·Memᴰ·head as head, List·Memᴰ·tail as tail}
+use mathlib.Core.List.{List·Memᴰ·cases-cons as cases, List·Memᴰ·not-nil as not-nil}
 use Prim.Native.Nat.{ℕ, _+_, _*_, _≤_, _<_, min, max}
-use native.Mathlib.Decide.{decLt}
+use native.Mathlib.Decide.{decLe}
 use native.Mathlib.Omega.{arith}
 use lib.Dec.{T, ltb}
 use Rattle.spanning.specs.Graph.{Conn, stop, fwd, bwd, In}
@@ -12,173 +13,159 @@ use Rattle.arrays.specs.Order.{Sorted}
 use Rattle.spanning.specs.Bottleneck.{Within}
 use Rattle.spanning.proofs.Conn.{conn-edge, conn-sym, conn-trans, conn-mono}
 use Rattle.arrays.proofs.Order.{nat-order}
-use Rattle.arrays.specs.Set.{put}
-use Rattle.arrays.proofs.Set.{put-in, put-sorted}
+use Rattle.arrays.specs.Set.{union}
+use Rattle.model.proofs.Candidate.{map-in}
+use Rattle.arrays.proofs.Set.{union-in, union-sorted}
 use Rattle.tree.specs.Keys.{weight, low, high, keyGraph}
-use Rattle.regions.specs.Codes.{code, codeLength, codePoint, far}
-use Rattle.score.specs.Gain.{bound}
+use Rattle.regions.specs.Rays.{places, rayLength, rayPoint, far, farRay}
+use Rattle.score.specs.Gain.{over, bound}
 
--- The key of a code's edge to the crossing, whose number is n.
+-- The key of a ray: it leads to the crossing, whose number is n.
 abbrev pub keyOf : ℕ → ℕ → ℕ
-keyOf n k = k * 128 + n
+keyOf n k = k * places + n
 
--- All keys, those of the codes in a list, and that of an edge of length `far`.
-unfoldable pub starred : List ℕ → ℕ → List ℕ → List ℕ
-starred all n [] = put ltb (keyOf n (code far 0)) all
-starred all n (k ∷ past) = put ltb (keyOf n k) (starred all n past)
+-- Rays, and that of no point behind them.
+abbrev pub withFar : List ℕ → List ℕ
+withFar ks = ks ++ (farRay ∷ [])
 
--- Each code leads to a held point.
-abbrev pub Codes : ℕ → List ℕ → Type 0
-Codes n ks = (k : ℕ) → List·Memᴰ k ks → codePoint k < n
+-- The keys of these rays beside all keys.
+abbrev pub starred : List ℕ → ℕ → List ℕ → List ℕ
+starred all n ks = union ltb (map (keyOf n) (withFar ks)) all
 
-module _ (n : ℕ) (small : n < 128) (k : ℕ) where
-  pub key-of-weight : weight (keyOf n k) ≡ codeLength k
-  key-of-weight = omega arith
+-- Each ray leads to a held point.
+abbrev pub Rays : ℕ → List ℕ → Type 0
+Rays n ks = (k : ℕ) → List·Memᴰ k ks → rayPoint k < n
 
-  pub key-of-low : low (keyOf n k) ≡ codePoint k
-  key-of-low = omega arith
+abbrev pub Rising : List ℕ → Type 0
+Rising l = Sorted (λ (a b : ℕ). T (ltb a b)) l
 
-  pub key-of-high : high (keyOf n k) ≡ n
-  key-of-high = omega arith
+-- Keys no heavier than x connect u and v.
+abbrev pub Walk : List ℕ → ℕ → ℕ → ℕ → Type 0
+Walk keys x v u = Conn keyGraph (Within weight keys x) v u
+
+-- A key connects its ends.
+pub key-edge : {S : ℕ → Type 0} (z : ℕ) {u v : ℕ} → low z ≡ u → high z ≡ v → S z → Conn keyGraph S v u
+unfolding keyGraph
+key-edge z el eh s = rw (← el, ← eh) (conn-edge z s)
+
+module _ {n : ℕ} (small : n < places) (k : ℕ) where
+  pub key-weight : weight (keyOf n k) ≡ rayLength k
+  key-weight = omega arith
+
+  key-low : low (keyOf n k) ≡ rayPoint k
+  key-low = omega arith
+
+  key-high : high (keyOf n k) ≡ n
+  key-high = omega arith
+
+  -- The ends of a ray's key are its point and the crossing.
+  pub key-conn : (S : ℕ → Type 0) → Conn keyGraph S n (rayPoint k) ↔ Conn keyGraph S (keyGraph .hi (keyOf n k)) (keyGraph .lo (keyOf n k))
+  unfolding keyGraph
+  key-conn S = (λ c. rw (key-high, key-low) c, λ c. rw (key-high, key-low) at c)
+
+-- The keys in `all` connect all of the first n numbers, and no others, and none is longer than `far`; t has their bottlenecks.
+pub record Plain (all : List ℕ) (n : ℕ) (t : ℕ → ℕ → ℕ) : Type 0 where
+  pub some : 0 < n
+  pub small : n < places
+  pub sorted : Rising all
+  pub inside : (k : ℕ) → List·Memᴰ k all → (low k < n) × (high k < n) × (weight k ≤ far)
+  pub joins : (u v : ℕ) → u < n → v < n → Conn keyGraph (In all) v u
+  pub table : (u v : ℕ) → u < n → v < n → (x : ℕ) → (t u v ≤ x) ↔ Walk all x v u
 
 -- One of two numbers is the smaller.
 either : (a b x : ℕ) → min a b ≤ x → (a ≤ x) ⊎ (b ≤ x)
-either a b x h = go (decLt x a)
-  where
-    go : Dec (x < a) → (a ≤ x) ⊎ (b ≤ x)
-    go (yes l) = inr (omega arith)
-    go (no l) = inl (omega arith)
+either a b x h = dite (decLe a x) inl (λ l. inr (omega arith))
 
--- The table t has the bottlenecks of the first n numbers over the keys in `all`.
-abbrev pub Table : List ℕ → ℕ → (ℕ → ℕ → ℕ) → Type 0
-Table all n t = (u v : ℕ) → u < n → v < n → (x : ℕ) → (t u v ≤ x) ↔ Conn keyGraph (Within weight all x) v u
+module _ {all : List ℕ} {n : ℕ} {t : ℕ → ℕ → ℕ} (p : Plain all n t) where
+  -- The keys beside the plain ones are those of the rays.
+  pub starred-in : (ks : List ℕ) (z : ℕ) → List·Memᴰ z (starred all n ks) ↔ (((k : ℕ) × List·Memᴰ k (withFar ks) × (z ≡ keyOf n k)) ⊎ List·Memᴰ z all)
+  starred-in ks z =
+      let r = union-in ltb nat-order (map (keyOf n) (withFar ks)) all z in
+      let m = map-in (keyOf n) (withFar ks) z in
+      (λ i. ⊎-elim (λ k. inl (m .0 k)) inr (r .0 i), λ i. r .1 (⊎-elim (λ k. inl (m .1 k)) inr i))
 
--- The keys in `all` connect all of the first n numbers, and no others, and none is longer than `far`.
-pub record Plain (all : List ℕ) (n : ℕ) : Type 0 where
-  pub sorted : Sorted (λ (a b : ℕ). T (ltb a b)) all
-  pub inside : (k : ℕ) → List·Memᴰ k all → (low k < n) × (high k < n) × (weight k ≤ far)
-  pub joins : (u v : ℕ) → u < n → v < n → Conn keyGraph (In all) v u
+  pub starred-sorted : (ks : List ℕ) → Rising (starred all n ks)
+  starred-sorted ks = union-sorted ltb nat-order (map (keyOf n) (withFar ks)) all (p .sorted)
 
-module _ (all : List ℕ) (n : ℕ) (some : 0 < n) (small : n < 128) (p : Plain all n) (t : ℕ → ℕ → ℕ) (table : Table all n t) where
-  -- The keys of the star: from the list, or the one of length `far`, or plain.
-  pub starred-in : (past : List ℕ) (z : ℕ)
-      → List·Memᴰ z (starred all n past) ↔ (((k : ℕ) × List·Memᴰ k past × (z ≡ keyOf n k)) ⊎ ((z ≡ keyOf n (code far 0)) ⊎ List·Memᴰ z all))
-  unfolding starred
-  starred-in [] z = (
-    λ m. inr (put-in ltb nat-order (keyOf n (code far 0)) z all .0 m),
-    ⊎-elim (λ r. absurd (not-nil (r .1))) (put-in ltb nat-order (keyOf n (code far 0)) z all .1),
-  )
-  starred-in (k ∷ past) z = (
-    λ m. ⊎-elim (λ e. inl (k, head refl, e)) (λ i. ⊎-elim (λ r. inl (r .0, tail (r .1), r .2)) inr (starred-in past z .0 i))
-        (put-in ltb nat-order (keyOf n k) z (starred all n past) .0 m),
-    λ r. put-in ltb nat-order (keyOf n k) z (starred all n past) .1
-        (⊎-elim (λ q. ⊎-elim (λ e. inl (q .2 ∙ ap (keyOf n) e)) (λ i. inr (starred-in past z .1 (inl (q .0, i, q .2)))) (cases (q .1)))
-        (λ q. inr (starred-in past z .1 (inr q))) r),
-  )
+  -- A ray connects its point and the crossing.
+  pub ray-walk : (ks : List ℕ) (k x : ℕ) → List·Memᴰ k (withFar ks) → rayLength k ≤ x → Walk (starred all n ks) x n (rayPoint k)
+  ray-walk ks k x m h =
+      key-edge (keyOf n k) (key-low (p .small) k) (key-high (p .small) k)
+      (starred-in ks (keyOf n k) .1 (inl (k, m, refl)), omega (arith, h, key-weight (p .small) k))
 
-  pub starred-sorted : (past : List ℕ) → Sorted (λ (a b : ℕ). T (ltb a b)) (starred all n past)
-  unfolding starred
-  starred-sorted [] = put-sorted ltb nat-order (keyOf n (code far 0)) all (p .sorted)
-  starred-sorted (k ∷ past) = put-sorted ltb nat-order (keyOf n k) (starred all n past) (starred-sorted past)
-
-  -- The key of a code connects its point and the crossing.
-  pub key-walk : (S : ℕ → Type 0) (k : ℕ) → S (keyOf n k) → Conn keyGraph S n (codePoint k)
-  unfolding keyGraph
-  key-walk S k s =
-      subst (λ (z : ℕ). Conn keyGraph S z (codePoint k)) (key-of-high n small k)
-      (subst (λ (z : ℕ). Conn keyGraph S (high (keyOf n k)) z) (key-of-low n small k) (conn-edge (keyOf n k) s))
+  pub plain-walk : (ks : List ℕ) {x u v : ℕ} → Walk all x v u → Walk (starred all n ks) x v u
+  plain-walk ks = conn-mono (λ z m. (starred-in ks z .1 (inr (m .0)), m .1))
 
   -- Held points that short keys connect have the same bounds.
-  bound-moves : (past : List ℕ) → Codes n past → (x u v : ℕ) → u < n → v < n → Conn keyGraph (Within weight all x) v u → bound t past u ≤ x → bound t past v ≤ x
-  unfolding bound
-  bound-moves [] codes x u v hu hv c h = h
-  bound-moves (k ∷ past) codes x u v hu hv c h =
+  bound-moves : (ks : List ℕ) → Rays n ks → (x u v : ℕ) → u < n → v < n → Walk all x v u → bound t ks u ≤ x → bound t ks v ≤ x
+  unfolding bound over
+  bound-moves [] rays x u v hu hv c h = h
+  bound-moves (k ∷ ks) rays x u v hu hv c h =
+      let q = rays k (head refl) in
       ⊎-elim
-      (λ l. let q = codes k (head refl) in
-      omega (arith, l, table (codePoint k) v q hv x .1 (conn-trans c (table (codePoint k) u q hu x .0 (omega (arith, l))))))
-      (λ l. omega (arith, bound-moves past (λ z m. codes z (tail m)) x u v hu hv c l))
-      (either (max (codeLength k) (t (codePoint k) u)) (bound t past u) x h)
+      (λ l. omega (arith, p .table (rayPoint k) v q hv x .1 (conn-trans c (p .table (rayPoint k) u q hu x .0 (omega arith)))))
+      (λ l. omega (arith, bound-moves ks (λ z m. rays z (tail m)) x u v hu hv c l))
+      (either (max (rayLength k) (t (rayPoint k) u)) (bound t ks u) x h)
 
-  -- Short keys that are plain are keys of the star.
-  plain-star : (past : List ℕ) (x : ℕ) {u v : ℕ} → Conn keyGraph (Within weight all x) v u → Conn keyGraph (Within weight (starred all n past) x) v u
-  plain-star past x = conn-mono (λ z m. (starred-in past z .1 (inr (inr (m .0))), m .1))
-
-  bound-walk : (past : List ℕ) → Codes n past → (q x : ℕ) → q < n → bound t past q ≤ x → Conn keyGraph (Within weight (starred all n past) x) n q
-  unfolding bound
-  bound-walk [] codes q x hq h =
-      conn-trans
-      (key-walk (Within weight (starred all n []) x) (code far 0) (starred-in [] (keyOf n (code far 0)) .1 (inr (inl refl)), omega (arith, h, key-of-weight n small (code far 0))))
-      (plain-star [] x (conn-mono (λ z m. (m, omega (arith, h, p .inside z m .2))) (p .joins q 0 hq some)))
-  bound-walk (k ∷ past) codes q x hq h =
+  bound-walk : (ks : List ℕ) → Rays n ks → (q x : ℕ) → q < n → bound t ks q ≤ x → Walk (starred all n ks) x n q
+  unfolding bound over
+  bound-walk [] rays q x hq h =
+      conn-trans (ray-walk [] farRay x (head refl) h)
+      (plain-walk [] (conn-mono (λ z m. (m, omega (arith, p .inside z m .2))) (p .joins q 0 hq (p .some))))
+  bound-walk (k ∷ ks) rays q x hq h =
       ⊎-elim
-      (λ l. conn-trans
-      (key-walk (Within weight (starred all n (k ∷ past)) x) k (starred-in (k ∷ past) (keyOf n k) .1 (inl (k, head refl, refl)), omega (arith, l, key-of-weight n small k)))
-      (plain-star (k ∷ past) x (conn-sym (table (codePoint k) q (codes k (head refl)) hq x .0 (omega (arith, l))))))
-      (λ l. conn-mono (λ z m. (more z (m .0), m .1)) (bound-walk past (λ z m. codes z (tail m)) q x hq l))
-      (either (max (codeLength k) (t (codePoint k) q)) (bound t past q) x h)
+      (λ l. conn-trans (ray-walk (k ∷ ks) k x (head refl) (omega arith))
+      (plain-walk (k ∷ ks) (conn-sym (p .table (rayPoint k) q (rays k (head refl)) hq x .0 (omega arith)))))
+      (λ l. conn-mono (λ z m. (more z (m .0), m .1)) (bound-walk ks (λ z m. rays z (tail m)) q x hq l))
+      (either (max (rayLength k) (t (rayPoint k) q)) (bound t ks q) x h)
     where
-      more : (z : ℕ) → List·Memᴰ z (starred all n past) → List·Memᴰ z (starred all n (k ∷ past))
-      more z m = starred-in (k ∷ past) z .1 (⊎-elim (λ r. inl (r .0, tail (r .1), r .2)) inr (starred-in past z .0 m))
+      more : (z : ℕ) → List·Memᴰ z (starred all n ks) → List·Memᴰ z (starred all n (k ∷ ks))
+      more z m = starred-in (k ∷ ks) z .1 (⊎-elim (λ r. inl (r .0, tail (r .1), r .2)) inr (starred-in ks z .0 m))
 
-  -- The point of a code that is there is within the code's length.
-  bound-here : (past : List ℕ) → Codes n past → (k x : ℕ) → List·Memᴰ k past → codeLength k ≤ x → bound t past (codePoint k) ≤ x
-  unfolding bound
-  bound-here (j ∷ past) codes k x m h =
+  -- The point of a ray that is there is within the ray's length, and is held.
+  bound-here : (ks : List ℕ) → Rays n ks → (k x : ℕ) → List·Memᴰ k (withFar ks) → rayLength k ≤ x → (rayPoint k < n) × (bound t ks (rayPoint k) ≤ x)
+  unfolding bound over
+  bound-here [] rays k x m h = ⊎-elim (λ e. omega arith) (λ i. absurd (not-nil i)) (cases m)
+  bound-here (j ∷ ks) rays k x m h =
       ⊎-elim
-      (λ e. omega (arith, h, ap codeLength e, subst (λ (z : ℕ). t (codePoint z) (codePoint k) ≤ x) e (table (codePoint k) (codePoint k) (codes k m) (codes k m) x .1 (stop refl))))
-      (λ i. omega (arith, bound-here past (λ z l. codes z (tail l)) k x i h))
+      (λ e. let q = rays k (head e) in
+      (q, omega (arith, ap rayLength e, subst (λ (z : ℕ). t (rayPoint z) (rayPoint k) ≤ x) e (p .table (rayPoint k) (rayPoint k) q q x .1 (stop refl)))))
+      (λ i. let r = bound-here ks (λ z l. rays z (tail l)) k x i h in (r .0, omega arith))
       (cases m)
-  bound-here [] codes k x m h = absurd (not-nil m)
 
-  bound-far : (past : List ℕ) (q x : ℕ) → far ≤ x → bound t past q ≤ x
-  unfolding bound
-  bound-far [] q x h = h
-  bound-far (k ∷ past) q x h = omega (arith, bound-far past q x h)
-
-  module _ (past : List ℕ) (codes : Codes n past) (x : ℕ) where
+  module _ (ks : List ℕ) (rays : Rays n ks) (x : ℕ) where
     -- Where a walk to the crossing starts: at the crossing, or within the bound.
     abbrev Starts : ℕ → Type 0
-    Starts u = (u ≡ n) ⊎ ((u < n) × (bound t past u ≤ x))
+    Starts u = (u ≡ n) ⊎ ((u < n) × (bound t ks u ≤ x))
 
     -- An edge at whose other end a walk starts.
-    starts-step : (z a b : ℕ) → Within weight (starred all n past) x z → ((low z ≡ a) × (high z ≡ b)) ⊎ ((low z ≡ b) × (high z ≡ a)) → Starts b → Starts a
-    starts-step z a b m ends r =
-        ⊎-elim
-        (λ q. spoke (codePoint (q .0)) (ap low (q .2) ∙ key-of-low n small (q .0)) (ap high (q .2) ∙ key-of-high n small (q .0)) (codes (q .0) (q .1))
-        (bound-here past codes (q .0) x (q .1) (omega (arith, m .1, ap weight (q .2), key-of-weight n small (q .0)))))
-        (⊎-elim
-        (λ q. spoke 0 (ap low q ∙ key-of-low n small (code far 0)) (ap high q ∙ key-of-high n small (code far 0)) some
-        (bound-far past 0 x (omega (arith, m .1, ap weight q, key-of-weight n small (code far 0)))))
-        (λ q. plain q r))
-        (starred-in past z .0 (m .0))
+    starts-step : (z a b : ℕ) → Within weight (starred all n ks) x z → ((low z ≡ a) × (high z ≡ b)) ⊎ ((low z ≡ b) × (high z ≡ a)) → Starts b → Starts a
+    starts-step z a b m ends r = ⊎-elim spoke (λ q. plain q r) (starred-in ks z .0 (m .0))
       where
-        spoke : (u : ℕ) → low z ≡ u → high z ≡ n → u < n → bound t past u ≤ x → Starts a
-        spoke u el eh l h =
-            ⊎-elim (λ e. subst (λ (y : ℕ). Starts y) (sym el ∙ e .0) (inr (l, h))) (λ e. inl (sym (e .1) ∙ eh)) ends
+        spoke : (k : ℕ) × List·Memᴰ k (withFar ks) × (z ≡ keyOf n k) → Starts a
+        spoke q =
+            let h = bound-here ks rays (q .0) x (q .1) (omega (arith, ap weight (q .2), key-weight (p .small) (q .0))) in
+            ⊎-elim
+            (λ e. subst (λ (y : ℕ). Starts y) (sym (ap low (q .2) ∙ key-low (p .small) (q .0)) ∙ e .0) (inr h))
+            (λ e. inl (sym (e .1) ∙ ap high (q .2) ∙ key-high (p .small) (q .0)))
+            ends
 
         plain : List·Memᴰ z all → Starts b → Starts a
-        plain q (inl e) = absurd (⊎-elim (λ s. omega (arith, s .1, e, p .inside z q .1)) (λ s. omega (arith, s .0, e, p .inside z q .0)) ends)
-        plain q (inr h) = inr (below, bound-moves past codes x b a (h .0) below (edge ends) (h .1))
+        plain q (inl e) = absurd (⊎-elim (λ s. omega (arith, p .inside z q .1)) (λ s. omega (arith, p .inside z q .0)) ends)
+        plain q (inr h) = inr (below, bound-moves ks rays x b a (h .0) below (⊎-elim (λ e. conn-sym (edge e)) edge ends) (h .1))
           where
             below : a < n
-            below = ⊎-elim (λ s. omega (arith, s .0, p .inside z q .0)) (λ s. omega (arith, s .1, p .inside z q .1)) ends
+            below = ⊎-elim (λ s. omega (arith, p .inside z q .0)) (λ s. omega (arith, p .inside z q .1)) ends
 
-            one : Conn keyGraph (Within weight all x) (high z) (low z)
-            one = unfold keyGraph in conn-edge z (q, m .1)
+            edge : {u v : ℕ} → (low z ≡ u) × (high z ≡ v) → Walk all x v u
+            edge e = key-edge z (e .0) (e .1) (q, m .1)
 
-            edge : ((low z ≡ a) × (high z ≡ b)) ⊎ ((low z ≡ b) × (high z ≡ a)) → Conn keyGraph (Within weight all x) a b
-            edge (inl e) = conn-sym (subst (λ (y : ℕ). Conn keyGraph (Within weight all x) y a) (e .1) (subst (λ (y : ℕ). Conn keyGraph (Within weight all x) (high z) y) (e .0) one))
-            edge (inr e) = subst (λ (y : ℕ). Conn keyGraph (Within weight all x) y b) (e .1) (subst (λ (y : ℕ). Conn keyGraph (Within weight all x) (high z) y) (e .0) one)
-
-    walk-bound : {q : ℕ} → Conn keyGraph (Within weight (starred all n past) x) n q → Starts q
+    walk-bound : {q : ℕ} → Walk (starred all n ks) x n q → Starts q
     unfolding keyGraph
     walk-bound (stop e) = inl e
     walk-bound (fwd z m e c) = starts-step z _ _ m (inl (sym e, refl)) (walk-bound c)
     walk-bound (bwd z m e c) = starts-step z _ _ m (inr (refl, sym e)) (walk-bound c)
 
   -- The bound is the bottleneck of the crossing and the point q.
-  pub bound-bottleneck : (past : List ℕ) → Codes n past → (q x : ℕ) → q < n → (bound t past q ≤ x) ↔ Conn keyGraph (Within weight (starred all n past) x) n q
-  bound-bottleneck past codes q x hq = (
-    bound-walk past codes q x hq,
-    λ c. ⊎-elim (λ e. absurd (omega arith)) (λ r. r .1) (walk-bound past codes x c),
-  )
+  pub bound-bottleneck : (ks : List ℕ) → Rays n ks → (q x : ℕ) → q < n → (bound t ks q ≤ x) ↔ Walk (starred all n ks) x n q
+  bound-bottleneck ks rays q x hq = (bound-walk ks rays q x hq, λ c. ⊎-elim (λ e. absurd (omega arith)) (λ r. r .1) (walk-bound ks rays x c))

@@ -1,9 +1,6 @@
 pub mod Bounds
 pub mod Gains
-pub mod Whole
-pub mod WithCrossing
-pub mod Four
+pub mod Nearby
+pub mod Crossing
 pub mod Geometry
 pub mod TreeKeys
-pub mod Columns
-pub mod Measuring

@@ -13,34 +13,35 @@ use Rattle.model.specs.Tree.{treeLength}
 use Rattle.tree.specs.Build.{Rises}
 use Rattle.tree.specs.Held.{held}
 use Rattle.tree.specs.Keys.{weight, keyGraph, tab, allKeys, treeKeys}
-use Rattle.tree.proofs.Keys.{key-weight}
-use Rattle.tree.proofs.AllKeys.{all-keys-in, all-keys-sorted, all-keys-join}
-use Rattle.tree.proofs.Joined.{rising-total}
-use Rattle.tree.proofs.Step.{Words, near-words, keys-most}
-use Rattle.bottleneck.specs.Table.{Filling}
+use Rattle.tree.proofs.keys.Parts.{key-weight}
+use Rattle.tree.proofs.keys.All.{all-keys-in, all-keys-sorted, all-keys-join}
+use Rattle.tree.proofs.Lengths.{rising-total}
+use Rattle.tree.proofs.Size.{Words, near-words, keys-most}
+use Rattle.bottleneck.specs.Table.{FillRequires}
+use Rattle.regions.specs.Rays.{places, tableSize, far}
 
 -- The total of short keys.
-total-most : (l : List ℕ) → ((k : ℕ) → List·Memᴰ k l → weight k ≤ 131072) → total weight l ≤ length l * 131072
+total-most : (l : List ℕ) → ((k : ℕ) → List·Memᴰ k l → weight k ≤ far) → total weight l ≤ length l * far
 unfolding total
 total-most [] short = omega arith
 total-most (k ∷ l) short = omega (arith, short k (head refl), total-most l (λ j m. short j (tail m)))
 
-module _ (xs ys : List ℕ) (n : ℕ) (few : n < 128) (wx : Words xs) (wy : Words ys) where
-  key-short : (k : ℕ) → List·Memᴰ k (treeKeys (held xs ys) n) → weight k ≤ 131072
+module _ (xs ys : List ℕ) (n : ℕ) (few : n < places) (wx : Words xs) (wy : Words ys) where
+  key-short : (k : ℕ) → List·Memᴰ k (treeKeys (held xs ys) n) → weight k ≤ far
   unfolding treeKeys
   key-short k m =
       let r = all-keys-in at n k .0 (kruskal-in keyGraph [] (allKeys at n) k m) in
       omega (
         arith,
         ap weight (r .same),
-        key-weight (dist (at (r .i)) (at (r .j))) (r .i) (r .j) (omega (arith, r .less, r .below)) (omega (arith, r .below)),
+        key-weight (dist (at (r .i)) (at (r .j))) (r .i) (r .j) (omega arith) (omega arith),
         near-words (getD xs (r .i) 0) (getD ys (r .i) 0) (getD xs (r .j) 0) (getD ys (r .j) 0) (wx (r .i)) (wy (r .i)) (wx (r .j)) (wy (r .j)),
       )
     where
       at : ℕ → Point
       at = held xs ys
 
-  pub tree-filling : {keys : List ℕ} {m size : ℕ} → m ≤ length keys → take m keys ≡ treeKeys (held xs ys) n → size ≡ 16384 → Filling keys m n size
+  pub tree-filling : {keys : List ℕ} {m size : ℕ} → m ≤ length keys → take m keys ≡ treeKeys (held xs ys) n → size ≡ tableSize → FillRequires keys m n size
   unfolding treeKeys
   tree-filling within tree size =
       record {
@@ -48,7 +49,7 @@ module _ (xs ys : List ℕ) (n : ℕ) (few : n < 128) (wx : Words xs) (wy : Word
         few = omega arith;
         room = size;
         sorted = subst⁻¹ (Sorted (λ (a b : ℕ). T (ltb a b))) tree (kruskal-sorted keyGraph (λ (a b : ℕ). T (ltb a b)) [] (allKeys at n) (all-keys-sorted at n));
-        short = λ k i. key-short k (subst (λ (l : List ℕ). List·Memᴰ k l) tree i);
+        short = λ k i. omega (arith, key-short k (subst (λ (l : List ℕ). List·Memᴰ k l) tree i));
         joins = λ u v hu hv. subst⁻¹ (λ (l : List ℕ). Conn keyGraph (In l) v u) tree
             (kruskal-connects keyGraph (allKeys at n) .1 (all-keys-join at n (omega arith) u v hu hv));
       }
@@ -56,7 +57,7 @@ module _ (xs ys : List ℕ) (n : ℕ) (few : n < 128) (wx : Words xs) (wy : Word
       at : ℕ → Point
       at = held xs ys
 
-  pub tree-short : Rises (held xs ys) n → treeLength (tab (held xs ys) n) ≤ 16777216
+  pub tree-short : Rises (held xs ys) n → treeLength (tab (held xs ys) n) ≤ places * far
   tree-short rises =
       omega (
         arith,

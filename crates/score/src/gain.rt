@@ -1,49 +1,45 @@
-// What a crossing spares, from the codes of its nearest points and the table of the tree's bottlenecks.
+// What a crossing spares, from the rays of its nearest points and the table of the tree's bottlenecks.
+use plane::numbers::larger;
+use plane::numbers::smaller;
+use regions::nearest::EAST;
+use regions::nearest::NORTH;
+use regions::nearest::SOUTH;
+use regions::nearest::WEST;
+use regions::nearest::ray_of;
+use regions::rows::SCALE;
 ghost use mathlib.Core.Path.{_≡_};
 ghost use mathlib.Core.List.{_∷_, []};
-ghost use Prim.Native.Nat.{_-_, min, max};
+ghost use Prim.Native.Nat.{_-_, _≤_, _<_};
 ghost use lib.ListN.{length};
-ghost use Rattle.regions.specs.Codes as code;
+ghost use Rattle.regions.specs.Rays.{places, tableSize, rayLength, rayPoint, far};
+ghost use Rattle.regions.specs.Nearest.{Complements};
 ghost use Rattle.score.specs.Gain as spec;
 
 // Longer than every edge between two places.
-pub const FAR: u32 = 131072;
+pub const FAR: u64 = regions::nearest::FAR as u64;
 
-// The smaller of two numbers.
-fn least(a: u32, b: u32) -> u32
-    ensures { λ r. ⌜ r ≡ min a b ⌝ }
+// The bottleneck of the crossing and the point of the ray q: over the ray k, or `rest`, what it is without it.
+fn over(table: &[u32], k: u32, q: u32, rest: u64) -> u64
+    requires { ⌜ (length (now table) ≡ tableSize) × (rest ≤ far) ⌝ }
+    ensures { λ r. ⌜ (r ≡ spec.over (spec.tableAt (now (table .entry))) k (rayPoint q) rest) × (r ≤ far) ⌝ }
 {
-    if a < b { a } else { b }
+    let b = table[(k % SCALE * SCALE + q % SCALE) as usize];
+    smaller(larger((k / SCALE) as u64, b as u64), rest)
 }
 
-// The larger of two numbers.
-fn most(a: u32, b: u32) -> u32
-    ensures { λ r. ⌜ r ≡ max a b ⌝ }
+// How much longer than the ray k the bottleneck b is.
+fn spared(b: u64, k: u32) -> u64
+    requires { ⌜ b ≤ far ⌝ }
+    ensures { λ r. ⌜ (r ≡ b - rayLength k) × (r ≤ far) ⌝ }
 {
-    if a < b { b } else { a }
-}
-
-// The bottleneck of the crossing and the point of the code q: over the edge of the code k, or `rest`, what it is without it.
-fn over(table: &[u32], k: u32, q: u32, rest: u32) -> u32
-    requires { ⌜ length (now table) ≡ 16384 ⌝ }
-    ensures { λ r. ⌜ r ≡ min (max (code.codeLength k) (spec.tableAt (now (table .entry)) (code.codePoint k) (code.codePoint q))) rest ⌝ }
-{
-    let b = table[(k % 128 * 128 + q % 128) as usize];
-    least(most(k / 128, b), rest)
-}
-
-// How much longer than the edge of the code k the bottleneck b is.
-fn spared(b: u32, k: u32) -> u32
-    ensures { λ r. ⌜ r ≡ b - code.codeLength k ⌝ }
-{
-    let d = k / 128;
+    let d = (k / SCALE) as u64;
     if d < b { b - d } else { 0 }
 }
 
-// How much the edges of four codes, one after the other, lower the least weight below that with an edge of length FAR.
-pub fn gain(table: &[u32], east: u32, west: u32, north: u32, south: u32) -> u32
-    requires { ⌜ length (now table) ≡ 16384 ⌝ }
-    ensures { λ r. ⌜ r ≡ spec.gain (spec.tableAt (now (table .entry))) [] (east ∷ west ∷ north ∷ south ∷ []) ⌝ }
+// How much four rays, one after the other, lower the least weight below that with an edge of length FAR.
+fn gain(table: &[u32], east: u32, west: u32, north: u32, south: u32) -> u64
+    requires { ⌜ length (now table) ≡ tableSize ⌝ }
+    ensures { λ r. ⌜ r ≡ spec.gain (spec.tableAt (now (table .entry))) (south ∷ north ∷ west ∷ east ∷ []) ⌝ }
 {
     let w = over(table, east, west, FAR);
     let n = over(table, west, north, over(table, east, north, FAR));
@@ -54,4 +50,18 @@ pub fn gain(table: &[u32], east: u32, west: u32, north: u32, south: u32) -> u32
         over(table, west, south, over(table, east, south, FAR)),
     );
     spared(FAR, east) + spared(w, west) + spared(n, north) + spared(s, south)
+}
+
+// The gain of the least rays at a row.
+pub fn gain_at(table: &[u32], least: &[u32], row: usize) -> u64
+    requires { ⌜ (length (now table) ≡ tableSize) × Complements (now least) × (row < places) ⌝ }
+    ensures { λ r. ⌜ r ≡ spec.gain (spec.tableAt (now (table .entry))) (spec.raysAt (now (least .entry)) row) ⌝ }
+{
+    gain(
+        table,
+        ray_of(least[EAST + row]),
+        ray_of(least[WEST + row]),
+        ray_of(least[NORTH + row]),
+        ray_of(least[SOUTH + row]),
+    )
 }

@@ -1,12 +1,13 @@
 -- The number of the i-th point in the file is i, and the keys' ends in rising order are the tree's runs in the listing order.
 use mathlib.Core.Path.{_≡_, refl, sym, ap, ap₂, _∙_, subst, subst⁻¹}
 use mathlib.Core.Logic.{_⊎_, ⊎-elim}
-use mathlib.Core.List.{List, [], _∷_, _++_, map, List·Memᴰ, List·Memᴰ·head as head, List·Memᴰ·tail as tail, List·Memᴰ·cases-cons as cases, List·Memᴰ·not-nil as not-nil}
+use mathlib.Core.List.{List, [], _∷_, _++_, map, List·Memᴰ, List·Memᴰ·head as head, List·Memᴰ·tail as tail, List·Memᴰ·cases-cons as cases}
+use mathlib.Core.List.{List·Memᴰ·not-nil as not-nil}
 use Prim.Native.Nat.{ℕ, zero, suc, _+_, _≤_, _<_}
 use native.Mathlib.Decide.{ℕ-discrete}
 use native.Mathlib.Omega.{arith}
 use lib.Dec.{T, ltb, lt→ltb, ltb→lt}
-use lib.ListN.{length, length-append}
+use lib.ListN.{length}
 use Rattle.arrays.specs.Order.{Sorted}
 use Rattle.spanning.proofs.Kruskal.{kruskal-in}
 use Rattle.arrays.specs.Test.{if}
@@ -24,14 +25,9 @@ use Rattle.model.proofs.Tree.{mst-run-tree}
 use Rattle.model.proofs.FileSize.{number-rises, number-below}
 use Rattle.tree.specs.Keys.{keyGraph, edgeOf, tab, allKeys, treeKeys, endsOf, endsAt}
 use Rattle.tree.specs.Build.{Rises}
-use Rattle.tree.proofs.AllKeys.{all-keys-in, key-ends}
-use Rattle.tree.proofs.Join.{tab-in}
+use Rattle.tree.proofs.keys.All.{all-keys-in, key-ends}
+use Rattle.tree.proofs.Tab.{tab-in, tab-length}
 use Rattle.tree.proofs.Sorted.{ps-sorted, tree-keys-mst}
-
-pub tab-length : {A : Type 0} (f : ℕ → A) (n : ℕ) → length (tab f n) ≡ n
-unfolding tab
-tab-length f zero = refl
-tab-length f (suc n) = omega (arith, length-append (tab f n) (f n ∷ []), tab-length f n)
 
 -- The number of a point in two lists.
 number-left : (l m : List Point) (p : Point) → List·Memᴰ p l → numberOf (l ++ m) p ≡ numberOf l p
@@ -57,7 +53,9 @@ number-at at zero small h i l = absurd (omega arith)
 number-at at (suc n) small h i l = go (ℕ-discrete i n) (λ m. number-at at n (omega arith) (λ a b c d. h a b c (omega arith)) i m)
   where
     alone : numberOf (at n ∷ []) (at n) ≡ 0
-    alone = unfold numberOf in by-test (λ (x : ℕ). x ≡ 0) (tie lower (at n) (at n)) _ _ (λ t. refl) (λ t. absurd (no-tie lower lower-order (at n) (at n) t refl))
+    alone =
+        unfold numberOf in
+        by-test (λ (x : ℕ). x ≡ 0) (tie lower (at n) (at n)) _ _ (λ t. refl) (λ t. absurd (no-tie lower lower-order (at n) (at n) t refl))
 
     apart : ¬ List·Memᴰ (at n) (tab at n)
     apart m =
@@ -67,7 +65,7 @@ number-at at (suc n) small h i l = go (ℕ-discrete i n) (λ m. number-at at n (
     go : Dec (i ≡ n) → (i < n → numberOf (tab at n) (at i) ≡ i) → numberOf (tab at n ++ (at n ∷ [])) (at i) ≡ i
     go (yes e) rec =
         ap (λ (z : ℕ). numberOf (tab at n ++ (at n ∷ [])) (at z)) e ∙ number-right (tab at n) (at n ∷ []) (at n) apart
-        ∙ omega (arith, alone, tab-length at n, e)
+        ∙ omega (arith, alone, tab-length at n)
     go (no e) rec =
         number-left (tab at n) (at n ∷ []) (at i) (tab-in at n (at i) .1 (i, omega arith, refl)) ∙ rec (omega arith)
 
@@ -92,7 +90,7 @@ ends-order ps rising few e f a b =
     down : T (ltb (endsAt ps e) (endsAt ps f)) → T (listedBefore e f)
     down t =
         let h = ltb→lt (endsAt ps e) (endsAt ps f) t in
-        ⊎-elim (λ g. g) (λ r. ⊎-elim (λ q. absurd (omega (arith, h, ap (endsAt ps) q))) (λ g. absurd (omega (arith, h, up f e b a g))) r) (listed-order .compare e f)
+        ⊎-elim (λ g. g) (λ r. ⊎-elim (λ q. absurd (omega (arith, ap (endsAt ps) q))) (λ g. absurd (omega (arith, up f e b a g))) r) (listed-order .compare e f)
 
 map-map : {A B C : Type 0} (f : A → B) (g : B → C) (h : A → C) (l : List A) → ((a : A) → List·Memᴰ a l → g (f a) ≡ h a) → map g (map f l) ≡ map h l
 map-map f g h [] e = refl
@@ -104,7 +102,8 @@ module _ (at : ℕ → Point) (n : ℕ) (small : n ≤ 128) (rises : Rises at n)
   ends-listed =
       union-map (endsAt (tab at n)) listedBefore ltb (Held (tab at n)) (ends-order (tab at n) sorted (omega (arith, tab-length at n))) listed-order
       (mst (tab at n)) [] held (λ e i. absurd (not-nil i))
-      ∙ ap (setOf ltb) (ap (map (endsAt (tab at n))) (sym (tree-keys-mst at n small rises)) ∙ map-map (edgeOf at) (endsAt (tab at n)) endsOf (treeKeys at n) ends)
+      ∙ ap (setOf ltb) (ap (map (endsAt (tab at n))) (sym (tree-keys-mst at n small rises))
+      ∙ map-map (edgeOf at) (endsAt (tab at n)) endsOf (treeKeys at n) ends)
     where
       sorted : Sorted Lower (tab at n)
       sorted = ps-sorted at n small rises
@@ -121,7 +120,7 @@ module _ (at : ℕ → Point) (n : ℕ) (small : n ≤ 128) (rises : Rises at n)
             arith,
             ap (λ (z : ℕ). numberOf (tab at n) (at z)) (e .0),
             ap (λ (z : ℕ). numberOf (tab at n) (at z)) (e .1),
-            number-at at n small rises (r .i) (omega (arith, r .less, r .below)),
+            number-at at n small rises (r .i) (omega arith),
             number-at at n small rises (r .j) (r .below),
             e .0,
             e .1,

@@ -1,35 +1,35 @@
 -- Where the points rise with their numbers, the keys of the tree are the edges of THE tree, in its order. By renaming: a number
 -- stands for its point, and one comparison of keys is the whole order of runs.
-use mathlib.Core.Path.{_≡_, refl, sym, ap, _∙_, subst, subst⁻¹}
-use mathlib.Core.Logic.{_⊎_, inl, inr, ⊎-elim, _↔_}
-use mathlib.Core.List.{List, [], _∷_, _++_, map, List·Memᴰ, List·Memᴰ·head as head, List·Memᴰ·tail as tail, List·Memᴰ·cases-cons as cases, List·Memᴰ·not-nil as not-nil, List·Memᴰ·append-cases}
+use mathlib.Core.Path.{_≡_, refl, sym, ap, _∙_, subst}
+use mathlib.Core.Logic.{_⊎_, ⊎-elim}
+use mathlib.Core.List.{List, [], _∷_, _++_, map, List·Memᴰ, List·Memᴰ·head as head, List·Memᴰ·tail as tail, List·Memᴰ·cases-cons as cases}
+use mathlib.Core.List.{List·Memᴰ·not-nil as not-nil, List·Memᴰ·append-cases}
 use Prim.Native.Nat.{ℕ, zero, suc, _+_, _≤_, _<_}
-use native.Mathlib.Decide.{ℕ-discrete, decLt}
+use native.Mathlib.Decide.{decLt}
 use native.Mathlib.Omega.{arith}
 use lib.Dec.{T, ltb, ltb→lt}
-use Rattle.spanning.specs.Graph.{Graph, In, degree}
-use Rattle.arrays.specs.Order.{StrictTotal, Sorted}
+use Rattle.spanning.specs.Graph.{degree}
+use Rattle.arrays.specs.Order.{Sorted}
 use Rattle.spanning.specs.Kruskal.{kruskal}
 use Rattle.arrays.proofs.Members.{sorted-ext}
 use Rattle.spanning.proofs.Rename.{Renamed, kruskal-rename, degree-rename}
 use Rattle.spanning.proofs.Kruskal.{kruskal-in}
 use Rattle.plane.specs.Point.{Point, Lower, dist}
-use Rattle.plane.specs.Edge.{Edge, Rising, edgeLength, listedBefore, Before, planar}
+use Rattle.plane.specs.Edge.{Edge, Rising, listedBefore, Before, planar}
 use Rattle.plane.proofs.Order.{lower-order, before-order, shorter-before}
 use Rattle.plane.proofs.Joining.{level, listed-lo, listed-hi}
 use Rattle.model.specs.Tree.{edges, mst, edgesAt}
 use Rattle.model.proofs.Tree.{edges-in, edges-sorted}
 use Rattle.model.proofs.Candidate.{map-in}
-use Rattle.tree.specs.Keys.{key, low, high, keyGraph, edgeOf, tab, allKeys, treeKeys}
+use Rattle.tree.specs.Keys.{key, keyGraph, edgeOf, tab, allKeys, treeKeys}
 use Rattle.tree.specs.Build.{Rises}
-use Rattle.tree.proofs.Keys.{key-low, key-high}
-use Rattle.tree.proofs.AllKeys.{KeyAt, all-keys-in, all-keys-sorted, key-ends}
-use Rattle.tree.proofs.Join.{tab-in}
+use Rattle.tree.proofs.keys.All.{KeyAt, all-keys-in, all-keys-sorted, key-ends}
+use Rattle.tree.proofs.Tab.{tab-in}
 
 sorted-snoc : {A : Type 0} (R : A → A → Type 0) (l : List A) (a : A) → Sorted R l → ((b : A) → List·Memᴰ b l → R b a) → Sorted R (l ++ (a ∷ []))
 sorted-snoc R [] a s h = (λ b i. absurd (not-nil i), tt)
 sorted-snoc R (x ∷ l) a s h = (
-  λ b i. ⊎-elim (s .0 b) (λ j. ⊎-elim (λ e. subst⁻¹ (R x) e (h x (head refl))) (λ k. absurd (not-nil k)) (cases j)) (List·Memᴰ·append-cases l i),
+  λ b i. ⊎-elim (s .0 b) (λ j. ⊎-elim (λ e. rw e (h x (head refl))) (λ k. absurd (not-nil k)) (cases j)) (List·Memᴰ·append-cases l i),
   sorted-snoc R l a (s .1) (λ b i. h b (tail i)),
 )
 
@@ -38,14 +38,14 @@ unfolding tab
 tab-sorted at zero h = tt
 tab-sorted at (suc n) h =
     sorted-snoc Lower (tab at n) (at n) (tab-sorted at n (λ i j l m. h i j l (omega arith)))
-    (λ p i. let r = tab-in at n p .0 i in subst⁻¹ (λ (z : Point). Lower z (at n)) (r .2) (h (r .0) n (r .1) (omega arith)))
+    (λ p i. let r = tab-in at n p .0 i in rw (r .2) (h (r .0) n (r .1) (omega arith)))
 
 -- A sorted list stays sorted under a map that keeps the order of its members.
 sorted-map : {A B : Type 0} (R : A → A → Type 0) (S : B → B → Type 0) (f : A → B) (l : List A)
     → ((a b : A) → List·Memᴰ a l → List·Memᴰ b l → R a b → S (f a) (f b)) → Sorted R l → Sorted S (map f l)
 sorted-map R S f [] h s = tt
 sorted-map R S f (a ∷ l) h s = (
-  λ b i. let r = map-in f l b .0 i in subst⁻¹ (S (f a)) (r .2) (h a (r .0) (head refl) (tail (r .1)) (s .0 (r .0) (r .1))),
+  λ b i. let r = map-in f l b .0 i in rw (r .2) (h a (r .0) (head refl) (tail (r .1)) (s .0 (r .0) (r .1))),
   sorted-map R S f l (λ x y i j. h x y (tail i) (tail j)) (s .1),
 )
 
@@ -62,8 +62,7 @@ module _ (at : ℕ → Point) (n : ℕ) (small : n ≤ 128) (rises : Rises at n)
   -- One comparison of keys is the order of runs.
   key-before : (k k′ : ℕ) → KeyAt at n k → KeyAt at n k′ → k < k′ → Before (edgeOf at k) (edgeOf at k′)
   key-before k k′ r r′ h =
-      subst⁻¹ (λ (z : Edge). Before z (edgeOf at k′)) (edge-of k r)
-      (subst⁻¹ (λ (z : Edge). Before (record { lo = at (r .i); hi = at (r .j) }) z) (edge-of k′ r′) (go (decLt d d′) (decLt (r .i) (r′ .i))))
+      rw (edge-of k r) (rw (edge-of k′ r′) (go (decLt d d′) (decLt (r .i) (r′ .i))))
     where
       d : ℕ
       d = dist (at (r .i)) (at (r .j))
@@ -80,13 +79,14 @@ module _ (at : ℕ → Point) (n : ℕ) (small : n ≤ 128) (rises : Rises at n)
       go : Dec (d < d′) → Dec (r .i < r′ .i) → Before e e′
       go (yes l) c = shorter-before e e′ l
       go (no l) (yes c) =
-          level e e′ (omega (arith, h, r .same, r′ .same, r .less, r .below, r′ .less, r′ .below, small))
-          (listed-lo (at (r .i)) (at (r .j)) (at (r′ .i)) (at (r′ .j)) (rises (r .i) (r′ .i) c (omega (arith, r′ .less, r′ .below))))
+          level e e′ (omega arith)
+          (listed-lo (at (r .i)) (at (r .j)) (at (r′ .i)) (at (r′ .j)) (rises (r .i) (r′ .i) c (omega arith)))
       go (no l) (no c) =
-          let q : r .i ≡ r′ .i = omega (arith, h, r .same, r′ .same, r .less, r .below, r′ .less, r′ .below, small) in
-          let m : r .j < r′ .j = omega (arith, h, r .same, r′ .same, r .less, r .below, r′ .less, r′ .below, small) in
-          level e e′ (omega (arith, h, r .same, r′ .same, r .less, r .below, r′ .less, r′ .below, small))
-          (subst (λ (z : ℕ). T (listedBefore e (record { lo = at z; hi = at (r′ .j) }))) q (listed-hi (at (r .i)) (at (r .j)) (at (r′ .j)) (rises (r .j) (r′ .j) m (r′ .below))))
+          let q : r .i ≡ r′ .i = omega arith in
+          let m : r .j < r′ .j = omega arith in
+          level e e′ (omega arith)
+          (subst (λ (z : ℕ). T (listedBefore e (record { lo = at z; hi = at (r′ .j) }))) q
+          (listed-hi (at (r .i)) (at (r .j)) (at (r′ .j)) (rises (r .j) (r′ .j) m (r′ .below))))
 
   mapped-sorted : Sorted Before (map (edgeOf at) (allKeys at n))
   mapped-sorted =
@@ -102,9 +102,8 @@ module _ (at : ℕ → Point) (n : ℕ) (small : n ≤ 128) (rises : Rises at n)
       to e i =
           let m = map-in (edgeOf at) (allKeys at n) e .0 i in
           let r = all-keys-in at n (m .0) .0 (m .1) in
-          subst⁻¹ (λ (z : Edge). List·Memᴰ z (edges (tab at n))) (m .2 ∙ edge-of (m .0) r)
-          (edges-in (tab at n) ps-sorted (record { lo = at (r .i); hi = at (r .j) }) .1
-          (tab-in at n (at (r .i)) .1 (r .i, omega (arith, r .less, r .below), refl), tab-in at n (at (r .j)) .1 (r .j, r .below, refl), rises (r .i) (r .j) (r .less) (r .below)))
+          rw (m .2 ∙ edge-of (m .0) r) (edges-in (tab at n) ps-sorted (record { lo = at (r .i); hi = at (r .j) }) .1
+          (tab-in at n (at (r .i)) .1 (r .i, omega arith, refl), tab-in at n (at (r .j)) .1 (r .j, r .below, refl), rises (r .i) (r .j) (r .less) (r .below)))
 
       from : (e : Edge) → List·Memᴰ e (edges (tab at n)) → List·Memᴰ e (map (edgeOf at) (allKeys at n))
       from e m =
@@ -124,19 +123,19 @@ module _ (at : ℕ → Point) (n : ℕ) (small : n ≤ 128) (rises : Rises at n)
           found i j hi hj ei ej up (no l) = absurd (wrong (decLt j i))
             where
               up′ : Lower (at i) (at j)
-              up′ = subst (λ (z : Point). Lower z (at j)) ei (subst (λ (z : Point). Lower (e .lo) z) ej up)
+              up′ = rw ei at (rw ej at up)
 
               wrong : Dec (j < i) → ⊥
               wrong (yes k) = lower-order .irrefl (at i) (lower-order .trans (at i) (at j) (at i) up′ (rises j i k hi))
-              wrong (no k) = let q : i ≡ j = omega arith in lower-order .irrefl (at j) (subst (λ (z : ℕ). Lower (at z) (at j)) q up′)
+              wrong (no k) = let q : i ≡ j = omega arith in lower-order .irrefl (at j) (rw q at up′)
 
   -- Two different numbers have different points.
   pub one-to-one : (u v : ℕ) → u < n → v < n → at u ≡ at v → u ≡ v
   one-to-one u v hu hv e = go (decLt u v) (decLt v u)
     where
       go : Dec (u < v) → Dec (v < u) → u ≡ v
-      go (yes l) d = absurd (lower-order .irrefl (at v) (subst (λ (z : Point). Lower z (at v)) e (rises u v l hv)))
-      go (no l) (yes m) = absurd (lower-order .irrefl (at v) (subst (λ (z : Point). Lower (at v) z) e (rises v u m hu)))
+      go (yes l) d = absurd (lower-order .irrefl (at v) (rw e at (rises u v l hv)))
+      go (no l) (yes m) = absurd (lower-order .irrefl (at v) (rw e at (rises v u m hu)))
       go (no l) (no m) = omega arith
 
   -- A key's edge runs between the points of its numbers.
@@ -148,8 +147,8 @@ module _ (at : ℕ → Point) (n : ℕ) (small : n ≤ 128) (rises : Rises at n)
       record {
         lo = refl;
         hi = refl;
-        lo-in = subst⁻¹ (λ (z : ℕ). z < n) (e .0) (omega (arith, r .less, r .below));
-        hi-in = subst⁻¹ (λ (z : ℕ). z < n) (e .1) (r .below);
+        lo-in = rw (e .0) (omega arith);
+        hi-in = rw (e .1) (r .below);
       }
 
   -- The keys of the tree are the edges of THE tree.

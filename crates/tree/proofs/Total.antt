@@ -1,25 +1,23 @@
 -- For different points in any order, the total of the tree's keys is the length of the tree of the point set: each is a cover of
 -- the other's graph, so that neither is longer. With it, the length of the tree with one more point, whatever its number.
 use mathlib.Core.Path.{_≡_, refl, sym, ap, _∙_, subst, subst⁻¹}
-use mathlib.Core.Logic.{_⊎_, inl, inr, ⊎-elim, _↔_, dite}
-use mathlib.Core.Bool.{Bool, true, false, not}
-use mathlib.Core.List.{List, [], _∷_, map, List·Memᴰ, List·Memᴰ·head as head, List·Memᴰ·tail as tail, List·Memᴰ·cases-cons as cases, List·Memᴰ·not-nil as not-nil}
-use Prim.Native.Nat.{ℕ, zero, suc, _+_, _≤_, _<_}
+use mathlib.Core.Logic.{_⊎_, ⊎-elim, _↔_, dite}
+use mathlib.Core.List.{List, [], _∷_, map, List·Memᴰ, List·Memᴰ·head as head, List·Memᴰ·tail as tail, List·Memᴰ·cases-cons as cases}
+use mathlib.Core.List.{List·Memᴰ·not-nil as not-nil}
+use Prim.Native.Nat.{ℕ, zero, suc, _≤_, _<_}
 use native.Mathlib.Decide.{ℕ-discrete, decLt}
 use native.Mathlib.Nat.{le-antisymm, le-trans}
 use native.Mathlib.Omega.{arith}
-use lib.Dec.{T, ltb, ltb→lt, nltb→le}
-use Rattle.spanning.specs.Graph.{Graph, Conn, stop, In, Tree, total}
-use Rattle.arrays.specs.Order.{StrictTotal, Sorted}
+use lib.Dec.{ltb, ltb→lt}
+use Rattle.spanning.specs.Graph.{Conn, In, total}
+use Rattle.arrays.specs.Order.{Sorted}
 use Rattle.spanning.specs.Kruskal.{kruskal}
-use Rattle.spanning.proofs.Conn.{conn-edge, conn-sym, conn-mono, conn-bind, conn-map}
+use Rattle.spanning.proofs.Conn.{conn-edge, conn-sym, conn-mono, conn-map}
 use Rattle.spanning.proofs.Kruskal.{kruskal-in, kruskal-connects}
 use Rattle.spanning.proofs.Cover.{cover}
 use Rattle.spanning.proofs.Rename.{total-rename}
-use Rattle.arrays.specs.Test.{if}
-use Rattle.plane.specs.Point.{Point, lower, Lower, dist, pointDec}
+use Rattle.plane.specs.Point.{Point, Lower, dist, pointDec}
 use Rattle.plane.specs.Edge.{Edge, Rising, edgeLength, planar}
-use Rattle.arrays.proofs.Test.{by-test}
 use Rattle.arrays.proofs.Order.{nat-order}
 use Rattle.plane.proofs.Order.{lower-order}
 use Rattle.plane.proofs.Metric.{dist-sym}
@@ -27,9 +25,9 @@ use Rattle.model.specs.Tree.{mst, lengthOf, treeLength, RunTree}
 use Rattle.model.proofs.Tree.{mst-run-tree}
 use Rattle.model.proofs.Cover.{Ends, Connects, mst-cover}
 use Rattle.model.proofs.Candidate.{map-in}
-use Rattle.tree.specs.Keys.{key, weight, low, high, keyGraph, edgeOf, tab, allKeys, treeKeys}
-use Rattle.tree.proofs.Keys.{key-weight, key-low, key-high, weight-le}
-use Rattle.tree.proofs.AllKeys.{KeyAt, all-keys-in, all-keys-sorted, key-ends, all-keys-join}
+use Rattle.tree.specs.Keys.{key, weight, high, keyGraph, edgeOf, allKeys, treeKeys}
+use Rattle.tree.proofs.keys.Parts.{key-weight, weight-le}
+use Rattle.tree.proofs.keys.All.{KeyAt, all-keys-in, all-keys-sorted, key-ends, all-keys-join}
 
 -- The number of a point among the first n (n where it is not among them).
 index : (ℕ → Point) → ℕ → Point → ℕ
@@ -79,9 +77,9 @@ module _ (at : ℕ → Point) (n : ℕ) (small : n ≤ 128) (one : (u v : ℕ) �
       with r i j l l′ d walk =
           record {
             list = k ∷ r .list;
-            inside = λ z m. ⊎-elim (λ q. subst⁻¹ (λ (w : ℕ). List·Memᴰ w (allKeys at n)) q (all-keys-in at n k .1 is)) (r .inside z) (cases m);
-            light = omega (arith, r .light, key-weight (dist (at i) (at j)) i j (omega arith) (omega arith), d);
-            links = λ f m. ⊎-elim (λ q. subst⁻¹ (λ (w : Edge). Conn keyGraph (In (k ∷ r .list)) (number (w .hi)) (number (w .lo))) q (walk (In (k ∷ r .list)) step))
+            inside = λ z m. ⊎-elim (λ q. rw q (all-keys-in at n k .1 is)) (r .inside z) (cases m);
+            light = omega arith;
+            links = λ f m. ⊎-elim (λ q. rw q (walk (In (k ∷ r .list)) step))
                 (λ m′. conn-mono (λ z q. tail q) (r .links f m′)) (cases m);
           }
         where
@@ -95,20 +93,19 @@ module _ (at : ℕ → Point) (n : ℕ) (small : n ≤ 128) (one : (u v : ℕ) �
           step =
               unfold keyGraph in
               (let q = key-ends at n k small is in
-              subst (λ (z : ℕ). Conn keyGraph (In (k ∷ r .list)) z i) (q .1)
-              (subst (λ (z : ℕ). Conn keyGraph (In (k ∷ r .list)) (high k) z) (q .0) (conn-edge k (head refl))))
+              rw (q .1) at (subst (λ (z : ℕ). Conn keyGraph (In (k ∷ r .list)) (high k) z) (q .0) (conn-edge k (head refl))))
 
-      numbers : (i j : ℕ) → i < n → j < n → e .lo ≡ at i → e .hi ≡ at j → (S : ℕ → Type 0) → Conn keyGraph S j i → Conn keyGraph S (number (e .hi)) (number (e .lo))
+      numbers : (i j : ℕ) → i < n → j < n → e .lo ≡ at i → e .hi ≡ at j → (S : ℕ → Type 0)
+          → Conn keyGraph S j i → Conn keyGraph S (number (e .hi)) (number (e .lo))
       numbers i j hi hj ei ej S w =
-          subst⁻¹ (λ (z : ℕ). Conn keyGraph S z (number (e .lo))) (ap number ej ∙ number-at j hj)
-          (subst⁻¹ (λ (z : ℕ). Conn keyGraph S j z) (ap number ei ∙ number-at i hi) w)
+          rw (ap number ej ∙ number-at j hj) (rw (ap number ei ∙ number-at i hi) w)
 
       by : Keyed t → (i j : ℕ) → i < n → j < n → e .lo ≡ at i → e .hi ≡ at j → Dec (i < j) → Dec (j < i) → Keyed (e ∷ t)
       by r i j hi hj ei ej (yes l) d = with r i j l hj (λ q. dist (sym ei q) (sym ej q)) (numbers i j hi hj ei ej)
       by r i j hi hj ei ej (no l) (yes m) =
           with r j i m hi (dist-sym (at j) (at i) ∙ (λ q. dist (sym ei q) (sym ej q))) (λ S w. numbers i j hi hj ei ej S (conn-sym w))
       by r i j hi hj ei ej (no l) (no m) =
-          absurd (lower-order .irrefl (e .hi) (subst (λ (z : Point). Lower z (e .hi)) (ei ∙ ap at (same) ∙ sym ej) (up e (head refl))))
+          absurd (lower-order .irrefl (e .hi) (rw (ei ∙ ap at (same) ∙ sym ej) at (up e (head refl))))
         where
           same : i ≡ j
           same = omega arith
@@ -121,9 +118,7 @@ module _ (at : ℕ → Point) (n : ℕ) (small : n ≤ 128) (one : (u v : ℕ) �
       (cover keyGraph nat-order weight (λ a b h. weight-le a b (ltb→lt a b h)) (allKeys at n) (r .list) (all-keys-sorted at n) (r .inside)
       (λ k i. let q = all-keys-in at n k .0 i in
       let e = key-ends at n k small q in
-      subst⁻¹ (λ (z : ℕ). Conn keyGraph (In (r .list)) z (low k)) (e .1)
-      (subst⁻¹ (λ (z : ℕ). Conn keyGraph (In (r .list)) (q .j) z) (e .0)
-      (joined (q .i) (q .j) (omega (arith, q .less, q .below)) (q .below)))))
+      rw (e .1) (rw (e .0) (joined (q .i) (q .j) (omega arith) (q .below)))))
       (r .light)
     where
       tree : RunTree qs (mst qs)
@@ -134,9 +129,8 @@ module _ (at : ℕ → Point) (n : ℕ) (small : n ≤ 128) (one : (u v : ℕ) �
 
       joined : (i j : ℕ) → i < n → j < n → Conn keyGraph (In (r .list)) j i
       joined i j hi hj =
-          subst (λ (z : ℕ). Conn keyGraph (In (r .list)) z i) (number-at j hj)
-          (subst (λ (z : ℕ). Conn keyGraph (In (r .list)) (number (at j)) z) (number-at i hi)
-          (conn-map number (r .links) (tree .tree .spans (at i) (at j) (members (at i) .1 (i, hi, refl)) (members (at j) .1 (j, hj, refl)))))
+          rw (number-at j hj) at (rw (number-at i hi) at (conn-map number (r .links)
+          (tree .tree .spans (at i) (at j) (members (at i) .1 (i, hi, refl)) (members (at j) .1 (j, hj, refl)))))
 
   -- The keys as edges cover the points.
   keys-longer : treeLength qs ≤ total weight (treeKeys at n)
@@ -159,23 +153,22 @@ module _ (at : ℕ → Point) (n : ℕ) (small : n ≤ 128) (one : (u v : ℕ) �
           (λ k i. let r = at-key k i in
           let e = key-ends at n k small r in
           (λ t. dist (at (e .0 t)) (at (e .1 t)))
-          ∙ sym (ap weight (r .same) ∙ key-weight (dist (at (r .i)) (at (r .j))) (r .i) (r .j) (omega (arith, r .less, r .below, small)) (omega (arith, r .below, small))))
+          ∙ sym (ap weight (r .same) ∙ key-weight (dist (at (r .i)) (at (r .j))) (r .i) (r .j) (omega arith) (omega arith)))
 
       ends : Ends qs (map (edgeOf at) K)
       ends f i =
           let m = map-in (edgeOf at) K f .0 i in
           let r = at-key (m .0) (m .1) in
           let e = key-ends at n (m .0) small r in (
-            subst⁻¹ (λ (z : Point). List·Memᴰ z qs) ((λ t. m .2 t .lo) ∙ ap at (e .0)) (held (r .i) (omega (arith, r .less, r .below))),
-            subst⁻¹ (λ (z : Point). List·Memᴰ z qs) ((λ t. m .2 t .hi) ∙ ap at (e .1)) (held (r .j) (r .below)),
+            rw ((λ t. m .2 t .lo) ∙ ap at (e .0)) (held (r .i) (omega arith)),
+            rw ((λ t. m .2 t .hi) ∙ ap at (e .1)) (held (r .j) (r .below)),
           )
 
       connects : Connects qs (map (edgeOf at) K)
       connects u v i j =
           let a = members u .0 i in
           let b = members v .0 j in
-          subst⁻¹ (λ (z : Point). Conn planar (In (map (edgeOf at) K)) v z) (a .2)
-          (subst⁻¹ (λ (z : Point). Conn planar (In (map (edgeOf at) K)) z (at (a .0))) (b .2)
+          rw (a .2) (subst⁻¹ (λ (z : Point). Conn planar (In (map (edgeOf at) K)) z (at (a .0))) (b .2)
           (conn-map at (λ k m. conn-edge (edgeOf at k) (map-in (edgeOf at) K (edgeOf at k) .1 (k, m, refl)))
           (kruskal-connects keyGraph (allKeys at n) .1 (all-keys-join at n small (a .0) (b .0) (a .1) (b .1)))))
 

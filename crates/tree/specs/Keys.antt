@@ -1,11 +1,9 @@
 -- Edges between numbered points as single numbers, and the trees of the first n points by them. `at` gives the point of a number.
-use mathlib.Core.Path.{_≡_}
-use mathlib.Core.Bool.{Bool}
 use mathlib.Core.List.{List, [], _∷_, _++_}
 use Prim.Native.Nat.{ℕ, zero, suc, _+_, _*_, _/_, _%_, min}
 use native.Mathlib.Decide.{ℕ-discrete}
 use lib.Dec.{ltb}
-use Rattle.spanning.specs.Graph.{Graph, total}
+use Rattle.spanning.specs.Graph.{Graph}
 use Rattle.spanning.specs.Kruskal.{kruskal}
 use Rattle.arrays.specs.Test.{if}
 use Rattle.plane.specs.Point.{Point, dist}
@@ -14,19 +12,31 @@ use Rattle.plane.specs.Nearest.{inOctantOf}
 use Rattle.arrays.specs.Set.{union}
 use Rattle.model.specs.File.{numberOf}
 
+-- How many points can have a number: as many as a deck has, 64 pins and 64 Steiner points.
+abbrev pub places : ℕ
+places = 128
+
+-- A star has a key for each octant.
+abbrev pub octants : ℕ
+octants = 8
+
+-- The longest edge: each of two coordinates of 16 bits differs by at most 65,535.
+abbrev pub longest : ℕ
+longest = 131070
+
 -- An edge of length d between the points i and j, i the smaller: one comparison of keys compares lengths, then i, then j.
 abbrev pub key : ℕ → ℕ → ℕ → ℕ
-key d i j = (d * 128 + i) * 128 + j
+key d i j = (d * places + i) * places + j
 
 -- The length and the two numbers of a key.
 abbrev pub weight : ℕ → ℕ
-weight k = k / 16384
+weight k = k / (places * places)
 
 abbrev pub low : ℕ → ℕ
-low k = k / 128 % 128
+low k = k / places % places
 
 abbrev pub high : ℕ → ℕ
-high k = k % 128
+high k = k % places
 
 -- Numbers and keys as a graph.
 unfoldable pub keyGraph : Graph ℕ ℕ
@@ -59,7 +69,7 @@ treeKeys at n = kruskal keyGraph [] (allKeys at n)
 unfoldable pub joinedKeys : (ℕ → Point) → Point → ℕ → List ℕ
 joinedKeys at c n = kruskal keyGraph [] (union ltb (rays at c n n) (allKeys at n))
 
--- No key: larger than every key.
+-- No key: larger than every key, since the longest edge has 17 bits and two numbers have 14.
 abbrev pub noKey : ℕ
 noKey = 4294967295
 
@@ -72,7 +82,7 @@ leastKey at c n o (suc j) =
 
 -- The least keys of the eight octants, from octant 0 on.
 unfoldable pub octantKeys : (ℕ → Point) → Point → ℕ → List ℕ
-octantKeys at c n = tab (λ (o : ℕ). leastKey at c n o n) 8
+octantKeys at c n = tab (λ (o : ℕ). leastKey at c n o n) octants
 
 -- The keys of a list that are keys.
 unfoldable pub offered : List ℕ → List ℕ
@@ -81,8 +91,8 @@ offered (k ∷ l) = if (ltb k noKey) (λ _. k ∷ offered l) (λ _. offered l)
 
 -- The two numbers of a key as one number, which compares by the first and then the second: the listing order.
 abbrev pub endsOf : ℕ → ℕ
-endsOf k = k % 16384
+endsOf k = k % (places * places)
 
 -- The same of an edge between two of the points.
 abbrev pub endsAt : List Point → Edge → ℕ
-endsAt ps e = numberOf ps (e .lo) * 128 + numberOf ps (e .hi)
+endsAt ps e = numberOf ps (e .lo) * places + numberOf ps (e .hi)

@@ -1,11 +1,14 @@
 // Kruskal's pass over a list of keys: of each key in turn, whether its two numbers are connected already by the keys that
-// were kept before. Each of the 128 numbers has a label, and two numbers are connected exactly if they have the same one.
+// were kept before. Each of the numbers below PLACES has a label, and two numbers are connected exactly if they have the same one.
+use super::keys::PLACES;
+use super::keys::high;
+use super::keys::low;
 ghost use mathlib.Core.Path.{_≡_};
 ghost use mathlib.Core.List.{[]};
 ghost use Prim.Native.Nat.{ℕ, _≤_, _<_};
 ghost use lib.ListN.{length, take, getD};
 ghost use Rattle.spanning.specs.Kruskal.{kruskal};
-ghost use Rattle.tree.specs.Keys.{keyGraph};
+ghost use Rattle.tree.specs.Keys.{places, keyGraph};
 ghost use Rattle.arrays.specs.Paste.{Pasted};
 ghost use Rattle.tree.specs.Labels.{moved};
 
@@ -18,11 +21,11 @@ fn choice(c: u8, a: u8, b: u8) -> u8
 
 // Puts the label b in the place of the label a, everywhere.
 pub fn relabel(labels: &mut [u8], a: u8, b: u8)
-    requires { ⌜ length (now labels) ≡ 128 ⌝ }
-    ensures { λ _. ⌜ ((u : ℕ) → u < 128 → getD (now (labels .exit)) u 0 ≡ moved a b (getD (now (labels .entry)) u 0)) ⌝ }
+    requires { ⌜ length (now labels) ≡ places ⌝ }
+    ensures { λ _. ⌜ ((u : ℕ) → u < places → getD (now (labels .exit)) u 0 ≡ moved a b (getD (now (labels .entry)) u 0)) ⌝ }
 {
     let mut i = 0;
-    while i < 128 {
+    while i < PLACES {
         labels[i] = choice(labels[i], a, b);
         i += 1;
     }
@@ -30,12 +33,12 @@ pub fn relabel(labels: &mut [u8], a: u8, b: u8)
 
 // Gives each number its own label.
 pub fn separate(labels: &mut [u8])
-    requires { ⌜ length (now labels) ≡ 128 ⌝ }
-    ensures { λ _. ⌜ ((u : ℕ) → u < 128 → getD (now (labels .exit)) u 0 ≡ u) ⌝ }
+    requires { ⌜ length (now labels) ≡ places ⌝ }
+    ensures { λ _. ⌜ ((u : ℕ) → u < places → getD (now (labels .exit)) u 0 ≡ u) ⌝ }
 {
     let mut i = 0;
     let mut own: u8 = 0;
-    while i < 128 {
+    while i < PLACES {
         labels[i] = own;
         own += 1;
         i += 1;
@@ -48,16 +51,16 @@ pub fn span(keys: &[u64], count: usize, out: &mut [u64]) -> usize
     requires { ⌜ (count ≤ length (now keys)) × (count ≤ length (now out)) ⌝ }
     ensures { λ r. ⌜ Pasted (kruskal keyGraph [] (take count (now (keys .entry)))) (now (out .entry)) (now (out .exit)) 0 r ⌝ }
 {
-    let mut labels = [0u8; 128];
+    let mut labels = [0u8; PLACES];
     separate(&mut labels);
     let mut n = 0;
     let mut i = 0;
     while i < count {
         let k = keys[i];
-        let low = (k / 128 % 128) as usize;
-        let high = (k % 128) as usize;
-        let a = labels[low];
-        let b = labels[high];
+        let lo = low(k);
+        let hi = high(k);
+        let a = labels[lo];
+        let b = labels[hi];
         i += 1;
         if a != b {
             out[n] = k;

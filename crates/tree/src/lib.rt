@@ -1,8 +1,6 @@
-// The one routine that joins points by the least cable.
-//
-// Points are two slices of stored coordinates. An edge is one number, its key: (length * 128 + first) * 128 + second, where first and
-// second are the places of its two points, first the smaller. One comparison of keys compares lengths, then first, then second.
+// The one routine that joins points by the least cable. Points are two slices of stored coordinates, and an edge is a key.
 pub mod build;
+pub mod keys;
 pub mod kruskal;
 pub mod list;
 pub mod nearest;

@@ -12,7 +12,7 @@ use Rattle.tree.specs.Keys.{tab, endsOf}
 use Rattle.tree.specs.Build.{Rises}
 use Rattle.arrays.specs.Paste.{Pasted}
 use Rattle.arrays.proofs.paste.Parts.{front-of}
-use Rattle.tree.proofs.Numbers.{tab-length}
+use Rattle.tree.proofs.Tab.{tab-length}
 use Rattle.tree_entries.specs.Answers.{Says, Points, Answer}
 
 pub answer-taken : {P : Type 0} {l before after : List ℕ} {r : ℕ} → P → Pasted l before after 0 r → Answer P l before after r

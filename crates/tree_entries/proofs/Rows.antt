@@ -14,11 +14,12 @@ use Rattle.tree.specs.Held.{held}
 use Rattle.tree.specs.Keys.{weight, tab, treeKeys}
 use Rattle.tree.specs.Build.{BuildRequires, lengthWith}
 use Rattle.arrays.specs.Paste.{Pasted}
-use Rattle.tree.proofs.Numbers.{tab-length}
-use Rattle.tree.proofs.Joined.{rising-total}
+use Rattle.tree.proofs.Tab.{tab-length}
+use Rattle.tree.proofs.Lengths.{rising-total}
 use Rattle.arrays.proofs.paste.Parts.{front-take, front-count}
-use Rattle.tree.proofs.Step.{keys-most}
+use Rattle.tree.proofs.Size.{keys-most}
 use Rattle.bottleneck.specs.Table.{Bottlenecks}
+use Rattle.regions.specs.Rays.{tableSize}
 use Rattle.score.specs.Length.{Measured}
 use Rattle.tree_entries.specs.Answers.{Points}
 
@@ -55,7 +56,7 @@ keys-few xs ys before keys m p f =
 
 -- What was worked out of the tree is what its length with a point more is measured by.
 pub tree-measured : (xs ys before keys table : List ℕ) (m plain : ℕ) → Points xs ys → Pasted (treeKeys (held xs ys) (length xs)) before keys 0 m
-    → plain ≡ total weight (take m keys) → length table ≡ 16384 → Bottlenecks (take m keys) (length xs) table
+    → plain ≡ total weight (take m keys) → length table ≡ tableSize → Bottlenecks (take m keys) (length xs) table
     → Measured xs ys (length xs) table plain
 tree-measured xs ys before keys table m plain p f s size b =
     record {

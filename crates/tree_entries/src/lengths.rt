@@ -1,5 +1,6 @@
 // The lengths of the tree with a point more, for many such points: the tree and the table of its bottlenecks are made once, and each
 // point is tried on them.
+use regions::rows::PLACES;
 use regions::rows::blank;
 use score::length::length_with;
 use tree::build::build;
@@ -9,19 +10,30 @@ ghost use mathlib.Core.List.{_++_};
 ghost use Prim.Native.Nat.{_≤_};
 ghost use lib.ListN.{length, drop};
 ghost use Rattle.tree.specs.Build.{lengthWith};
+ghost use Rattle.regions.specs.Rays.{places, tableSize};
 ghost use Rattle.score.specs.Length.{Measured};
 ghost use Rattle.tree_entries.specs.Answers.{Points, lengthsWith};
 ghost use Rattle.tree_entries.specs.Given.{Tried};
 
-// The length of the tree of the first n points and the point at (x, y): 0 where there is no other.
-fn length_at(xs: &[u16], ys: &[u16], n: usize, table: &[u32], plain: u64, x: u16, y: u16) -> u64
-    requires { ⌜ Measured (now xs) (now ys) n (now table) plain ⌝ }
+// The length of the tree of the first n points and the point at (x, y): 0 where there is no other. The last two slices are scratch.
+fn length_at(
+    xs: &[u16],
+    ys: &[u16],
+    n: usize,
+    table: &[u32],
+    plain: u64,
+    x: u16,
+    y: u16,
+    gaps: &mut [u32],
+    ranks: &mut [usize],
+) -> u64
+    requires { ⌜ Measured (now xs) (now ys) n (now table) plain × (length (now gaps) ≡ tableSize) × (length (now ranks) ≡ places) ⌝ }
     ensures { λ r. ⌜ r ≡ lengthWith (now (xs .entry)) (now (ys .entry)) n x y ⌝ }
 {
     if n == 0 {
         return 0;
     }
-    length_with(xs, ys, n, table, plain, x, y)
+    length_with(xs, ys, n, table, plain, x, y, gaps, ranks)
 }
 
 // Tries each crossing on a tree.
@@ -40,9 +52,11 @@ fn try_each(
         ≡ lengthsWith (now (xs .entry)) (now (ys .entry)) n (now (cx .entry)) (now (cy .entry)) (length (now (cx .entry)))
         ++ drop (length (now (cx .entry))) (now (out .entry)) ⌝ }
 {
+    let mut gaps = blank();
+    let mut ranks = [0usize; PLACES];
     let mut i = 0;
     while i < cx.len() {
-        out[i] = length_at(xs, ys, n, table, plain, cx[i], cy[i]);
+        out[i] = length_at(xs, ys, n, table, plain, cx[i], cy[i], &mut gaps, &mut ranks);
         i += 1;
     }
 }

@@ -22,10 +22,9 @@ use Rattle.arrays.proofs.sorted.Rise.{get-in, get-rises}
 use Rattle.tree.specs.Held.{held}
 use Rattle.tree.specs.Keys.{tab, treeKeys}
 use Rattle.tree.specs.Build.{Rises, BuildRequires}
-use Rattle.tree.proofs.Numbers.{tab-length}
-use Rattle.tree.proofs.OctantKeys.{tab-get, tab-same}
+use Rattle.tree.proofs.Tab.{tab-length, tab-get, tab-same}
 use Rattle.arrays.proofs.paste.Parts.{front-take, front-count}
-use Rattle.tree.proofs.Step.{keys-most}
+use Rattle.tree.proofs.Size.{keys-most}
 use Rattle.plane.specs.Code.{code, pointOf, isCode}
 use Rattle.points.specs.declared.Points.{Points}
 use Rattle.points.specs.Coded.{Arranged, stateOf}

@@ -1,59 +1,33 @@
 -- `bottleneck::fill_row` meets its contract. The invariant: the first j entries of the row are chosen, and the others are as they were.
-use Prim.Native.Nat.{_-_}
+use mathlib.Core.Path.{ap, _∙_}
+use Prim.Native.Nat.{_+_, _-_}
 use native.Mathlib.Omega.{arith}
-use Rattle.bottleneck.proofs.Row.{RowTo, row-none, row-more, row-all}
+use lib.ListN.{getD}
+use Rattle.tree.proofs.kruskal.Fill.{Filled, fill-none, fill-more}
+use Rattle.bottleneck.specs.Table.{chosen}
 use Rattle.bottleneck.proofs.fill_row.Statement.{statement}
 use Rattle.bottleneck.proofs.fill_row.Tie as tie
 
 abbrev Inv-loop : tie.InvT-loop
-Inv-loop labels wanted w start n table₀ j₀ table j = RowTo labels wanted w start n table₀ table j
+Inv-loop labels wanted w start n table₀ j₀ table j =
+    Filled (λ u. start + u) (λ u. chosen wanted w (getD labels u 0) (getD table₀ (start + u) 0)) n table₀ table j
 
 abbrev μ-loop : tie.MeasureT-loop
 μ-loop labels wanted w start n table₀ j₀ table j = n - j
 
-loop-holds : tie.Need-loop-holds Inv-loop μ-loop
-loop-holds c = row-none _ _ _ _ _ _ (c .before .before .pre .1)
-
-shared-slice-read-choice : tie.Need-shared-slice-read-choice Inv-loop μ-loop
-shared-slice-read-choice c = omega arith
-
-add-choice : tie.Need-add-choice Inv-loop μ-loop
-add-choice c = omega arith
-
-mul-choice : tie.Need-mul-choice Inv-loop μ-loop
-mul-choice c = omega arith
-
-slice-read-choice : tie.Need-slice-read-choice Inv-loop μ-loop
-slice-read-choice c = omega arith
-
-choice-requires : tie.Need-choice-requires Inv-loop μ-loop
-choice-requires c κs = tt
-
-add-table : tie.Need-add-table Inv-loop μ-loop
-add-table c = omega arith
-
-mul-table : tie.Need-mul-table Inv-loop μ-loop
-mul-table c = omega arith
-
-slice-write-table : tie.Need-slice-write-table Inv-loop μ-loop
-slice-write-table c = omega arith
-
-add-j : tie.Need-add-j Inv-loop μ-loop
-add-j c = omega arith
-
-loop-less : tie.Need-loop-less Inv-loop μ-loop
-loop-less c = omega arith
-
 loop-again : tie.Need-loop-again Inv-loop μ-loop
 loop-again c =
     let head = c .before .before .before .before in
-    row-more _ _ _ _ _ _ (head .before .before .before .pre .1) _ _ (head .loop .inv) (c .before .before .before .loop-test .taken) _ (c .choice .ensures)
-
-same-length : tie.Need-same-length Inv-loop μ-loop
-same-length c = c .before .loop .inv .size
+    let r = head .loop .inv in
+    let a = head .before .before .before .args in
+    let old = r .rest (a .start + head .loop .j) (λ u h e. omega arith) in
+    fill-more r (omega arith) (omega arith) (λ u h e. omega arith)
+    (c .choice .ensures ∙ ap (chosen (a .wanted) (a .w) (getD (a .labels .now) (head .loop .j) 0)) old)
 
 returns : tie.Need-returns Inv-loop μ-loop
-returns c = row-all _ _ _ _ _ _ (c .before .before .before .before .pre .1) _ _ (c .before .loop .inv) (c .loop-test .left)
+returns c =
+    let r = c .before .loop .inv in
+    record { inside = λ j h. r .done j (omega arith); outside = λ p h. r .rest p (λ u l. h u (omega arith)) }
 
 pub fill-row-spec : {M : Type 1} → statement M
 fill-row-spec =
@@ -61,17 +35,17 @@ fill-row-spec =
     (tie.spec
     Inv-loop
     μ-loop
-    loop-holds
-    shared-slice-read-choice
-    add-choice
-    mul-choice
-    slice-read-choice
-    choice-requires
-    add-table
-    mul-table
-    slice-write-table
-    add-j
-    loop-less
+    (λ c. fill-none)
+    (λ c. omega arith)
+    (λ c. omega arith)
+    (λ c. omega arith)
+    (λ c. omega arith)
+    (λ c κs. tt)
+    (λ c. omega arith)
+    (λ c. omega arith)
+    (λ c. omega arith)
+    (λ c. omega arith)
+    (λ c. omega arith)
     loop-again
-    same-length
+    (λ c. c .before .loop .inv .size)
     returns)

@@ -5,14 +5,8 @@ use borrow.Author.Needs.{needs}
 use Rattle.regions.proofs.nearest.less.Statement.{statement}
 use Rattle.regions.proofs.nearest.less.Tie as tie
 
-cast-result : tie.Need-cast-result
-cast-result c = search needs
-
-cast-result-2 : tie.Need-cast-result-2
-cast-result-2 c = search needs
-
 returns : tie.Need-returns
-returns c = rw (lt-ltb (c .args .a) 2147483648 (omega (arith, c .pre .0)), lt-ltb (c .args .b) 2147483648 (omega (arith, c .pre .1)))
+returns c = rw (lt-ltb (c .args .a) 2147483648 (omega arith), lt-ltb (c .args .b) 2147483648 (omega arith))
 
 pub less-spec : {M : Type 1} → statement M
-less-spec = tie.close (tie.spec cast-result cast-result-2 returns)
+less-spec = tie.close (tie.spec (λ c. search needs) (λ c. search needs) returns)

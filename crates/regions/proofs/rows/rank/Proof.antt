@@ -1,39 +1,28 @@
 -- `regions::rows::rank` meets its contract. The invariant: the rows passed are below y.
-use Prim.Native.Nat.{_-_}
+use mathlib.Core.Logic.{⊎-elim}
+use Prim.Native.Nat.{ℕ, _-_, _≤_, _<_}
+use native.Mathlib.Nat.{eq-or-lt-of-le}
 use native.Mathlib.Omega.{arith}
-use Rattle.regions.proofs.Distances.{Below, below-none, below-more, ranked-here, ranked-end}
+use borrow.Author.Count.{below-none, below-more}
+use lib.ListN.{getD}
 use Rattle.regions.proofs.rows.rank.Statement.{statement}
 use Rattle.regions.proofs.rows.rank.Tie as tie
 
 abbrev Inv-loop : tie.InvT-loop
-Inv-loop rows count y r₀ r = Below rows count y r
+Inv-loop rows count y r₀ r = (r ≤ count) × ((q : ℕ) → q < r → getD rows q 0 < y)
 
 abbrev μ-loop : tie.MeasureT-loop
 μ-loop rows count y r₀ r = count - r
 
-loop-holds : tie.Need-loop-holds Inv-loop μ-loop
-loop-holds c = below-none _ _ _ (c .pre)
-
-mul-if1 : tie.Need-mul-if1 Inv-loop μ-loop
-mul-if1 c = omega arith
-
-shared-slice-read-if1 : tie.Need-shared-slice-read-if1 Inv-loop μ-loop
-shared-slice-read-if1 c = omega (arith, c .before .before .before .pre .within)
-
+-- No row behind the first that is not below y is below it.
 returns : tie.Need-returns Inv-loop μ-loop
-returns c = ranked-here _ _ _ (c .before .before .before .before .pre) _ (c .before .before .before .loop .inv) (c .before .before .loop-test .taken) (c .if1 .taken)
-
-add-r : tie.Need-add-r Inv-loop μ-loop
-add-r c = omega arith
-
-loop-less : tie.Need-loop-less Inv-loop μ-loop
-loop-less c = omega arith
-
-loop-again : tie.Need-loop-again Inv-loop μ-loop
-loop-again c = below-more _ _ _ (c .before .before .before .before .pre) _ (c .before .before .before .loop .inv) (c .before .before .loop-test .taken) (omega (arith, c .if1 .left))
-
-returns-2 : tie.Need-returns-2 Inv-loop μ-loop
-returns-2 c = ranked-end _ _ _ (c .before .before .pre) _ (c .before .loop .inv) (c .loop-test .left)
+returns c =
+    let l = c .before .before .before in
+    record {
+      within = omega arith;
+      below = l .loop .inv .1;
+      above = λ q h k. ⊎-elim (λ e. rw (← e) (c .if1 .taken)) (λ g. omega (arith, l .before .pre .rises _ q g k)) (eq-or-lt-of-le h);
+    }
 
 pub rank-spec : {M : Type 1} → statement M
 rank-spec =
@@ -41,11 +30,11 @@ rank-spec =
     (tie.spec
     Inv-loop
     μ-loop
-    loop-holds
-    mul-if1
-    shared-slice-read-if1
+    (λ c. (omega arith, below-none _))
+    (λ c. omega arith)
+    (λ c. omega (arith, c .before .before .before .pre .within))
     returns
-    add-r
-    loop-less
-    loop-again
-    returns-2)
+    (λ c. omega arith)
+    (λ c. omega arith)
+    (λ c. (omega arith, below-more _ _ (c .before .before .before .loop .inv .1) (omega arith)))
+    (λ c. record { within = omega arith; below = c .before .loop .inv .1; above = λ q h k. absurd (omega arith) }))

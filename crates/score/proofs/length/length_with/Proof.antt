@@ -1,53 +1,59 @@
--- `score::length::length_with` meets its contract: the gain of the place's codes says how much shorter the tree is than with an edge of
+-- `score::length::length_with` meets its contract: the gain of the place's rays says how much shorter the tree is than with an edge of
 -- length FAR.
+use mathlib.Core.Path.{_≡_, _∙_}
+use mathlib.Core.List.{_∷_, []}
+use Prim.Native.Nat.{_+_}
 use native.Mathlib.Omega.{arith}
-use Rattle.score.proofs.Measuring.{length-is, whole-short}
 use borrow.Author.Needs.{needs}
+use Rattle.tree.specs.Build.{lengthWith}
+use Rattle.regions.specs.Rays.{far}
+use Rattle.score.specs.Prepared.{Prepared}
+use Rattle.score.proofs.Geometry.{column-given}
+use Rattle.score.proofs.length.Place.{one-row, whole-short, place-prepared, length-is}
 use Rattle.score.proofs.length.length_with.Statement.{statement}
 use Rattle.score.proofs.length.length_with.Tie as tie
 
-codes-at-requires : tie.Need-codes-at-requires
-codes-at-requires c κs = search needs
+abbrev start : tie.After-locate → tie.Start
+start c = c .before .before .before .before .before .before .before .before .before
 
-gain-requires : tie.Need-gain-requires
-gain-requires c κs = search needs
+-- What was worked out of the points and the row.
+prepared : (c : tie.After-locate)
+    → let a = start c .args in
+    let last = c .locate .last .1 .1 .1 .1 in
+    Prepared (a .xs .now) (a .ys .now) (a .n) (a .table .now) (last .0) (last .1 .0) (a .y ∷ []) 1
+prepared c =
+    let ys = c .before .before .before .before .before .before .before in
+    let p = start c .pre in
+    let kept = c .locate .kept .1 .1 .1 .1 in
+    place-prepared (p .0) (λ i. ys .before .shared-slice-known .given i .fits) (λ i. ys .shared-slice-known2 .given i .fits) (p .1 .0) (omega arith)
+    (kept .0 ∙ p .1 .1) (omega (arith, kept .1 .0)) (c .locate .ensures)
 
-cast-result : tie.Need-cast-result
-cast-result c = search needs
+abbrev located : tie.After-gain-at → tie.After-locate
+located c = c .before .before .before .before .before .before .before .before .before .before .before .before
 
-add-result : tie.Need-add-result
-add-result c =
-    let start = c .before .before .before .before .before in
-    let short = whole-short (start .pre .0) (λ i. c .before .before .before .before .shared-slice-known .given i .fits) (λ i. c .before .before .before .shared-slice-known2 .given i .fits) in
-    record { fits = omega (arith, short) }
-
-cast-result-2 : tie.Need-cast-result-2
-cast-result-2 c = search needs
-
-sub-result : tie.Need-sub-result
-sub-result c =
-    let start = c .before .before .before .before .before in
-    let same =
-    length-is (start .pre .0) (start .pre .1) (λ i. c .before .before .before .before .shared-slice-known .given i .fits) (λ i. c .before .before .before .shared-slice-known2 .given i .fits)
-    (omega (arith, start .fits .x)) (omega (arith, start .fits .y)) (c .before .codes-at .ensures) in
-    omega (arith, c .gain .ensures, same)
-
-returns : tie.Need-returns
-returns c =
-    let start = c .before .before .before .before .before in
-    let same =
-    length-is (start .pre .0) (start .pre .1) (λ i. c .before .before .before .before .shared-slice-known .given i .fits) (λ i. c .before .before .before .shared-slice-known2 .given i .fits)
-    (omega (arith, start .fits .x)) (omega (arith, start .fits .y)) (c .before .codes-at .ensures) in
-    omega (arith, c .gain .ensures, same)
+-- The length with the place and the gain are the tree's length and FAR.
+same : (c : tie.After-gain-at)
+    → let a = start (located c) .args in
+    lengthWith (a .xs .now) (a .ys .now) (a .n) (a .x) (a .y) + c .gain-at .result ≡ far + a .length
+same c =
+    let l = located c in
+    omega (arith, c .gain-at .ensures, length-is (start l .pre .0) (prepared l) (omega arith) (c .before .before .before .nearest .ensures))
 
 pub length-with-spec : {M : Type 1} → statement M
 length-with-spec =
     tie.close
     (tie.spec
-    codes-at-requires
-    gain-requires
-    cast-result
-    add-result
-    cast-result-2
-    sub-result
-    returns)
+    (λ c. search needs)
+    (λ c κs. search (needs, one-row))
+    (λ c κs. search needs)
+    (λ c. search needs)
+    (λ c κs. (column-given (prepared (c .before .before .before .before .before .before .before .before)), search needs))
+    (λ c.
+    let l = c .before .before .before .before .before .before .before .before .before .before in
+    omega (arith, whole-short (start l .pre .0) (prepared l)))
+    (λ c. search needs)
+    (λ c κs. search needs)
+    (λ c. omega (arith, same c))
+    (λ c. search needs)
+    (λ c. search needs)
+    (λ c. omega (arith, same c)))

@@ -7,7 +7,7 @@ use borrow.Author.Needs.{needs}
 use Rattle.plane.specs.Stored.{pointAt}
 use Rattle.tree.specs.Held.{held}
 use Rattle.tree.specs.Keys.{key, tab, leastKey, octantKeys}
-use Rattle.tree.proofs.OctantKeys.{turn-here, turn-past}
+use Rattle.tree.proofs.nearest.OctantKeys.{turn-here, turn-past}
 use Rattle.tree.proofs.nearest.nearest.Statement.{statement}
 use Rattle.tree.proofs.nearest.nearest.Tie as tie
 
@@ -20,63 +20,6 @@ abbrev μ-loop : tie.MeasureT-loop
 loop-holds : tie.Need-loop-holds Inv-loop μ-loop
 unfolding tab leastKey
 loop-holds c = search needs
-
-mul-octant-between : tie.Need-mul-octant-between Inv-loop μ-loop
-mul-octant-between c = search needs
-
-shared-slice-read-octant-between : tie.Need-shared-slice-read-octant-between Inv-loop μ-loop
-shared-slice-read-octant-between c = search needs
-
-mul-octant-between-2 : tie.Need-mul-octant-between-2 Inv-loop μ-loop
-mul-octant-between-2 c = search needs
-
-shared-slice-read-octant-between-2 : tie.Need-shared-slice-read-octant-between-2 Inv-loop μ-loop
-shared-slice-read-octant-between-2 c = search needs
-
-octant-between-requires : tie.Need-octant-between-requires Inv-loop μ-loop
-octant-between-requires c κs = search needs
-
-cast-o : tie.Need-cast-o Inv-loop μ-loop
-cast-o c = search needs
-
-mul-distance : tie.Need-mul-distance Inv-loop μ-loop
-mul-distance c = search needs
-
-shared-slice-read-distance : tie.Need-shared-slice-read-distance Inv-loop μ-loop
-shared-slice-read-distance c = search needs
-
-mul-distance-2 : tie.Need-mul-distance-2 Inv-loop μ-loop
-mul-distance-2 c = search needs
-
-shared-slice-read-distance-2 : tie.Need-shared-slice-read-distance-2 Inv-loop μ-loop
-shared-slice-read-distance-2 c = search needs
-
-distance-requires : tie.Need-distance-requires Inv-loop μ-loop
-distance-requires c κs = search needs
-
-key-requires : tie.Need-key-requires Inv-loop μ-loop
-key-requires c κs = search needs
-
-mul-least : tie.Need-mul-least Inv-loop μ-loop
-mul-least c = search needs
-
-array-read-least : tie.Need-array-read-least Inv-loop μ-loop
-array-read-least c = search needs
-
-least-requires : tie.Need-least-requires Inv-loop μ-loop
-least-requires c κs = search needs
-
-mul-best : tie.Need-mul-best Inv-loop μ-loop
-mul-best c = search needs
-
-array-write-best : tie.Need-array-write-best Inv-loop μ-loop
-array-write-best c = search needs
-
-add-j : tie.Need-add-j Inv-loop μ-loop
-add-j c = search needs
-
-loop-less : tie.Need-loop-less Inv-loop μ-loop
-loop-less c = search needs
 
 loop-again : tie.Need-loop-again Inv-loop μ-loop
 loop-again c =
@@ -108,24 +51,24 @@ nearest-spec =
     Inv-loop
     μ-loop
     loop-holds
-    mul-octant-between
-    shared-slice-read-octant-between
-    mul-octant-between-2
-    shared-slice-read-octant-between-2
-    octant-between-requires
-    cast-o
-    mul-distance
-    shared-slice-read-distance
-    mul-distance-2
-    shared-slice-read-distance-2
-    distance-requires
-    key-requires
-    mul-least
-    array-read-least
-    least-requires
-    mul-best
-    array-write-best
-    add-j
-    loop-less
+    (λ c. search needs)
+    (λ c. search needs)
+    (λ c. search needs)
+    (λ c. search needs)
+    (λ c κs. search needs)
+    (λ c. search needs)
+    (λ c. search needs)
+    (λ c. search needs)
+    (λ c. search needs)
+    (λ c. search needs)
+    (λ c κs. search needs)
+    (λ c κs. search needs)
+    (λ c. search needs)
+    (λ c. search needs)
+    (λ c κs. search needs)
+    (λ c. search needs)
+    (λ c. search needs)
+    (λ c. search needs)
+    (λ c. search needs)
     loop-again
     returns)

@@ -1,0 +1,56 @@
+-- The search over all crossings finds the best candidate: the lines as they are stored are the lines of the points, since a stored
+-- coordinate and its whole number come in the same order.
+use mathlib.Core.Path.{_≡_, refl, sym, ap, _∙_}
+use mathlib.Core.List.{List, [], _∷_, _++_, map, map-append}
+use Prim.Native.Nat.{ℕ, zero, suc, _≤_}
+use native.Mathlib.Omega.{arith}
+use lib.Dec.{ltb}
+use lib.IntN.{ℤ}
+use lib.ListN.{length, take, getD}
+use lib.Seq.{take-suc}
+use lib.Signed.{ltZ}
+use Rattle.plane.specs.Point.{Point}
+use Rattle.plane.specs.Coordinate.{coordinate}
+use Rattle.arrays.proofs.Order.{nat-order}
+use Rattle.plane.proofs.Stored.{coordinate-less}
+use Rattle.arrays.specs.Set.{union, setOf}
+use Rattle.model.specs.Round.{crossings, notHeld, candidates, bestAbove, best}
+use Rattle.arrays.proofs.SetMap.{union-map}
+use Rattle.tree.specs.Held.{held}
+use Rattle.tree.specs.Keys.{tab}
+use Rattle.tree.proofs.Sorted.{ps-sorted}
+use Rattle.regions.specs.Rays.{far}
+use Rattle.crossing.specs.declared.found.Greatest.{Greatest}
+use Rattle.crossing.specs.declared.found.Best.the-variants.{Nothing}
+use Rattle.crossing.specs.Search.{TreeGiven, Lines, pointsOf, answerOf, tryAll}
+use Rattle.crossing.proofs.search.Scan.{try-crossings}
+
+-- One coordinate of the first n points, f, which is stored in the list l.
+module _ (at : ℕ → Point) (f : Point → ℤ) (l : List ℕ) (e : (i : ℕ) → f (at i) ≡ coordinate (getD l i 0)) where
+  coordinates : (n : ℕ) → n ≤ length l → map f (tab at n) ≡ map coordinate (take n l)
+  unfolding tab
+  coordinates zero h = refl
+  coordinates (suc n) h =
+      map-append f (tab at n) (at n ∷ []) ∙ (λ i. coordinates n (omega arith) i ++ (e n i ∷ []))
+      ∙ sym (map-append coordinate (take n l) (getD l n 0 ∷ [])) ∙ ap (map coordinate) (sym (take-suc l n 0 h))
+
+  lines-are : (n : ℕ) → n ≤ length l → {to : List ℕ} {count : ℕ} → Lines l n to count → map coordinate (take count to) ≡ setOf ltZ (map f (tab at n))
+  lines-are n h p =
+      ap (map coordinate) (p .same)
+      ∙ union-map coordinate ltb ltZ (λ _. Unit {0}) (λ a b _ _. sym (coordinate-less a b)) nat-order (take n l) [] (λ a i. tt) (λ a i. tt)
+      ∙ ap (setOf ltZ) (sym (coordinates n h))
+
+-- From the tree itself, over all crossings, the best candidate is found.
+pub best-found : {xs ys : List ℕ} {n : ℕ} {keys : List ℕ} {m : ℕ} {columns : List ℕ} {width : ℕ} {rows : List ℕ} {count : ℕ} → TreeGiven xs ys n keys m
+    → Lines xs n columns width → Lines ys n rows count → {r : Greatest}
+    → r ≡ tryAll (pointsOf xs ys n) (record { gain = far; best = Nothing }) (crossings (map coordinate (take width columns)) (map coordinate (take count rows)))
+    → r .best ≡ answerOf (best (pointsOf xs ys n))
+best-found {xs} {ys} {n} p cs rs e =
+    let cx = lines-are (held xs ys) (λ (q : Point). q .x) xs (λ i. refl) n (p .inXs) cs in
+    let ry = lines-are (held xs ys) (λ (q : Point). q .y) ys (λ i. refl) n (p .inYs) rs in
+    ap (λ (s : Greatest). s .best) ((rw (cx, ry) at e) ∙ try-crossings (pointsOf xs ys n) (ps-sorted (held xs ys) n (omega arith) (p .rises)))
+
+-- With no point there is no crossing.
+pub none-best : (xs ys : List ℕ) (n : ℕ) → n ≡ 0 → Nothing ≡ answerOf (best (pointsOf xs ys n))
+unfolding best candidates notHeld crossings bestAbove tab union
+none-best xs ys n e = rw e refl

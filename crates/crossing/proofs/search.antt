@@ -1,0 +1,3 @@
+-- What the proofs of the search use.
+pub mod Scan
+mod Steps

@@ -1,4 +1,0 @@
-pub mod Distances
-pub mod Filling
-pub mod Laps
-pub mod Regions

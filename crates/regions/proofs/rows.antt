@@ -1,0 +1,2 @@
+-- What the proofs of `row_gaps` and `locate` use.
+mod Location

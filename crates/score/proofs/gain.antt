@@ -1,0 +1,2 @@
+-- What the proof of `gain` uses.
+mod FourRays

@@ -1,0 +1,2 @@
+-- What the proof of `length_with` uses.
+mod Place

@@ -1,0 +1,3 @@
+-- Laws of keys.
+pub mod All
+pub mod Parts

@@ -1,0 +1,2 @@
+-- Laws of the nearest points by octants.
+pub mod OctantKeys

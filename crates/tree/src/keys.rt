@@ -1,0 +1,51 @@
+// An edge between two numbered points as one number, its key: (length * 128 + low) * 128 + high, where low and high are the numbers of
+// its two points, low the smaller. One comparison of keys compares lengths, then low, then high.
+ghost use mathlib.Core.Path.{_≡_};
+ghost use Prim.Native.Nat.{_≤_, _<_};
+ghost use Rattle.tree.specs.Keys as spec;
+
+// How many points can have a number: as many as a deck has, 64 pins and 64 Steiner points.
+pub const PLACES: usize = 128;
+
+// The same as a factor of keys, and what stands above the two numbers of a key: PLACES * PLACES.
+const FACTOR: u64 = 128;
+
+const PAIRS: u64 = 16384;
+
+// Larger than every key, since the longest edge has 17 bits and two numbers have 14.
+pub const NO_KEY: u64 = 4294967295;
+
+// The key of an edge of length d.
+pub fn key(d: u32, i: usize, j: usize) -> u64
+    requires { ⌜ (d ≤ spec.longest) × (i < spec.places) × (j < spec.places) ⌝ }
+    ensures { λ r. ⌜ r ≡ spec.key d i j ⌝ }
+{
+    (d as u64 * FACTOR + i as u64) * FACTOR + j as u64
+}
+
+// The two numbers of a key, the smaller first.
+pub fn low(k: u64) -> usize
+    ensures { λ r. ⌜ r ≡ spec.low k ⌝ }
+{
+    (k / FACTOR % FACTOR) as usize
+}
+
+pub fn high(k: u64) -> usize
+    ensures { λ r. ⌜ r ≡ spec.high k ⌝ }
+{
+    (k % FACTOR) as usize
+}
+
+// The length of a key's edge.
+pub fn weight(k: u64) -> u64
+    ensures { λ r. ⌜ r ≡ spec.weight k ⌝ }
+{
+    k / PAIRS
+}
+
+// The two numbers of a key as one, which compares by low and then high: the listing order.
+pub fn ends(k: u64) -> u64
+    ensures { λ r. ⌜ r ≡ spec.endsOf k ⌝ }
+{
+    k % PAIRS
+}
