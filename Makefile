@@ -25,10 +25,10 @@ library:
 replay_library:
 	rt staticlib replay
 
-# The proved functions as libraries for Rust. One after the other, since each looks through what is proved already.
+# The proved functions as libraries for the tests in Rust. One after the other, since each looks through what is proved already.
 entries:
-	rt staticlib tree_entries
-	rt staticlib deck_entries
+	rt staticlib test_tree
+	rt staticlib test_deck
 	rt staticlib planner
 	rt staticlib replay
 

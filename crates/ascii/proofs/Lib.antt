@@ -1,4 +1,3 @@
 pub mod Decimals
-pub mod Fitting
+pub mod Room
 pub mod Signs
-pub mod Spelling

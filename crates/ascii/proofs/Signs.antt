@@ -74,7 +74,8 @@ coordinate-few u h = go (coordinate u) (coordinate-value u)
     go (negsuc n) e = unfold signedDecimal in omega (arith, decimal-few (suc n) (omega arith))
 
 -- What is written for a whole number read back from its bits is written for the number.
-pub signed-again : (z : ℤ) {old new : List ℕ} {at r : ℕ} → SFits w32 z → Pasted (signedDecimal (toZ w32 (ofZ w32 z))) old new at r → Pasted (signedDecimal z) old new at r
+pub signed-again : (z : ℤ) {old new : List ℕ} {at r : ℕ} → SFits w32 z → Pasted (signedDecimal (toZ w32 (ofZ w32 z))) old new at r
+    → Pasted (signedDecimal z) old new at r
 signed-again z f p = pasted-same (ap signedDecimal (toZ-ofZ w32 z f)) p
 
 pub field-again : (z : ℤ) {old new : List ℕ} {at r : ℕ} → SFits w32 z → Pasted (field (signedDecimal (toZ w32 (ofZ w32 z)))) old new at r
@@ -99,7 +100,8 @@ module _ (z : ℤ) (old new : List ℕ) (m at r : ℕ) (f : SFits w32 z) (e : m 
       written (pasted-same (ap decimal size ∙ text-plus z (ap (λ (y : ℤ). ltZ y (pos 0)) (sym (toZ-ofZ w32 z f)) ∙ l)) p)
 
 -- A coordinate, read back from its bits, as a field.
-pub coordinate-put : (z : ℤ) (old new : List ℕ) (u at r : ℕ) → SFits w32 z → z ≡ coordinate u → Pasted (field (signedDecimal (toZ w32 (ofZ w32 z)))) old new at r
+pub coordinate-put : (z : ℤ) (old new : List ℕ) (u at r : ℕ) → SFits w32 z → z ≡ coordinate u
+    → Pasted (field (signedDecimal (toZ w32 (ofZ w32 z)))) old new at r
     → u < 65536 → Pasted (field (signedDecimal (coordinate u))) old new at r × (r ≤ at + 7)
 coordinate-put z old new u at r f e p h =
     let q : Pasted (field (signedDecimal (coordinate u))) old new at r = pasted-same (ap (λ (y : ℤ). field (signedDecimal y)) (toZ-ofZ w32 z f ∙ e)) p in

@@ -5,6 +5,23 @@ use lib.Dec.{leb}
 use lib.ListN.{length}
 use Rattle.arrays.specs.Test.{if}
 
+-- The most digits of a number of 64 bits. Room for a number with a sign, with a space in front, and with both.
+abbrev pub mostDigits : ℕ
+mostDigits = 20
+
+abbrev pub signedRoom : ℕ
+signedRoom = 21
+
+abbrev pub fieldRoom : ℕ
+fieldRoom = 21
+
+abbrev pub signedFieldRoom : ℕ
+signedFieldRoom = 22
+
+-- Room for what stands in front of a file in its line: a word and its length.
+abbrev pub fileHeadRoom : ℕ
+fileHeadRoom = 64
+
 -- The text, where the slice has room for the longest of its kind; else nothing.
 abbrev pub fitting : ℕ → List ℕ → List ℕ → List ℕ
 fitting room before text = if (leb room (length before)) (λ _. text) (λ _. [])

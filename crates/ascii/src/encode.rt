@@ -7,7 +7,10 @@ ghost use Prim.Native.Nat.{_+_, _*_, _≤_, _<_};
 ghost use lib.ListN.{length, take};
 ghost use Rattle.arrays.specs.Paste.{Pasted, each};
 ghost use Rattle.ascii.specs.Encoding as text;
-ghost use Rattle.ascii.specs.Text.{fitting};
+ghost use Rattle.ascii.specs.Text.{fitting, fileHeadRoom};
+
+// Room for what stands in front of a file in its line: a word and its length.
+const HEAD_ROOM: usize = 64;
 
 // The digit of a number below 16.
 fn digit(n: u8) -> u8
@@ -44,12 +47,13 @@ fn pairs(bytes: &[u8], out: &mut [u8], at: usize) -> usize
 // The line of a file at the front of `out`, which has to have room for two bytes for each byte of the file and 64 more. Returns
 // its length; 0 where there is no room.
 pub fn file_line(file: &[u8], out: &mut [u8]) -> usize
-    ensures { λ r. ⌜ Pasted (fitting (64 + 2 * length (now (file .entry))) (now (out .entry)) (text.fileText (now (file .entry)))) (now (out .entry)) (now (out .exit)) 0 r ⌝ }
+    ensures { λ r. ⌜ Pasted (fitting (fileHeadRoom + 2 * length (now (file .entry))) (now (out .entry)) (text.fileText (now (file .entry))))
+        (now (out .entry)) (now (out .exit)) 0 r ⌝ }
 {
-    if out.len() < 64 {
+    if out.len() < HEAD_ROOM {
         return 0;
     }
-    if (out.len() - 64) / 2 < file.len() {
+    if (out.len() - HEAD_ROOM) / 2 < file.len() {
         return 0;
     }
     let a = put_bytes(out, 0, b"file");
@@ -67,7 +71,7 @@ fn body_length(lines: &[u8]) -> usize
     if n == 0 {
         return 0;
     }
-    if lines[n - 1] == 10 {
+    if lines[n - 1] == b'\n' {
         return n - 1;
     }
     n
@@ -79,7 +83,7 @@ fn spread(out: &mut [u8], at: usize, b: u8) -> usize
     ensures { λ r. ⌜ Pasted (text.spread b) (now (out .entry)) (now (out .exit)) at r ⌝ }
     ensures { λ r. ⌜ r ≤ at + 3 ⌝ }
 {
-    if b == 10 {
+    if b == b'\n' {
         return put_bytes(out, at, b" / ");
     }
     put_byte(out, at, b)
@@ -102,8 +106,9 @@ fn spread_all(lines: &[u8], n: usize, out: &mut [u8]) -> usize
 
 // The lines of a text joined by ` / ` at the front of `out`, which has to have room for three times as many bytes. Returns the
 // length; 0 where there is no room.
-pub fn joined(lines: &[u8], out: &mut [u8]) -> usize
-    ensures { λ r. ⌜ Pasted (fitting (3 * length (now (lines .entry))) (now (out .entry)) (text.joinedLines (now (lines .entry)))) (now (out .entry)) (now (out .exit)) 0 r ⌝ }
+pub fn join_lines(lines: &[u8], out: &mut [u8]) -> usize
+    ensures { λ r. ⌜ Pasted (fitting (3 * length (now (lines .entry))) (now (out .entry)) (text.joinedLines (now (lines .entry))))
+        (now (out .entry)) (now (out .exit)) 0 r ⌝ }
 {
     if out.len() / 3 < lines.len() {
         return 0;

@@ -9,15 +9,19 @@ ghost use lib.IntN.{natAbs};
 ghost use lib.ListN.{length, drop};
 ghost use Rattle.model.specs.Listing as model;
 ghost use Rattle.arrays.specs.Paste.{Pasted};
+ghost use Rattle.ascii.specs.Text.{mostDigits, signedRoom, fieldRoom, signedFieldRoom};
 
-// The digits of n in base ten at the end of 20 places. Returns where they start.
+// The most digits of a number of 64 bits.
+const DIGITS: usize = 20;
+
+// The digits of n in base ten at the end of DIGITS places. Returns where they start.
 fn digits(n: u64, places: &mut [u8]) -> usize
-    requires { ⌜ length (now places) ≡ 20 ⌝ }
-    ensures { λ r. ⌜ r ≤ 20 ⌝ }
+    requires { ⌜ length (now places) ≡ mostDigits ⌝ }
+    ensures { λ r. ⌜ r ≤ mostDigits ⌝ }
     ensures { λ r. ⌜ drop r (now (places .exit)) ≡ model.decimal n ⌝ }
 {
     let mut rest = n;
-    let mut i = 20;
+    let mut i = DIGITS;
     while 0 < i {
         i -= 1;
         places[i] = (48 + rest % 10) as u8;
@@ -31,11 +35,11 @@ fn digits(n: u64, places: &mut [u8]) -> usize
 
 // A number in base ten, of at most 20 digits.
 pub fn decimal(out: &mut [u8], at: usize, n: u64) -> usize
-    requires { ⌜ at + 20 ≤ length (now out) ⌝ }
+    requires { ⌜ at + mostDigits ≤ length (now out) ⌝ }
     ensures { λ r. ⌜ Pasted (model.decimal n) (now (out .entry)) (now (out .exit)) at r ⌝ }
-    ensures { λ r. ⌜ r ≤ at + 20 ⌝ }
+    ensures { λ r. ⌜ r ≤ at + mostDigits ⌝ }
 {
-    let mut places = [0u8; 20];
+    let mut places = [0u8; DIGITS];
     let start = digits(n, &mut places);
     put_bytes(out, at, &places[start..])
 }
@@ -49,9 +53,9 @@ fn magnitude(z: i32) -> u64
 
 // A whole number in base ten, with a minus sign in front where it is negative.
 pub fn signed(out: &mut [u8], at: usize, z: i32) -> usize
-    requires { ⌜ at + 21 ≤ length (now out) ⌝ }
+    requires { ⌜ at + signedRoom ≤ length (now out) ⌝ }
     ensures { λ r. ⌜ Pasted (model.signedDecimal z) (now (out .entry)) (now (out .exit)) at r ⌝ }
-    ensures { λ r. ⌜ r ≤ at + 21 ⌝ }
+    ensures { λ r. ⌜ r ≤ at + signedRoom ⌝ }
 {
     if z < 0 {
         let next = put_byte(out, at, b'-');
@@ -62,9 +66,9 @@ pub fn signed(out: &mut [u8], at: usize, z: i32) -> usize
 
 // A space and a number.
 pub fn decimal_field(out: &mut [u8], at: usize, n: u64) -> usize
-    requires { ⌜ at + 21 ≤ length (now out) ⌝ }
+    requires { ⌜ at + fieldRoom ≤ length (now out) ⌝ }
     ensures { λ r. ⌜ Pasted (model.field (model.decimal n)) (now (out .entry)) (now (out .exit)) at r ⌝ }
-    ensures { λ r. ⌜ r ≤ at + 21 ⌝ }
+    ensures { λ r. ⌜ r ≤ at + fieldRoom ⌝ }
 {
     let next = put_byte(out, at, b' ');
     decimal(out, next, n)
@@ -72,9 +76,9 @@ pub fn decimal_field(out: &mut [u8], at: usize, n: u64) -> usize
 
 // A space and a whole number.
 pub fn signed_field(out: &mut [u8], at: usize, z: i32) -> usize
-    requires { ⌜ at + 22 ≤ length (now out) ⌝ }
+    requires { ⌜ at + signedFieldRoom ≤ length (now out) ⌝ }
     ensures { λ r. ⌜ Pasted (model.field (model.signedDecimal z)) (now (out .entry)) (now (out .exit)) at r ⌝ }
-    ensures { λ r. ⌜ r ≤ at + 22 ⌝ }
+    ensures { λ r. ⌜ r ≤ at + signedFieldRoom ⌝ }
 {
     let next = put_byte(out, at, b' ');
     signed(out, next, z)

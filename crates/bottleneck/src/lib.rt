@@ -3,7 +3,7 @@
 //
 // The entry of the numbers u and v stands at u * PLACES + v. Kruskal's pass fills the table: the key that merges two labels is the
 // longest so far, so its length is the bottleneck of each number with the one label and each with the other.
-use tree::keys::PLACES;
+use plane::PLACES;
 use tree::keys::high;
 use tree::keys::low;
 use tree::keys::weight;

@@ -1,2 +1,2 @@
-pub mod Calling
-pub mod Rounding
+pub mod PointCalls
+pub mod RoundCalls

@@ -2,6 +2,7 @@
 // a refused call hands back the one it was given.
 use plane::codes::Located;
 use plane::codes::locate;
+use points::MAX_PINS;
 use rounds::Step;
 use working::Working;
 ghost use mathlib.Core.Path.{_≡_};
@@ -61,7 +62,7 @@ fn refuse(w: Working, number: u8) -> Changed
     }
 }
 
-// Adds a pin at a place in range.
+// Adds a pin at a point in range.
 fn add_at(w: Working, k: u64) -> Changed
     requires { ⌜ InOrder w ⌝ }
     requires { ⌜ T (isCode k) ⌝ }
@@ -71,7 +72,7 @@ fn add_at(w: Working, k: u64) -> Changed
     let pins = w.points.pins;
     let npins = w.points.npins;
     let there = arrays::sorted::has(&pins, npins, k);
-    let full = 64 <= npins;
+    let full = MAX_PINS <= npins;
     if there {
         return refuse(w, 8);
     }
@@ -85,7 +86,7 @@ fn add_at(w: Working, k: u64) -> Changed
     }
 }
 
-// Withdraws a pin at a place in range.
+// Withdraws a pin at a point in range.
 fn withdraw_at(w: Working, k: u64) -> Changed
     requires { ⌜ InOrder w ⌝ }
     requires { ⌜ T (isCode k) ⌝ }

@@ -8,9 +8,9 @@ pub mod search;
 
 use found::Best;
 use found::Greatest;
+use plane::PLACES;
 use prepare::lines;
 use prepare::prepare;
-use regions::rows::PLACES;
 use regions::rows::blank;
 use score::gain::FAR;
 use search::all_columns;

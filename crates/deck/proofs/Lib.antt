@@ -1,6 +1,4 @@
-pub mod Asking
-pub mod Calling
-pub mod Checking
-pub mod Forms
-pub mod FromWorking
+pub mod Calls
+pub mod Form
+pub mod Questions
 pub mod Session

@@ -22,9 +22,9 @@ use Rattle.deck.specs.Calls.{answer, called}
 use Rattle.deck.specs.Questions.{asked}
 use Rattle.questions.specs.Answers.{lengthAnswer, edgeAtAnswer}
 use Rattle.deck.specs.Session.{deckAfter, replies, reckoned, DeckRoundsTo, ended, added, SessionDeck, DeckSessions}
-use Rattle.deck.proofs.Forms.{state-deck, deck-sound, sound-is}
-use Rattle.deck.proofs.Calling.{called-sound}
-use Rattle.deck.proofs.Asking.{asked-sound}
+use Rattle.deck.proofs.Form.{state-deck, deck-sound, sound-is}
+use Rattle.deck.proofs.Calls.{called-sound}
+use Rattle.deck.proofs.Questions.{asked-sound}
 
 module _ (s : State) (v : Valid s) where
   pub valid-passes : sound (deckOf s) ≡ true

@@ -1,24 +1,17 @@
 -- The struct of a deck and the state that it stands for.
 use mathlib.Core.Path.{_≡_}
 use mathlib.Core.Bool.{Bool, _&&_}
-use mathlib.Core.List.{List, map}
-use Prim.Native.Nat.{ℕ}
 use lib.Dec.{eqb}
 use Rattle.arrays.specs.Same.{sameList}
 use Rattle.model.specs.State.{State, points, Valid, valid}
-use Rattle.model.specs.Question.{listed}
-use Rattle.tree.specs.Keys.{endsAt}
 use Rattle.points.specs.declared.Points.{Points}
 use Rattle.points.specs.Coded as coded
+use Rattle.working.specs.Edges.{edgeRow}
 use Rattle.deck.specs.declared.Deck.{Deck}
-
--- The edges of a state in the listing order, each by the numbers of its ends in one.
-abbrev pub edgeNumbers : State → List ℕ
-edgeNumbers s = map (endsAt (points s)) (listed s)
 
 -- The deck of a state.
 unfoldable pub deckOf : State → Deck
-deckOf s = record { points = coded.coded s; ends = coded.padded coded.places (edgeNumbers s) }
+deckOf s = record { points = coded.coded s; ends = edgeRow s }
 
 -- The state of a deck.
 abbrev pub stateOf : Deck → State

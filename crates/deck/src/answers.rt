@@ -46,8 +46,7 @@ impl Deck {
         if !c.ok {
             return Answer::Refused(11);
         }
-        let ends = self.ends;
-        questions::edge_at(c.working, &ends, i)
+        questions::edge_at(c.working, i)
     }
 
     // The number of edges at a point, 0 where none is held.

@@ -21,7 +21,7 @@ fn refuse(d: Deck) -> Outcome
 }
 
 // The outcome of a call on a working form.
-fn outcome_of(c: Changed) -> Outcome
+pub fn outcome_of(c: Changed) -> Outcome
     requires { ⌜ work.InOrder (c .working) ⌝ }
     ensures { λ r. ⌜ r ≡ outcomeOf c ⌝ }
 {

@@ -1,8 +1,8 @@
 // Check 11: whether a deck is sound, with its working form where it is.
 use super::Deck;
-use points::PLACES;
 use points::Points;
 use working::Working;
+use working::edges::edge_numbers;
 ghost use mathlib.Core.Path.{_≡_};
 ghost use mathlib.Core.Bool.{Bool};
 ghost use Rattle.arrays.specs.Same.{sameList};
@@ -29,9 +29,7 @@ pub fn deck_of(w: Working) -> Deck
     requires { ⌜ work.InOrder w ⌝ }
     ensures { λ r. ⌜ r ≡ deckOf (work.stateOf w) ⌝ }
 {
-    let keys = w.keys;
-    let mut ends = [0u64; PLACES];
-    tree::list::listing(&keys, w.nkeys, &mut ends);
+    let ends = edge_numbers(w);
     let points = w.points;
     Deck { points, ends }
 }

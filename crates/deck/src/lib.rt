@@ -1,8 +1,7 @@
 // The deck: its pins, its Steiner points (document 01: taps) and the edges of its tree, with the calls and questions on it.
 mod answers;
-pub mod build;
-mod changes;
-mod check;
+pub mod changes;
+pub mod check;
 
 use calls::Reply;
 use points::PLACES;

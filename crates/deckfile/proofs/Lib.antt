@@ -1,5 +1,4 @@
-pub mod Listing
-pub mod Reading
+pub mod Checks
 pub mod RoundTrip
-pub mod Showing
-pub mod Writing
+pub mod Runs
+pub mod Stored

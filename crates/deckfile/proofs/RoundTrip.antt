@@ -3,17 +3,19 @@ use mathlib.Core.Path.{_≡_, refl, sym, ap, _∙_, subst, subst⁻¹}
 use mathlib.Core.Logic.{_⊎_, inl, inr, ⊎-elim}
 use mathlib.Core.Bool.{Bool, true, false, not}
 use mathlib.Core.List.{List, _++_}
-use Prim.Native.Nat.{ℕ, _+_, _-_, _≤_, _<_}
+use Prim.Native.Nat.{ℕ, _+_, _*_, _≤_, _<_}
 use native.Mathlib.Omega.{arith}
 use lib.Dec.{T, not-T, leb, leb→le, eqb, eqb→eq}
 use lib.ListN.{length, take, drop}
 use lib.Seq.{take-at}
 use Rattle.arrays.specs.Test.{if}
 use Rattle.arrays.proofs.Test.{and-parts}
-use Rattle.model.specs.State.{State, empty}
+use Rattle.model.specs.State.{State, empty, points, Valid}
+use Rattle.model.specs.Question.{listed}
+use Rattle.points.proofs.Coded.{pins-count, valid-few}
 use Rattle.model.specs.File.{Read, deck, refusal, readFile, size, plain, sectionOf, runSection, fileOf}
 use Rattle.model.proofs.Bytes.{section-length}
-use Rattle.model.proofs.FileSize.{file-size}
+use Rattle.model.proofs.FileSize.{file-size, runs-length}
 use Rattle.model.proofs.FileParts.{joined, joined-laid}
 use Rattle.model.proofs.FileValid.{file-valid}
 use Rattle.model.proofs.FileRoundTrip.{written-read, full-written-back}
@@ -22,13 +24,13 @@ use Rattle.deck.specs.declared.Deck.{Deck}
 use Rattle.deck.specs.declared.Outcome.{Outcome}
 use Rattle.calls.specs.declared.Reply.the-variants as reply
 use Rattle.deck.specs.Form.{deckOf, stateOf, Sound, sound}
-use Rattle.deck.proofs.Forms.{state-deck, deck-sound, sound-is, sound-few, sound-left}
+use Rattle.deck.proofs.Form.{state-deck, deck-sound, sound-is, sound-arranged}
 use Rattle.deckfile.specs.declared.Written.the-variants.{Refused, Length}
 use Rattle.deckfile.specs.Reading.{outcomeOf, reading, accepting}
 use Rattle.deckfile.specs.Writing.{written, left}
 use Rattle.deckfile.specs.RoundTrip.{ReadSound, SoundFits, WrittenRead, FullWrittenBack, PlainWrittenFull}
-use Rattle.deckfile.proofs.Listing.{pins-are, steiner-are, edges-long}
-use Rattle.deckfile.proofs.Writing.{write-fits}
+use Rattle.deckfile.proofs.Runs.{edge-count}
+use Rattle.deckfile.proofs.Stored.{write-fits}
 
 pub read-sound : ReadSound
 unfolding outcomeOf
@@ -105,32 +107,25 @@ full-back b d l h e full k =
     let s = shown-sound b d v in
     let same : fileOf (stateOf d) ≡ b =
     ap fileOf (shown-state b d v)
-    ∙ full-written-back b (v .state) h (v .read) (⊎-elim inl (λ m. inr (subst (λ (z : State). length (z .pins) ≤ 1) (shown-state b d v) (subst (λ (z : ℕ). z ≤ 1) (pins-are d s) m))) full) in
+    ∙ full-written-back b (v .state) h (v .read) (⊎-elim inl (λ m. inr (subst (λ (z : State). length (z .pins) ≤ 1) (shown-state b d v) (subst (λ (z : ℕ). z ≤ 1) (sym (pins-count (d .points) (sound-arranged d s))) m))) full) in
     let w = write-fits d l s (subst⁻¹ (λ (f : List ℕ). length f ≤ length l) same k) in
     (w .0 ∙ ap (λ (f : List ℕ). Length (length f)) same, w .1 ∙ ap (λ (f : List ℕ). f ++ drop (length f) l) same)
 
--- The file of a deck of two pins or more has edges.
-not-plain : (d : Deck) → Sound d → 2 ≤ d .points .npins → T (not (plain (fileOf (stateOf d))))
+-- The file of a state of two pins or more has edges.
+not-plain : (s : State) → Valid s → 2 ≤ length (s .pins) → T (not (plain (fileOf s)))
 unfolding fileOf joined
-not-plain d s h =
-    not-T (plain (fileOf (stateOf d)))
-    (λ t. let e : size (fileOf (stateOf d)) 2 ≡ 0 = eqb→eq _ 0 (and-parts (eqb (size (fileOf (stateOf d)) 1) 0) (eqb (size (fileOf (stateOf d)) 2) 0) t .1) in
-    omega (arith, joined-laid (sectionOf (stateOf d .pins)) (sectionOf (stateOf d .steiner)) (runSection (stateOf d)) small .size₂, edges-long d s))
+not-plain s v h =
+    not-T (plain (fileOf s))
+    (λ t. let e : size (fileOf s) 2 ≡ 0 = eqb→eq _ 0 (and-parts (eqb (size (fileOf s) 1) 0) (eqb (size (fileOf s) 2) 0) t .1) in
+    omega (arith, joined-laid (sectionOf (s .pins)) (sectionOf (s .steiner)) (runSection s) small .size₂, long, edge-count s v))
   where
-    small : 30 + length (sectionOf (stateOf d .pins)) + length (sectionOf (stateOf d .steiner)) + length (runSection (stateOf d)) < 4294967296
-    small =
-        omega (
-          arith,
-          section-length (stateOf d .pins),
-          section-length (stateOf d .steiner),
-          edges-long d s,
-          pins-are d s,
-          steiner-are d s,
-          sound-few d s,
-          sound-left d s,
-        )
+    long : length (runSection s) ≡ 2 * length (listed s)
+    long = runs-length (points s) (listed s)
+
+    small : 30 + length (sectionOf (s .pins)) + length (sectionOf (s .steiner)) + length (runSection s) < 4294967296
+    small = omega (arith, section-length (s .pins), section-length (s .steiner), long, edge-count s v, valid-few s v)
 
 pub plain-full : PlainWrittenFull
 plain-full b d l n e h w =
     let f = wrote d l n w in
-    subst⁻¹ (λ (x : List ℕ). T (not (plain x))) (wrote-file d l n f) (not-plain d (f .sound) h)
+    subst⁻¹ (λ (x : List ℕ). T (not (plain x))) (wrote-file d l n f) (not-plain (stateOf d) (f .sound .valid) (subst⁻¹ (λ (k : ℕ). 2 ≤ k) (pins-count (d .points) (sound-arranged d (f .sound))) h))

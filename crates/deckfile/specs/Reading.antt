@@ -1,13 +1,18 @@
 -- What reading a file answers.
-use mathlib.Core.Bool.{true, false}
+use mathlib.Core.Path.{_≡_}
 use mathlib.Core.List.{List}
 use Prim.Native.Nat.{ℕ}
+use lib.Dec.{T}
 use Rattle.arrays.specs.Test.{if}
 use Rattle.model.specs.State.{State, empty, valid}
 use Rattle.model.specs.File.{Read, deck, refusal, readFile, shown, showsDeck}
 use Rattle.deck.specs.declared.Deck.{Deck}
-use Rattle.deck.specs.declared.build.Built.{Built}
+use Rattle.deck.specs.declared.check.Checked.{Checked}
 use Rattle.deck.specs.declared.Outcome.{Outcome}
+use Rattle.working.specs.InOrder as work
+use Rattle.working.specs.InOrder.{InOrder}
+use Rattle.calls.specs.declared.Changed.{Changed}
+use Rattle.calls.specs.declared.Reply.{Reply}
 use Rattle.calls.specs.declared.Reply.the-variants.{Done, Refused}
 use Rattle.deck.specs.Form.{deckOf}
 
@@ -27,10 +32,27 @@ outcomeOf (refusal n) = refusing n
 abbrev pub reading : List ℕ → Outcome
 reading b = outcomeOf (readFile b)
 
--- The deck of the points of a state, or an empty one where the state is not valid.
-unfoldable pub builtOf : State → Built
-builtOf s = if (valid s) (λ _. record { ok = true; deck = deckOf s }) (λ _. record { ok = false; deck = deckOf empty })
+-- The state that reading hands back, and its reply.
+unfoldable pub stateRead : Read → State
+stateRead (deck s) = s
+stateRead (refusal n) = empty
+
+unfoldable pub replyRead : Read → Reply
+replyRead (deck s) = Done
+replyRead (refusal n) = Refused n
+
+-- What reading answers, with the working form of the deck that it hands back.
+pub record ReadTo (r : Read) (c : Changed) : Type 0 where
+  pub inOrder : InOrder (c .working)
+  pub state : work.stateOf (c .working) ≡ stateRead r
+  pub reply : c .reply ≡ replyRead r
+
+-- The working form of the points of a state, where the state is valid.
+pub record WorkingFor (s : State) (r : Checked) : Type 0 where
+  pub ok : r .ok ≡ valid s
+  pub inOrder : T (valid s) → InOrder (r .working)
+  pub state : T (valid s) → work.stateOf (r .working) ≡ s
 
 -- Check 6: what is answered after all others passed.
-unfoldable pub showing : List ℕ → Outcome
-showing b = if (showsDeck b (shown b)) (λ _. accepting (deckOf (shown b))) (λ _. refusing 6)
+unfoldable pub showing : List ℕ → Read
+showing b = if (showsDeck b (shown b)) (λ _. deck (shown b)) (λ _. refusal 6)

@@ -17,14 +17,16 @@ stored s l refused done =
     let file = fileOf s in
     if (leb (length file) (length l)) (λ _. done file) (λ _. refused 12)
 
+-- What is answered then, and what is left in the buffer: the file in front and the rest as it was; a refusal keeps every byte.
+abbrev pub storedAnswer : State → List ℕ → Written
+storedAnswer s l = stored s l Refused (λ file. Length (length file))
+
+abbrev pub storedBuffer : State → List ℕ → List ℕ
+storedBuffer s l = stored s l (λ _. l) (λ file. file ++ drop (length file) l)
+
 -- Writing d into the buffer l: refused by 11 where the deck is not sound, before all else.
-abbrev pub writing : {A : Type 0} → Deck → List ℕ → (ℕ → A) → (List ℕ → A) → A
-writing d l refused done = if (sound d) (λ _. stored (stateOf d) l refused done) (λ _. refused 11)
-
--- The answer: the length of the file, or the refusal.
 unfoldable pub written : Deck → List ℕ → Written
-written d l = writing d l Refused (λ file. Length (length file))
+written d l = if (sound d) (λ _. storedAnswer (stateOf d) l) (λ _. Refused 11)
 
--- The buffer: the file in front and the rest as it was; "written buffers keep every byte" where it is refused.
 unfoldable pub left : Deck → List ℕ → List ℕ
-left d l = writing d l (λ _. l) (λ file. file ++ drop (length file) l)
+left d l = if (sound d) (λ _. storedBuffer (stateOf d) l) (λ _. l)

@@ -1,22 +1,30 @@
-// Deck files: reading one into a deck, and writing a deck into a buffer (document 01, "Deck file").
+// Deck files (document 01, "Deck file"): reading one, and writing one into a buffer. A deck is checked and its tree built once: whoever
+// goes on with a file reads and writes its working form, and `read` and `write` do the same for decks.
 pub mod answer;
 mod reader;
 mod writer;
 
+use calls::Changed;
 use deck::Deck;
 use deck::Outcome;
-use reader::deck_shown;
+use deck::changes::outcome_of;
+use deck::check::check;
 use reader::refuse;
+use reader::working_shown;
+use sections::codes::decode_points;
 use sections::header::is_headed;
 use sections::header::is_laid_out;
 use sections::header::is_whole;
 use sections::number::number4;
-use sections::points::is_placed;
+use working::Working;
 use writer::file_length;
 use writer::put_file;
 ghost use mathlib.Core.Path.{_≡_};
-ghost use Rattle.deckfile.specs.Reading.{reading};
-ghost use Rattle.deckfile.specs.Writing.{written, left};
+ghost use Rattle.model.specs.State.{Valid};
+ghost use Rattle.model.specs.File.{readFile};
+ghost use Rattle.working.specs.InOrder.{InOrder, stateOf};
+ghost use Rattle.deckfile.specs.Reading.{reading, ReadTo};
+ghost use Rattle.deckfile.specs.Writing.{storedAnswer, storedBuffer, written, left};
 
 // What writing answers: a refusal by its number, or the length of the file.
 pub enum Written {
@@ -24,9 +32,9 @@ pub enum Written {
     Length(usize),
 }
 
-// Reads a file. Refusals 1 to 6 in this order; a refusal hands back an empty deck.
-pub fn read(file: &[u8]) -> Outcome
-    ensures { λ r. ⌜ r ≡ reading (now (file .entry)) ⌝ }
+// Reads a file into a working form. Refusals 1 to 6 in this order; a refusal hands back that of an empty deck.
+pub fn read_working(file: &[u8]) -> Changed
+    ensures { λ r. ⌜ ReadTo (readFile (now (file .entry))) r ⌝ }
 {
     if !is_headed(file) {
         return refuse(1);
@@ -40,10 +48,33 @@ pub fn read(file: &[u8]) -> Outcome
     if 64 < number4(file, 10) / 4 {
         return refuse(4);
     }
-    if !is_placed(file) {
+    let found = decode_points(file);
+    if !found.ok {
         return refuse(5);
     }
-    deck_shown(file)
+    working_shown(file, found)
+}
+
+// Reads a file into a deck.
+pub fn read(file: &[u8]) -> Outcome
+    ensures { λ r. ⌜ r ≡ reading (now (file .entry)) ⌝ }
+{
+    outcome_of(read_working(file))
+}
+
+// Writes the file of a working form to the front of a buffer. Refusal 12 where there is no room; it keeps every byte.
+pub fn write_working(w: Working, out: &mut [u8]) -> Written
+    requires { ⌜ InOrder w ⌝ }
+    requires { ⌜ Valid (stateOf w) ⌝ }
+    ensures { λ r. ⌜ r ≡ storedAnswer (stateOf w) (now (out .entry)) ⌝ }
+    ensures { λ _. ⌜ now (out .exit) ≡ storedBuffer (stateOf w) (now (out .entry)) ⌝ }
+{
+    let n = file_length(w);
+    if out.len() < n {
+        return Written::Refused(12);
+    }
+    put_file(w, out);
+    Written::Length(n)
 }
 
 // Writes the file of a deck to the front of a buffer. Refusals in the order 11, 12; a refusal keeps every byte.
@@ -51,13 +82,9 @@ pub fn write(d: Deck, out: &mut [u8]) -> Written
     ensures { λ r. ⌜ r ≡ written d (now (out .entry)) ⌝ }
     ensures { λ _. ⌜ now (out .exit) ≡ left d (now (out .entry)) ⌝ }
 {
-    if !d.is_valid() {
+    let c = check(d);
+    if !c.ok {
         return Written::Refused(11);
     }
-    let n = file_length(d);
-    if out.len() < n {
-        return Written::Refused(12);
-    }
-    put_file(d, out);
-    Written::Length(n)
+    write_working(c.working, out)
 }

@@ -1,62 +1,63 @@
-// The deck that a file shows: check 6.
+// The working form that a file shows: check 6.
+use arrays::paste::put_numbers;
+use calls::Changed;
 use calls::Reply;
-use deck::Deck;
-use deck::Outcome;
-use deck::build::Built;
-use deck::build::build;
-use points::MAX_PINS;
+use deck::check::Checked;
+use deck::check::working_of;
 use points::PLACES;
 use points::Points;
+use sections::codes::FilePoints;
 use sections::edges::same_edges;
 use sections::header::is_plain;
 use sections::number::number4;
-use sections::points::decode;
-use tree::list::edges_of;
+use working::Working;
+use working::edges::edge_numbers;
 ghost use mathlib.Core.Path.{_≡_};
 ghost use Prim.Native.Nat.{_≤_};
 ghost use lib.Dec.{T};
-ghost use Rattle.model.specs.State.{placed};
 ghost use Rattle.arrays.specs.Same.{sameList};
-ghost use Rattle.model.specs.File.{size, section, shown, runSection};
-ghost use Rattle.deck.specs.Form.{Sound, stateOf};
+ghost use Rattle.model.specs.State.{Valid, placed};
+ghost use Rattle.model.specs.File.{deck, refusal, size, section, shown, runSection};
+ghost use Rattle.working.specs.InOrder.{InOrder, stateOf};
 ghost use Rattle.sections.specs.Layout.{Sections, FewPins};
-ghost use Rattle.deckfile.specs.Reading.{refusing, accepting, builtOf, showing};
+ghost use Rattle.sections.specs.Codes.{Decodes};
+ghost use Rattle.deckfile.specs.Reading.{ReadTo, WorkingFor, showing};
 
 // A refusal: reading hands back an empty deck.
-pub fn refuse(number: u8) -> Outcome
-    ensures { λ r. ⌜ r ≡ refusing number ⌝ }
+pub fn refuse(number: u8) -> Changed
+    ensures { λ r. ⌜ ReadTo (refusal number) r ⌝ }
 {
-    Outcome {
-        next: Deck::empty(),
+    Changed {
+        working: working::arrange(Points::empty()),
         reply: Reply::Refused(number),
     }
 }
 
-fn accept(d: Deck) -> Outcome
-    ensures { λ r. ⌜ r ≡ accepting d ⌝ }
+fn accept(w: Working) -> Changed
+    requires { ⌜ InOrder w ⌝ }
+    ensures { λ r. ⌜ ReadTo (deck (stateOf w)) r ⌝ }
 {
-    Outcome {
-        next: d,
+    Changed {
+        working: w,
         reply: Reply::Done,
     }
 }
 
-// The deck of the points shown, if they are those of a valid state. A valid state has at most 62 Steiner points.
-fn points_deck(b: &[u8]) -> Built
+// The working form of the points shown, if they are those of a valid state. A valid state has at most 62 Steiner points.
+fn points_working(b: &[u8], found: FilePoints) -> Checked
     requires { ⌜ Sections (now b) ⌝ }
-    requires { ⌜ FewPins (now b) ⌝ }
+    requires { ⌜ Decodes (now b) found ⌝ }
     requires { ⌜ T (placed (shown (now b))) ⌝ }
     requires { ⌜ size (now b) 1 ≤ 248 ⌝ }
-    ensures { λ r. ⌜ r ≡ builtOf (shown (now (b .entry))) ⌝ }
+    ensures { λ r. ⌜ WorkingFor (shown (now (b .entry))) r ⌝ }
 {
-    let size = number4(b, 10);
-    let n = size / 4;
+    let n = number4(b, 10) / 4;
     let m = number4(b, 18) / 4;
-    let mut pins = [0u64; MAX_PINS];
+    let pins = found.pins;
+    let all = found.steiner;
     let mut steiner = [0u64; PLACES];
-    decode(b, 30, n, &mut pins);
-    decode(b, 30 + size, m, &mut steiner);
-    build(Points {
+    put_numbers(&mut steiner, 0, &all[..m]);
+    working_of(Points {
         pins,
         npins: n,
         steiner,
@@ -64,40 +65,40 @@ fn points_deck(b: &[u8]) -> Built
     })
 }
 
-// Whether the third section holds the edges of a deck.
-fn has_edges(b: &[u8], d: Deck) -> bool
+// Whether the third section holds the edges of a working form.
+fn has_edges(b: &[u8], w: Working) -> bool
     requires { ⌜ Sections (now b) ⌝ }
-    requires { ⌜ Sound d ⌝ }
-    ensures { λ r. ⌜ r ≡ sameList (section (now (b .entry)) 2) (runSection (stateOf d)) ⌝ }
+    requires { ⌜ InOrder w ⌝ }
+    requires { ⌜ Valid (stateOf w) ⌝ }
+    ensures { λ r. ⌜ r ≡ sameList (section (now (b .entry)) 2) (runSection (stateOf w)) ⌝ }
 {
-    let n = edges_of(d.points.npins + d.points.nsteiner);
-    if number4(b, 26) != 2 * n {
+    if number4(b, 26) != 2 * w.nkeys {
         return false;
     }
-    let ends = d.ends;
-    same_edges(b, number4(b, 22), &ends, n)
+    let ends = edge_numbers(w);
+    same_edges(b, number4(b, 22), &ends, w.nkeys)
 }
 
-// 6: "not plain, and its runs break the order or number rules above, or it shows no sound deck"
-pub fn deck_shown(b: &[u8]) -> Outcome
+// Check 6: a file that is not plain has the edges of its deck, and every file shows the points of a valid state.
+pub fn working_shown(b: &[u8], found: FilePoints) -> Changed
     requires { ⌜ Sections (now b) ⌝ }
     requires { ⌜ FewPins (now b) ⌝ }
+    requires { ⌜ Decodes (now b) found ⌝ }
     requires { ⌜ T (placed (shown (now b))) ⌝ }
-    ensures { λ r. ⌜ r ≡ showing (now (b .entry)) ⌝ }
+    ensures { λ r. ⌜ ReadTo (showing (now (b .entry))) r ⌝ }
 {
     if 248 < number4(b, 18) {
         return refuse(6);
     }
-    let built = points_deck(b);
-    if !built.ok {
+    let c = points_working(b, found);
+    if !c.ok {
         return refuse(6);
     }
-    let d = built.deck;
     if is_plain(b) {
-        return accept(d);
+        return accept(c.working);
     }
-    if !has_edges(b, d) {
+    if !has_edges(b, c.working) {
         return refuse(6);
     }
-    accept(d)
+    accept(c.working)
 }

@@ -1,36 +1,40 @@
-// The file of a sound deck.
+// The file of a working form.
 use buffer::file::length_for;
 use buffer::file::put_parts;
-use deck::Deck;
+use working::Working;
+use working::edges::edge_numbers;
 ghost use mathlib.Core.Path.{_≡_};
 ghost use Prim.Native.Nat.{_≤_};
 ghost use lib.ListN.{length};
+ghost use Rattle.model.specs.State.{Valid};
 ghost use Rattle.model.specs.File.{fileOf};
-ghost use Rattle.deck.specs.Form.{Sound, stateOf};
+ghost use Rattle.working.specs.InOrder.{InOrder, stateOf};
 ghost use Rattle.sections.specs.Bytes.{over};
 
-// How long the file of a deck is.
-pub fn file_length(d: Deck) -> usize
-    requires { ⌜ Sound d ⌝ }
-    ensures { λ r. ⌜ r ≡ length (fileOf (stateOf d)) ⌝ }
+// How long the file is.
+pub fn file_length(w: Working) -> usize
+    requires { ⌜ InOrder w ⌝ }
+    requires { ⌜ Valid (stateOf w) ⌝ }
+    ensures { λ r. ⌜ r ≡ length (fileOf (stateOf w)) ⌝ }
 {
-    length_for(d.points.npins, d.points.nsteiner)
+    length_for(w.points.npins, w.points.nsteiner)
 }
 
-// Puts the file of a deck into a buffer that has room for it.
-pub fn put_file(d: Deck, out: &mut [u8])
-    requires { ⌜ Sound d ⌝ }
-    requires { ⌜ length (fileOf (stateOf d)) ≤ length (now out) ⌝ }
-    ensures { λ _. ⌜ now (out .exit) ≡ over 0 (fileOf (stateOf d)) (now (out .entry)) ⌝ }
+// Puts the file into a buffer that has room for it.
+pub fn put_file(w: Working, out: &mut [u8])
+    requires { ⌜ InOrder w ⌝ }
+    requires { ⌜ Valid (stateOf w) ⌝ }
+    requires { ⌜ length (fileOf (stateOf w)) ≤ length (now out) ⌝ }
+    ensures { λ _. ⌜ now (out .exit) ≡ over 0 (fileOf (stateOf w)) (now (out .entry)) ⌝ }
 {
-    let pins = d.points.pins;
-    let steiner = d.points.steiner;
-    let ends = d.ends;
+    let pins = w.points.pins;
+    let steiner = w.points.steiner;
+    let ends = edge_numbers(w);
     put_parts(
         &pins,
-        d.points.npins,
+        w.points.npins,
         &steiner,
-        d.points.nsteiner,
+        w.points.nsteiner,
         &ends,
         out,
     );

@@ -1,5 +1,6 @@
 // What the program prints for a file.
 use calls::refusal_number;
+use calls::run_to_end;
 ghost use lib.ListN.{length};
 ghost use Rattle.io.specs.Counts.{Counts};
 ghost use Rattle.model.specs.Listing.{listingOfFile};
@@ -14,14 +15,12 @@ pub fn list_file(file: &[u8], out: &mut [u8]) -> usize
     if out.len() < 8192 {
         return 0;
     }
-    let o = deckfile::read(file);
-    let reply = o.reply;
+    let c = deckfile::read_working(file);
+    let reply = c.reply;
     let n = refusal_number(reply);
     if n != 0 {
         return listing::list_refusal(n, out);
     }
-    let d = o.next;
-    let e = d.run_to_end();
-    let last = e.next;
-    listing::list(last, out)
+    let e = run_to_end(c.working);
+    listing::list_working(e.working, out)
 }

@@ -7,7 +7,7 @@ use lib.IntN.{ℤ}
 use lib.ListN.{length}
 use Rattle.io.specs.Counts as io
 use Rattle.arrays.specs.Test.{if}
-use Rattle.plane.specs.Octant.{octant}
+use Rattle.plane.specs.Octant.{octantCount, octant}
 use Rattle.model.specs.Call as call
 use Rattle.model.specs.File.{fileOf}
 use Rattle.arrays.specs.Paste.{Pasted}
@@ -26,6 +26,10 @@ use Rattle.ascii.specs.Encoding.{fileText, joinedLines}
 use Rattle.replies.specs.Replies.{errorWord, octantWord, numberText, replyText, answerText}
 use Rattle.listing.specs.Whole.{deckText}
 use Rattle.deckplay.specs.declared.answer.Played.{Played}
+
+-- Room for any answer.
+abbrev pub answerRoom : ℕ
+answerRoom = 24576
 
 -- The deck after a line, and the answer; an empty text is no answer.
 pub record Line : Type 0 where
@@ -48,14 +52,14 @@ writeText d n =
 
 -- `octant DX DY`: `error` for 0 0.
 abbrev pub octantText : ℤ → ℤ → List ℕ
-octantText x y = let k = octant x y in if (eqb k 8) (λ _. errorWord) (λ _. numberText octantWord k)
+octantText x y = let k = octant x y in if (eqb k octantCount) (λ _. errorWord) (λ _. numberText octantWord k)
 
 -- What a command asks for. No buffer for a file is longer than the longest file.
 unfoldable pub lineOf : Deck → List ℕ → Command → Line
 lineOf d b command.Blank = stays d []
 lineOf d b command.Error = stays d errorWord
 lineOf d b command.Read = changes (reading (script.fileOf b))
-lineOf d b (command.Write n) = stays d (writeText d (min n 784))
+lineOf d b (command.Write n) = stays d (writeText d (min n script.longestFile))
 lineOf d b (command.Add x y) = changes (called d (call.add (record { x = x; y = y })))
 lineOf d b (command.Withdraw x y) = changes (called d (call.withdraw (record { x = x; y = y })))
 lineOf d b command.Round = changes (called d call.oneRound)
@@ -74,5 +78,5 @@ played d b = lineOf d b (script.commandOf b)
 -- The answer of a line stands at the front of the slice.
 pub record Plays (a : Line) (before after : List ℕ) (r : Played) : Type 0 where
   pub next : r .next ≡ a .next
-  pub front : Pasted (a .text) before after 0 (r .length)
-  pub counts : io.Counts (r .length) after
+  pub front : Pasted (a .text) before after 0 (r .size)
+  pub counts : io.Counts (r .size) after

@@ -1,15 +1,20 @@
 // The lines of a script, byte by byte, with the deck that the lines so far leave.
+use super::answer::ANSWER_ROOM;
 use super::answer::play;
 use deck::Deck;
+use script::LINE_LIMIT;
 ghost use mathlib.Core.Path.{_≡_};
 ghost use Prim.Native.Nat.{_≤_};
 ghost use Rattle.deckplay.specs.Lines.{Reads, Fresh, Ends, Takes};
 
-// A script that is being read: the deck, and the line so far. Of a line 2,001 bytes are kept at most, which is one too many.
+// Of a line this many bytes are kept at most, which is one too many.
+const LINE_ROOM: usize = LINE_LIMIT + 1;
+
+// A script that is being read: the deck, and the line so far.
 pub struct Reader {
     pub deck: Deck,
-    pub line: [u8; 2001],
-    pub length: usize,
+    pub line: [u8; LINE_ROOM],
+    pub size: usize,
 }
 
 // Nothing was read.
@@ -18,8 +23,8 @@ pub fn start() -> Reader
 {
     Reader {
         deck: Deck::empty(),
-        line: [0u8; 2001],
-        length: 0,
+        line: [0u8; LINE_ROOM],
+        size: 0,
     }
 }
 
@@ -30,17 +35,17 @@ pub fn end(r: Reader) -> Reader
 {
     let line = r.line;
     let d = r.deck;
-    let mut out = [0u8; 24576];
-    let p = play(d, &line[..r.length], &mut out);
-    if 0 < p.length {
-        io::write_all(1, &out[..p.length]);
+    let mut out = [0u8; ANSWER_ROOM];
+    let p = play(d, &line[..r.size], &mut out);
+    if 0 < p.size {
+        io::write_all(1, &out[..p.size]);
         io::write_all(1, b"\n");
     }
     let deck = p.next;
     Reader {
         deck,
         line,
-        length: 0,
+        size: 0,
     }
 }
 
@@ -53,15 +58,15 @@ pub fn take(r: Reader, b: u8) -> Reader
         return end(r);
     }
     let mut line = r.line;
-    let length = r.length;
+    let size = r.size;
     let deck = r.deck;
-    if length < 2001 {
-        line[length] = b;
+    if size < LINE_ROOM {
+        line[size] = b;
         return Reader {
             deck,
             line,
-            length: length + 1,
+            size: size + 1,
         };
     }
-    Reader { deck, line, length }
+    Reader { deck, line, size }
 }

@@ -8,6 +8,9 @@ use lines::start;
 use lines::take;
 ghost use Rattle.deckplay.specs.Lines.{Reads};
 
+// How many bytes are read at a time.
+const CHUNK: usize = 4096;
+
 // Takes the bytes that were read.
 fn take_all(r: Reader, bytes: &[u8]) -> Reader
     requires { ⌜ Reads r ⌝ }
@@ -25,7 +28,7 @@ fn take_all(r: Reader, bytes: &[u8]) -> Reader
 // A proved loop has to end, and nothing says that the input does: the loop counts its turns down, from a number that no run uses up.
 fn main() {
     let mut s = start();
-    let mut chunk = [0u8; 4096];
+    let mut chunk = [0u8; CHUNK];
     let mut turns = u64::MAX;
     while 0 < turns {
         let got = libc::read(0, &mut chunk);
@@ -36,7 +39,7 @@ fn main() {
         s = take_all(s, &chunk[..n]);
         turns -= 1;
     }
-    if 0 < s.length {
+    if 0 < s.size {
         end(s);
     }
 }

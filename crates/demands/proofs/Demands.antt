@@ -21,12 +21,12 @@ use Rattle.calls.specs.declared.Reply.the-variants as reply
 use Rattle.deck.specs.Form.{deckOf, stateOf, Sound, sound}
 use Rattle.calls.specs.Changes.{replyOf}
 use Rattle.deck.specs.Calls.{answer, called}
-use Rattle.deck.proofs.Forms.{deck-sound, sound-is}
-use Rattle.deck.proofs.Calling.{called-unsound, called-sound}
-use Rattle.deck.proofs.Asking.{asked-unsound, asked-sound}
+use Rattle.deck.proofs.Form.{deck-sound, sound-is}
+use Rattle.deck.proofs.Calls.{called-unsound, called-sound}
+use Rattle.deck.proofs.Questions.{asked-unsound, asked-sound}
 use Rattle.deck.proofs.Session.{deck-sessions}
 use Rattle.deckfile.specs.Reading.{outcomeOf, reading}
-use Rattle.deckfile.proofs.Writing.{write-unsound, write-short, write-fits}
+use Rattle.deckfile.proofs.Stored.{write-unsound, write-short, write-fits}
 use Rattle.deckfile.proofs.RoundTrip.{written-then-read, full-back, plain-full}
 use Rattle.deckfile.proofs.answer.Entry.{answer-taken, answer-kept}
 use Rattle.planner.specs.Entry.{toEnd}
@@ -96,7 +96,7 @@ demand1 =
       unsoundWriting = λ d l n. let w = write-unsound d l (unsound d n) in (sym (w .0), sym (w .1));
       nextSound = next-sound;
       refusedCall = refused-call;
-      shortBuffer = λ d l s h. let w = write-short d l (passes d s) (length (fileOf (stateOf d))) refl h in (sym (w .0), sym (w .1));
+      shortBuffer = λ d l s h. let w = write-short d l (passes d s) h in (sym (w .0), sym (w .1));
       longBuffer = write-fits;
     }
 

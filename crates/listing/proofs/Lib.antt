@@ -1,3 +1,1 @@
-pub mod Answering
-pub mod Decks
-pub mod Lining
+pub mod Text

@@ -5,15 +5,21 @@ use ascii::decimal_field;
 use ascii::signed_field;
 use plane::codes::x_of;
 use plane::codes::y_of;
-ghost use mathlib.Core.Path.{_≡_};
+use working::Working;
+use working::edges::CodedEdge;
+use working::edges::edge_at;
+use working::edges::edge_numbers;
 ghost use mathlib.Core.List.{map};
-ghost use Prim.Native.Nat.{_+_, _*_, _≤_, _<_};
+ghost use Prim.Native.Nat.{_+_, _*_, _≤_};
 ghost use lib.ListN.{length, take};
 ghost use Rattle.plane.specs.Coordinate.{coordinate};
-ghost use Rattle.plane.specs.Point.{dist};
 ghost use Rattle.model.specs.Listing as model;
 ghost use Rattle.plane.specs.Code.{pointOf};
-ghost use Rattle.listing.specs.Line.{headText, tapLine, runLine, edgeAt, Ended};
+ghost use Rattle.model.specs.State.{Valid};
+ghost use Rattle.model.specs.Question.{listed};
+ghost use Rattle.working.specs.InOrder.{InOrder, stateOf};
+ghost use Rattle.working.specs.Edges.{edgeOf};
+ghost use Rattle.listing.specs.Line.{headText, tapLine, runLine};
 ghost use Rattle.arrays.specs.Paste.{Pasted};
 
 // A space and a coordinate, given in its stored form.
@@ -33,13 +39,6 @@ fn point_fields(out: &mut [u8], at: usize, k: u64) -> usize
 {
     let next = coordinate_field(out, at, x_of(k));
     coordinate_field(out, next, y_of(k))
-}
-
-// The distance of two points, given by their codes.
-fn distance_of(a: u64, b: u64) -> u64
-    ensures { λ r. ⌜ r ≡ dist (pointOf a) (pointOf b) ⌝ }
-{
-    plane::distance(x_of(a), y_of(a), x_of(b), y_of(b)) as u64
 }
 
 // The head line.
@@ -82,41 +81,31 @@ pub fn tap_lines(out: &mut [u8], at: usize, codes: &[u64], n: usize) -> usize
     next
 }
 
-// The run line of the edge between two points, given by their codes.
-fn run_line(out: &mut [u8], at: usize, a: u64, b: u64) -> usize
+// The run line of an edge.
+fn run_line(out: &mut [u8], at: usize, e: CodedEdge) -> usize
     requires { ⌜ at + 53 ≤ length (now out) ⌝ }
-    ensures { λ r. ⌜ Pasted (runLine (record { lo = pointOf a; hi = pointOf b })) (now (out .entry)) (now (out .exit)) at r ⌝ }
+    ensures { λ r. ⌜ Pasted (runLine (edgeOf e) (e .distance)) (now (out .entry)) (now (out .exit)) at r ⌝ }
     ensures { λ r. ⌜ r ≤ at + 53 ⌝ }
 {
     let n = put_bytes(out, at, b"run");
-    let p = point_fields(out, n, a);
-    let q = point_fields(out, p, b);
-    let r = decimal_field(out, q, distance_of(a, b));
+    let p = point_fields(out, n, e.low);
+    let q = point_fields(out, p, e.high);
+    let r = decimal_field(out, q, e.distance);
     put_byte(out, r, b'\n')
 }
 
-// The run lines of the first m edges between the first n points; an edge is the numbers of its two points in one.
-pub fn run_lines(
-    out: &mut [u8],
-    at: usize,
-    codes: &[u64],
-    n: usize,
-    ends: &[u64],
-    m: usize,
-) -> usize
-    requires { ⌜ at + 53 * m ≤ length (now out) ⌝ }
-    requires { ⌜ n ≤ length (now codes) ⌝ }
-    requires { ⌜ Ended (now ends) m n ⌝ }
-    ensures { λ r. ⌜ Pasted (model.runLines (map (edgeAt (now (codes .entry))) (take m (now (ends .entry))))) (now (out .entry)) (now (out .exit)) at r ⌝ }
-    ensures { λ r. ⌜ r ≤ at + 53 * m ⌝ }
+// The run lines of a working form.
+pub fn run_lines(out: &mut [u8], at: usize, w: Working) -> usize
+    requires { ⌜ at + 6625 ≤ length (now out) ⌝ }
+    requires { ⌜ InOrder w ⌝ }
+    requires { ⌜ Valid (stateOf w) ⌝ }
+    ensures { λ r. ⌜ Pasted (model.runLines (listed (stateOf w))) (now (out .entry)) (now (out .exit)) at r ⌝ }
 {
+    let ends = edge_numbers(w);
     let mut next = at;
     let mut i = 0;
-    while i < m {
-        let e = ends[i];
-        let lo = codes[(e / 128) as usize];
-        let hi = codes[(e % 128) as usize];
-        next = run_line(out, next, lo, hi);
+    while i < w.nkeys {
+        next = run_line(out, next, edge_at(w, &ends, i));
         i += 1;
     }
     next

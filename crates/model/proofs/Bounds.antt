@@ -59,4 +59,5 @@ module _ (s : State) (v : Valid s) (c : Point) (k : Candidate (points s) c) wher
   pub round-fits : treeLength (put lower c (points s)) ≤ longestTree
   round-fits =
       length-bound (put lower c (points s)) (put-sorted lower lower-order c (points s) (points-rise s (v .placed .steinerRise))) round-few
-      (λ p i. ⊎-elim (λ e. subst⁻¹ (λ z. T (inRange z)) e (candidate-range s (v .placed) c k)) (held-range s v p) (put-in lower lower-order c p (points s) .0 i))
+      (λ p i. ⊎-elim (λ e. subst⁻¹ (λ z. T (inRange z)) e (candidate-range s (v .placed) c k)) (held-range s v p)
+      (put-in lower lower-order c p (points s) .0 i))

@@ -3,7 +3,8 @@
 -- A section then goes by four bytes at a time.
 use mathlib.Core.Path.{_≡_, refl, ap, ap₂, _∙_}
 use mathlib.Core.Logic.{_⊎_, inl, inr, ⊎-elim}
-use mathlib.Core.List.{List, [], _∷_, _++_, List·Memᴰ, List·Memᴰ·head as head, List·Memᴰ·tail as tail, List·Memᴰ·cases-cons as cases, List·Memᴰ·not-nil as not-nil, List·Memᴰ·append-cases as append-cases}
+use mathlib.Core.List.{List, [], _∷_, _++_, List·Memᴰ, List·Memᴰ·head as head, List·Memᴰ·tail as tail, List·Memᴰ·cases-cons as cases}
+use mathlib.Core.List.{List·Memᴰ·not-nil as not-nil, List·Memᴰ·append-cases as append-cases}
 use Prim.Native.Nat.{ℕ, zero, suc, _+_, _*_, _/_, _%_, _≤_, _<_}
 use native.Mathlib.Nat.{add-zero, add-suc, add-assoc, div-div-eq-div-mul}
 use native.Mathlib.Omega.{arith}
@@ -192,5 +193,6 @@ split4 b i h k =
       from-place b i 1 (omega arith),
       from-place b i 2 (omega arith),
       from-place b i 3 (omega arith),
-      bytes4-of (getD b i 0) (getD b (i + 1) 0) (getD b (i + 2) 0) (getD b (i + 3) 0) (byte-at b i h) (byte-at b (i + 1) h) (byte-at b (i + 2) h) (byte-at b (i + 3) h),
+      bytes4-of (getD b i 0) (getD b (i + 1) 0) (getD b (i + 2) 0) (getD b (i + 3) 0) (byte-at b i h) (byte-at b (i + 1) h) (byte-at b (i + 2) h)
+          (byte-at b (i + 3) h),
     )

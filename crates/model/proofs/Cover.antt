@@ -26,25 +26,25 @@ Ends ps C = (e : Edge) → List·Memᴰ e C → List·Memᴰ (e .lo) ps × List�
 abbrev pub Connects : List Point → List Edge → Type 0
 Connects ps C = (u v : Point) → List·Memᴰ u ps → List·Memᴰ v ps → Conn planar (In C) v u
 
--- C with each edge turned to rise: no longer, and it connects what C connects.
-record Turned (ps : List Point) (C : List Edge) : Type 0 where
+-- C with the ends of each edge in order: no longer, and it connects what C connects.
+record Directed (ps : List Point) (C : List Edge) : Type 0 where
   list : List Edge
   inside : (e : Edge) → List·Memᴰ e list → List·Memᴰ e (edges ps)
   light : lengthOf list ≤ lengthOf C
   links : (e : Edge) → List·Memᴰ e C → Conn planar (In list) (e .hi) (e .lo)
 
 module _ (ps : List Point) (rising : Sorted Lower ps) where
-  turn : (C : List Edge) → Ends ps C → Turned ps C
+  directed : (C : List Edge) → Ends ps C → Directed ps C
   unfolding total planar
-  turn [] h = record { list = []; inside = λ e i. absurd (not-nil i); light = omega arith; links = λ e i. absurd (not-nil i) }
-  turn (e ∷ C) h = by (turn C (λ f i. h f (tail i))) (lower-order .compare (e .lo) (e .hi))
+  directed [] h = record { list = []; inside = λ e i. absurd (not-nil i); light = omega arith; links = λ e i. absurd (not-nil i) }
+  directed (e ∷ C) h = by (directed C (λ f i. h f (tail i))) (lower-order .compare (e .lo) (e .hi))
     where
       in-ends : List·Memᴰ (e .lo) ps × List·Memᴰ (e .hi) ps
       in-ends = h e (head refl)
 
       -- with the edge f, which joins the same ends and is no longer
-      with : (r : Turned ps C) (f : Edge) → List·Memᴰ f (edges ps) → edgeLength f ≤ edgeLength e
-          → ((l : List Edge) → List·Memᴰ f l → Conn planar (In l) (e .hi) (e .lo)) → Turned ps (e ∷ C)
+      with : (r : Directed ps C) (f : Edge) → List·Memᴰ f (edges ps) → edgeLength f ≤ edgeLength e
+          → ((l : List Edge) → List·Memᴰ f l → Conn planar (In l) (e .hi) (e .lo)) → Directed ps (e ∷ C)
       with r f m short joins =
           record {
             list = f ∷ r .list;
@@ -54,7 +54,7 @@ module _ (ps : List Point) (rising : Sorted Lower ps) where
                 (λ j. conn-mono (λ k m. tail m) (r .links g j)) (cases i);
           }
 
-      by : Turned ps C → Lower (e .lo) (e .hi) ⊎ ((e .lo ≡ e .hi) ⊎ Lower (e .hi) (e .lo)) → Turned ps (e ∷ C)
+      by : Directed ps C → Lower (e .lo) (e .hi) ⊎ ((e .lo ≡ e .hi) ⊎ Lower (e .hi) (e .lo)) → Directed ps (e ∷ C)
       by r (inl up) = with r e (edges-in ps rising e .1 (in-ends .0, in-ends .1, up)) (omega arith) (λ l m. conn-edge e m)
       by r (inr (inl same)) =
           record {
@@ -75,8 +75,8 @@ module _ (ps : List Point) (rising : Sorted Lower ps) where
       (λ e i. let b = edges-in ps rising e .0 i in conn-bind (t .links) (c (e .lo) (e .hi) (b .0) (b .1))))
       (t .light)
     where
-      t : Turned ps C
-      t = turn C h
+      t : Directed ps C
+      t = directed C h
 
   -- Every tree over the points, by the plain definition, is at least as long as the tree.
   pub mst-least : (t : List Edge) → Tree planar ps t → treeLength ps ≤ lengthOf t

@@ -1,11 +1,17 @@
 -- The table of decks, each row by computation: it holds, and the file of the last state of a row of calls reads back to that state.
 use mathlib.Core.Path.{refl}
 use Rattle.plane.specs.OctantTable.{octants}
-use Rattle.model.specs.Decks.{deckRow, Holds, Filed, All, play, reads, filed}
-use Rattle.model.specs.Example.{ExampleListing, exampleFile, exampleText, listed}
+use Rattle.model.specs.Decks.{deckRow, Holds, Filed, All, play, filed}
+use Rattle.model.specs.Example.{ExampleListing, exampleFile, exampleText, listingAnswer}
 use Rattle.model.specs.Table.{table, deck1, deck2, deck3, deck4, deck5, deck6, deck7, deck8, deck9, deck10, deck11}
-use Rattle.model.specs.TableFiles.{otherStart, otherCount, tooLong, sectionsApart, byteBehind, unevenSection, unevenRuns, pinTooMany, pinTwice, beyondRange, tapOnPin, runTurned, tapOfTwoRuns, otherTree, fullFile, plainFile}
-use Rattle.model.specs.TableMore.{sweptByItsRound, sweepOrder, tapLine, secondRemoval, anotherRunJoins, orderOfEntry, equalSavings, greatestSaving, lowerEndFirst, octantBorder, refusals}
+use Rattle.model.specs.TableFiles.{otherStart, otherCount, tooLong, sectionsApart, byteBehind, unevenSection, unevenRuns, pinTooMany, pinTwice}
+use Rattle.model.specs.TableFiles.{beyondRange, tapOnPin, runTurned, tapOfTwoRuns, otherTree, fullFile, plainFile}
+use Rattle.model.specs.TableMore.{sweptByItsRound, sweepOrder, tapLine, secondRemoval, anotherRunJoins, orderOfEntry, equalSavings}
+use Rattle.model.specs.TableMore.{greatestSaving, lowerEndFirst, octantBorder, refusals}
+use Rattle.model.proofs.FileRows.{otherStart-holds, sectionsApart-holds, unevenSection-holds, pinTooMany-holds, pinTwice-holds}
+use Rattle.model.proofs.FileRows.{runTurned-holds, fullFile-holds, plainFile-holds}
+use Rattle.model.proofs.FileRows.{otherCount-holds, tooLong-holds, byteBehind-holds, unevenRuns-holds, beyondRange-holds, tapOnPin-holds}
+use Rattle.model.proofs.FileRows.{tapOfTwoRuns-holds, otherTree-holds}
 
 deck1-holds : Holds (deckRow deck1)
 unfolding play deck1
@@ -95,277 +101,33 @@ deck11-holds : Holds deck11
 unfolding octants deck11
 deck11-holds = refl
 
-otherStart-holds : Holds otherStart
-unfolding reads otherStart
-otherStart-holds = refl
-
-sectionsApart-holds : Holds sectionsApart
-unfolding reads sectionsApart
-sectionsApart-holds = refl
-
-unevenSection-holds : Holds unevenSection
-unfolding reads unevenSection
-unevenSection-holds = refl
-
-pinTooMany-holds : Holds pinTooMany
-unfolding reads pinTooMany
-pinTooMany-holds = refl
-
-pinTwice-holds : Holds pinTwice
-unfolding reads pinTwice
-pinTwice-holds = refl
-
-runTurned-holds : Holds runTurned
-unfolding reads runTurned
-runTurned-holds = refl
-
-fullFile-holds : Holds fullFile
-unfolding reads fullFile
-fullFile-holds = refl
-
-plainFile-holds : Holds plainFile
-unfolding reads plainFile
-plainFile-holds = refl
-
-otherCount-holds : Holds otherCount
-unfolding reads otherCount
-otherCount-holds = refl
-
-tooLong-holds : Holds tooLong
-unfolding reads tooLong
-tooLong-holds = refl
-
-byteBehind-holds : Holds byteBehind
-unfolding reads byteBehind
-byteBehind-holds = refl
-
-unevenRuns-holds : Holds unevenRuns
-unfolding reads unevenRuns
-unevenRuns-holds = refl
-
-beyondRange-holds : Holds beyondRange
-unfolding reads beyondRange
-beyondRange-holds = refl
-
-tapOnPin-holds : Holds tapOnPin
-unfolding reads tapOnPin
-tapOnPin-holds = refl
-
-tapOfTwoRuns-holds : Holds tapOfTwoRuns
-unfolding reads tapOfTwoRuns
-tapOfTwoRuns-holds = refl
-
-otherTree-holds : Holds otherTree
-unfolding reads otherTree
-otherTree-holds = refl
+-- Facts one behind the other, as `All` asks for them.
+infixr 2 _and_
+_and_ : {A B : Type 0} → A → B → A × B
+_and_ a b = (a, b)
 
 pub decks-hold : All Holds table
-unfolding table deck11 otherStart otherCount tooLong sectionsApart byteBehind unevenSection unevenRuns pinTooMany pinTwice beyondRange tapOnPin runTurned tapOfTwoRuns otherTree fullFile plainFile
-decks-hold = (
-  deck1-holds,
-  (
-    deck2-holds,
-    (
-      deck3-holds,
-      (
-        deck4-holds,
-        (
-          deck5-holds,
-          (
-            deck6-holds,
-            (
-              deck7-holds,
-              (
-                deck8-holds,
-                (
-                  deck9-holds,
-                  (
-                    deck10-holds,
-                    (
-                      deck11-holds,
-                      (
-                        sweptByItsRound-holds,
-                        (
-                          sweepOrder-holds,
-                          (
-                            tapLine-holds,
-                            (
-                              secondRemoval-holds,
-                              (
-                                anotherRunJoins-holds,
-                                (
-                                  orderOfEntry-holds,
-                                  (
-                                    equalSavings-holds,
-                                    (
-                                      greatestSaving-holds,
-                                      (
-                                        lowerEndFirst-holds,
-                                        (
-                                          octantBorder-holds,
-                                          (
-                                            refusals-holds,
-                                            (
-                                              otherStart-holds,
-                                              (
-                                                otherCount-holds,
-                                                (
-                                                  tooLong-holds,
-                                                  (
-                                                    sectionsApart-holds,
-                                                    (
-                                                      byteBehind-holds,
-                                                      (
-                                                        unevenSection-holds,
-                                                        (
-                                                          unevenRuns-holds,
-                                                          (
-                                                            pinTooMany-holds,
-                                                            (
-                                                              pinTwice-holds,
-                                                              (
-                                                                beyondRange-holds,
-                                                                (
-                                                                  tapOnPin-holds,
-                                                                  (
-                                                                    runTurned-holds,
-                                                                    (
-                                                                      tapOfTwoRuns-holds,
-                                                                      (
-                                                                        otherTree-holds,
-                                                                        (fullFile-holds, (plainFile-holds, tt)),
-                                                                      ),
-                                                                    ),
-                                                                  ),
-                                                                ),
-                                                              ),
-                                                            ),
-                                                          ),
-                                                        ),
-                                                      ),
-                                                    ),
-                                                  ),
-                                                ),
-                                              ),
-                                            ),
-                                          ),
-                                        ),
-                                      ),
-                                    ),
-                                  ),
-                                ),
-                              ),
-                            ),
-                          ),
-                        ),
-                      ),
-                    ),
-                  ),
-                ),
-              ),
-            ),
-          ),
-        ),
-      ),
-    ),
-  ),
-)
+unfolding table deck11 otherStart otherCount tooLong sectionsApart byteBehind unevenSection unevenRuns pinTooMany pinTwice beyondRange tapOnPin
+    runTurned tapOfTwoRuns otherTree fullFile plainFile
+decks-hold =
+    deck1-holds and deck2-holds and deck3-holds and deck4-holds and deck5-holds and deck6-holds and deck7-holds and deck8-holds
+    and deck9-holds and deck10-holds and deck11-holds and sweptByItsRound-holds and sweepOrder-holds and tapLine-holds
+    and secondRemoval-holds and anotherRunJoins-holds and orderOfEntry-holds and equalSavings-holds and greatestSaving-holds
+    and lowerEndFirst-holds and octantBorder-holds and refusals-holds and otherStart-holds and otherCount-holds and tooLong-holds
+    and sectionsApart-holds and byteBehind-holds and unevenSection-holds and unevenRuns-holds and pinTooMany-holds
+    and pinTwice-holds and beyondRange-holds and tapOnPin-holds and runTurned-holds and tapOfTwoRuns-holds and otherTree-holds
+    and fullFile-holds and plainFile-holds and tt
 
 pub decks-filed : All Filed table
-unfolding table filed deck1 deck2 deck3 deck4 deck5 deck6 deck7 deck8 deck9 deck10 deck11 sweptByItsRound sweepOrder tapLine secondRemoval anotherRunJoins orderOfEntry equalSavings greatestSaving lowerEndFirst octantBorder refusals otherStart otherCount tooLong sectionsApart byteBehind unevenSection unevenRuns pinTooMany pinTwice beyondRange tapOnPin runTurned tapOfTwoRuns otherTree fullFile plainFile
-decks-filed = (
-  refl,
-  (
-    refl,
-    (
-      refl,
-      (
-        refl,
-        (
-          refl,
-          (
-            refl,
-            (
-              refl,
-              (
-                refl,
-                (
-                  refl,
-                  (
-                    refl,
-                    (
-                      tt,
-                      (
-                        refl,
-                        (
-                          refl,
-                          (
-                            refl,
-                            (
-                              refl,
-                              (
-                                refl,
-                                (
-                                  refl,
-                                  (
-                                    refl,
-                                    (
-                                      refl,
-                                      (
-                                        refl,
-                                        (
-                                          refl,
-                                          (
-                                            refl,
-                                            (
-                                              tt,
-                                              (
-                                                tt,
-                                                (
-                                                  tt,
-                                                  (
-                                                    tt,
-                                                    (
-                                                      tt,
-                                                      (
-                                                        tt,
-                                                        (
-                                                          tt,
-                                                          (
-                                                            tt,
-                                                            (tt, (tt, (tt, (tt, (tt, (tt, (tt, (tt, tt)))))))),
-                                                          ),
-                                                        ),
-                                                      ),
-                                                    ),
-                                                  ),
-                                                ),
-                                              ),
-                                            ),
-                                          ),
-                                        ),
-                                      ),
-                                    ),
-                                  ),
-                                ),
-                              ),
-                            ),
-                          ),
-                        ),
-                      ),
-                    ),
-                  ),
-                ),
-              ),
-            ),
-          ),
-        ),
-      ),
-    ),
-  ),
-)
+unfolding table filed deck1 deck2 deck3 deck4 deck5 deck6 deck7 deck8 deck9 deck10 deck11 sweptByItsRound sweepOrder tapLine secondRemoval
+    anotherRunJoins orderOfEntry equalSavings greatestSaving lowerEndFirst octantBorder refusals otherStart otherCount tooLong sectionsApart
+    byteBehind unevenSection unevenRuns pinTooMany pinTwice beyondRange tapOnPin runTurned tapOfTwoRuns otherTree fullFile plainFile
+decks-filed =
+    refl and refl and refl and refl and refl and refl and refl and refl and refl and refl and tt and refl and refl and refl
+    and refl and refl and refl and refl and refl and refl and refl and refl and tt and tt and tt and tt and tt and tt and tt
+    and tt and tt and tt and tt and tt and tt and tt and tt and tt and tt
 
 -- Document 01's listing example, by computation.
 pub example-listing : ExampleListing
-unfolding listed exampleFile exampleText
+unfolding listingAnswer exampleFile exampleText
 example-listing = refl

@@ -21,7 +21,7 @@ joined P Q R = header (length P) (length Q) (length R) ++ (P ++ (Q ++ R))
 
 -- What a file of three sections says in its header, and where the sections are.
 pub record Laid (b P Q R : List ℕ) : Type 0 where
-  pub start : take 4 b ≡ magic
+  pub magicFirst : take 4 b ≡ magic
   pub count : number2 b 4 ≡ 3
   pub offset₀ : offset b 0 ≡ 30
   pub offset₁ : offset b 1 ≡ 30 + length P
@@ -45,7 +45,7 @@ pub joined-laid : (P Q R : List ℕ) → 30 + length P + length Q + length R < 4
 unfolding joined
 joined-laid P Q R fits =
     record {
-      start = refl;
+      magicFirst = refl;
       count = refl;
       offset₀ = refl;
       offset₁ = offset₁;
@@ -55,7 +55,9 @@ joined-laid P Q R fits =
       size₂ = size₂;
       section₀ = cut (joined P Q R) P (Q ++ R) 30 30 (size (joined P Q R) 0) refl refl size₀;
       section₁ = cut (joined P Q R) Q R (30 + length P) (offset (joined P Q R) 1) (size (joined P Q R) 1) rest₁ offset₁ size₁;
-      section₂ = cut (joined P Q R) R [] (30 + length P + length Q) (offset (joined P Q R) 2) (size (joined P Q R) 2) (rest₂ ∙ sym (append-nil R)) offset₂ size₂;
+      section₂ =
+          cut (joined P Q R) R [] (30 + length P + length Q) (offset (joined P Q R) 2) (size (joined P Q R) 2) (rest₂ ∙ sym (append-nil R)) offset₂
+          size₂;
       total = omega (arith, length-append P (Q ++ R), length-append Q R);
     }
   where
@@ -83,7 +85,7 @@ joined-laid P Q R fits =
 -- What an accepted file says in its header.
 pub record Header (b : List ℕ) : Type 0 where
   pub long : 30 ≤ length b
-  pub start : take 4 b ≡ magic
+  pub magicFirst : take 4 b ≡ magic
   pub count : number2 b 4 ≡ 3
   pub offset₀ : offset b 0 ≡ 30
   pub offset₁ : offset b 1 ≡ 30 + size b 0
@@ -108,7 +110,7 @@ header-of b s a =
     let o₃ : length b ≡ offset b 2 + size b 2 = eqb→eq (length b) (offset b 2 + size b 2) (l₃ .1) in
     record {
       long = leb→le headerSize (length b) (h₁ .0);
-      start = same-eq (take 4 b) magic (h₃ .0);
+      magicFirst = same-eq (take 4 b) magic (h₃ .0);
       count = eqb→eq (number2 b 4) 3 (h₃ .1);
       offset₀ = o₀;
       offset₁ = omega arith;
@@ -141,7 +143,7 @@ part b n k c rest e f = rw e (sym (take-append-drop c (drop n b)) ∙ ap (λ (l 
 file-joined : (b : List ℕ) → Bytes b → Header b → b ≡ header (size b 0) (size b 1) (size b 2) ++ (section b 0 ++ (section b 1 ++ section b 2))
 file-joined b h a =
     sym (take-append-drop 4 b)
-    ∙ ap₂ _++_ (a .start)
+    ∙ ap₂ _++_ (a .magicFirst)
     (field2 b 4 3 _ h (omega (arith, a .long)) (a .count)
     (field4 b 6 30 _ h (omega (arith, a .long)) (a .offset₀)
     (field4 b 10 (size b 0) _ h (omega (arith, a .long)) refl

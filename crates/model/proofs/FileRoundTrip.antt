@@ -30,7 +30,7 @@ laid-accepted b s v short h =
       header =
           and-both (leb headerSize (length b)) _ (le→leb headerSize (length b) (omega (arith, h .total)))
           (and-both (leb (length b) longest) _ (le→leb (length b) longest short)
-          (and-both (sameList (take 4 b) magic) _ (subst⁻¹ (λ (l : List ℕ). T (sameList l magic)) (h .start) (same-refl magic)) (eq→eqb (h .count))));
+          (and-both (sameList (take 4 b) magic) _ (subst⁻¹ (λ (l : List ℕ). T (sameList l magic)) (h .magicFirst) (same-refl magic)) (eq→eqb (h .count))));
       layout =
           and-both (eqb (offset b 0) headerSize) _ (eq→eqb (h .offset₀))
           (and-both (eqb (offset b 1) (offset b 0 + size b 0)) _ (eq→eqb {a = offset b 1} {b = offset b 0 + size b 0} (omega (arith, h)))

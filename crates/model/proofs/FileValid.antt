@@ -90,7 +90,11 @@ pub file-valid : (b : List ℕ) (s : State) → readFile b ≡ deck s → Valid 
 file-valid b s e = go (accepted b s e)
   where
     go : Accepted b s → Valid s
-    go a = ⊎-elim (λ t. record { few = a .few; placed = a .points; branching = λ q i. absurd (not-nil (subst (λ l. List·Memᴰ q l) (none t) i)) }) (λ v. v .0) (a .shows)
+    go a =
+        ⊎-elim (λ t. record { few = a .few; placed = a .points; branching = λ q i. absurd (not-nil (subst (λ l. List·Memᴰ q l) (none t) i)) })
+        (λ v. v .0) (a .shows)
       where
         none : T (plain b) → s .steiner ≡ []
-        none t = sym (ap (λ (r : State). r .steiner) (a .same)) ∙ none-of (size b 1) (drop (offset b 1) b) (and-parts (eqb (size b 1) 0) (eqb (size b 2) 0) t .0)
+        none t =
+            sym (ap (λ (r : State). r .steiner) (a .same)) ∙ none-of (size b 1) (drop (offset b 1) b)
+            (and-parts (eqb (size b 1) 0) (eqb (size b 2) 0) t .0)

@@ -24,7 +24,8 @@ use Rattle.arrays.specs.Set.{put, has, union}
 use Rattle.model.specs.Tree.{pairs, edges, mst, lengthOf, treeLength, edgesAt}
 use Rattle.arrays.proofs.Set.{put-in, put-sorted, put-same, has-in, has-not}
 use Rattle.model.proofs.Cover.{Connects, mst-cover}
-use Rattle.model.proofs.Replace.{swap, swap-same, swap-other, replaced, star, sumDist, replaced-conn, replaced-ends, replaced-length, star-count, star-edge}
+use Rattle.model.proofs.Replace.{swap, swap-same, swap-other, replaced, star, sumDist, replaced-conn, replaced-ends, replaced-length}
+use Rattle.model.proofs.Replace.{star-count, star-edge}
 use Rattle.model.specs.Choice.{Candidate}
 use Rattle.model.proofs.Candidate.{map-in}
 

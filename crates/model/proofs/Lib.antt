@@ -8,10 +8,11 @@ pub mod Decks
 pub mod FileAnswer
 pub mod FileParts
 pub mod FileRoundTrip
+pub mod FileRows
 pub mod FileSize
 pub mod FileValid
 pub mod Grid
-pub mod Joining
+pub mod OctantClaim
 pub mod Prune
 pub mod Refusal
 pub mod Removal

@@ -88,7 +88,9 @@ unfolding pruneFrom
 prune-from zero s rise far h =
     record { pins = refl; part = λ q i. i; rise = rise; branching = λ q i. absurd (none-there (s .steiner) h q i); shorter = le-refl (treeLength (points s)) }
 prune-from (suc k) s rise far h =
-    go (lowestWeak (mst (points s)) (s .steiner)) (lowest-weak-view (mst (points s)) (s .steiner)) (λ q i. prune-from k (without q s) (out-sorted lower lower-order q (s .steiner) rise) (λ p i j. far p i (out-in lower lower-order q p (s .steiner) .0 j .0)) (omega (arith, out-length lower lower-order q (s .steiner) rise i)))
+    go (lowestWeak (mst (points s)) (s .steiner)) (lowest-weak-view (mst (points s)) (s .steiner))
+    (λ q i. prune-from k (without q s) (out-sorted lower lower-order q (s .steiner) rise)
+    (λ p i j. far p i (out-in lower lower-order q p (s .steiner) .0 j .0)) (omega (arith, out-length lower lower-order q (s .steiner) rise i)))
   where
     go : (o : Option Point) → LowestWeakView (mst (points s)) (s .steiner) o
         → ((q : Point) → List·Memᴰ q (s .steiner) → Pruned (without q s) (pruneFrom k (without q s)))

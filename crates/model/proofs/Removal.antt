@@ -17,7 +17,8 @@ use Rattle.model.specs.Tree.{mst, lengthOf, treeLength, edgesAt, RunTree
 use Rattle.arrays.proofs.Set.{out-in, out-sorted}
 use Rattle.model.proofs.Tree.{mst-run-tree}
 use Rattle.model.proofs.Cover.{Ends, Connects, mst-cover}
-use Rattle.model.proofs.Replace.{swap, swap-same, swap-other, replaced, star, sumDist, replaced-conn, replaced-ends, replaced-length, star-count, star-edge, star-none}
+use Rattle.model.proofs.Replace.{swap, swap-same, swap-other, replaced, star, sumDist, replaced-conn, replaced-ends, replaced-length}
+use Rattle.model.proofs.Replace.{star-count, star-edge, star-none}
 
 -- A first neighbour is as near to all (at most two) neighbours as q is.
 near-enough : (q n : Point) (l : List Point) → length l ≤ 1 → sumDist n (n ∷ l) ≤ sumDist q (n ∷ l)
@@ -71,7 +72,8 @@ module _ (ps : List Point) (rising : Sorted Lower ps) (q : Point) (held : List·
       n-held : List·Memᴰ n rest
       n-held =
           ⊎-elim
-          (λ c. in-rest n (subst⁻¹ (λ (p : Point). List·Memᴰ p ps) (c .1) (tree .tree .ends (found .0) (found .1) .1)) (λ m. differ (sym (c .0) ∙ sym m ∙ c .1)))
+          (λ c. in-rest n (subst⁻¹ (λ (p : Point). List·Memᴰ p ps) (c .1) (tree .tree .ends (found .0) (found .1) .1))
+          (λ m. differ (sym (c .0) ∙ sym m ∙ c .1)))
           (λ c. in-rest n (subst⁻¹ (λ (p : Point). List·Memᴰ p ps) (c .1) (tree .tree .ends (found .0) (found .1) .0)) (λ m. differ (sym (c .1) ∙ m ∙ c .0)))
           (found .2)
 

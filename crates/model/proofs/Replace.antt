@@ -2,7 +2,8 @@
 -- sum of the distances to q's neighbours does.
 use mathlib.Core.Path.{_≡_, refl, sym, ap, _∙_, subst, subst⁻¹}
 use mathlib.Core.Logic.{_⊎_, inl, inr, ⊎-elim, _↔_, dite, dif-pos, dif-neg}
-use mathlib.Core.List.{List, [], _∷_, map, List·Memᴰ, List·Memᴰ·head as head, List·Memᴰ·tail as tail, List·Memᴰ·cases-cons as cases, List·Memᴰ·not-nil as not-nil}
+use mathlib.Core.List.{List, [], _∷_, map, List·Memᴰ, List·Memᴰ·head as head, List·Memᴰ·tail as tail, List·Memᴰ·cases-cons as cases}
+use mathlib.Core.List.{List·Memᴰ·not-nil as not-nil}
 use Prim.Native.Nat.{ℕ, zero, suc, _+_, _≤_}
 use native.Mathlib.Nat.{le-trans}
 use native.Mathlib.Omega.{arith}
@@ -53,17 +54,17 @@ abbrev pub sumDist : Point → List Point → ℕ
 sumDist p l = total (λ (n : Point). dist p n) l
 
 -- What an edge is to q: it starts there, ends there, or is elsewhere.
-data Place (q : Point) (e : Edge) (t : List Edge) : List Point → Type 0 where
-  starts : q ≡ e .lo → Place q e t (e .hi ∷ star q t)
-  ends : ¬ (q ≡ e .lo) → q ≡ e .hi → Place q e t (e .lo ∷ star q t)
-  away : ¬ (q ≡ e .lo) → ¬ (q ≡ e .hi) → Place q e t (star q t)
+data Incidence (q : Point) (e : Edge) (t : List Edge) : List Point → Type 0 where
+  starts : q ≡ e .lo → Incidence q e t (e .hi ∷ star q t)
+  ends : ¬ (q ≡ e .lo) → q ≡ e .hi → Incidence q e t (e .lo ∷ star q t)
+  away : ¬ (q ≡ e .lo) → ¬ (q ≡ e .hi) → Incidence q e t (star q t)
 
-place : (q : Point) (e : Edge) (t : List Edge) → Place q e t (star q (e ∷ t))
+incidence : (q : Point) (e : Edge) (t : List Edge) → Incidence q e t (star q (e ∷ t))
 unfolding star
-place q e t = go (pointDec q (e .lo)) (pointDec q (e .hi))
+incidence q e t = go (pointDec q (e .lo)) (pointDec q (e .hi))
   where
     go : (d : Dec (q ≡ e .lo)) (f : Dec (q ≡ e .hi))
-        → Place q e t (dite d (λ _. e .hi ∷ star q t) (λ _. dite f (λ _. e .lo ∷ star q t) (λ _. star q t)))
+        → Incidence q e t (dite d (λ _. e .hi ∷ star q t) (λ _. dite f (λ _. e .lo ∷ star q t) (λ _. star q t)))
     go (yes h) f = starts h
     go (no n) (yes h) = ends n h
     go (no n) (no m) = away n m
@@ -96,7 +97,7 @@ module _ (q c : Point) where
       )
 
   -- The length, one edge more at a time.
-  length-step : (e : Edge) (t : List Edge) (l : List Point) → Place q e t l
+  length-step : (e : Edge) (t : List Edge) (l : List Point) → Incidence q e t l
       → lengthOf (replaced q c t) + sumDist q (star q t) ≤ lengthOf t + sumDist c (star q t)
       → edgeLength (swapEdge q c e) + lengthOf (replaced q c t) + sumDist q l ≤ edgeLength e + lengthOf t + sumDist c l
   unfolding swapEdge total
@@ -128,15 +129,15 @@ module _ (q c : Point) where
   pub replaced-length : (t : List Edge) → lengthOf (replaced q c t) + sumDist q (star q t) ≤ lengthOf t + sumDist c (star q t)
   unfolding replaced total star
   replaced-length [] = omega arith
-  replaced-length (e ∷ t) = length-step e t (star q (e ∷ t)) (place q e t) (replaced-length t)
+  replaced-length (e ∷ t) = length-step e t (star q (e ∷ t)) (incidence q e t) (replaced-length t)
 
 -- The number of edges at q is that of its neighbours.
 pub star-count : (q : Point) (t : List Edge) → length (star q t) ≡ edgesAt q t
 unfolding star degree planar
 star-count q [] = refl
-star-count q (e ∷ t) = go (star-count q t) (star q (e ∷ t)) (place q e t)
+star-count q (e ∷ t) = go (star-count q t) (star q (e ∷ t)) (incidence q e t)
   where
-    go : length (star q t) ≡ degree planar q t → (l : List Point) → Place q e t l → length l ≡ degree planar q (e ∷ t)
+    go : length (star q t) ≡ degree planar q t → (l : List Point) → Incidence q e t l → length l ≡ degree planar q (e ∷ t)
     go r l (starts h) = ap suc r ∙ sym (degree-touch planar q e t (inl h))
     go r l (ends n h) = ap suc r ∙ sym (degree-touch planar q e t (inr h))
     go r l (away n m) = r ∙ sym (degree-away planar q e t (λ s. ⊎-elim n m s))
@@ -148,12 +149,12 @@ Neighbour q n e = ((q ≡ e .lo) × (n ≡ e .hi)) ⊎ ((q ≡ e .hi) × (n ≡ 
 pub star-edge : (q n : Point) (t : List Edge) → List·Memᴰ n (star q t) → (e : Edge) × List·Memᴰ e t × Neighbour q n e
 unfolding star
 star-edge q n [] i = absurd (not-nil i)
-star-edge q n (e ∷ t) i = go (λ j. let r = star-edge q n t j in (r .0, tail (r .1), r .2)) (star q (e ∷ t)) (place q e t) i
+star-edge q n (e ∷ t) i = go (λ j. let r = star-edge q n t j in (r .0, tail (r .1), r .2)) (star q (e ∷ t)) (incidence q e t) i
   where
     Answer : Type 0
     Answer = (f : Edge) × List·Memᴰ f (e ∷ t) × Neighbour q n f
 
-    go : (List·Memᴰ n (star q t) → Answer) → (l : List Point) → Place q e t l → List·Memᴰ n l → Answer
+    go : (List·Memᴰ n (star q t) → Answer) → (l : List Point) → Incidence q e t l → List·Memᴰ n l → Answer
     go later l (starts h) j = ⊎-elim (λ m. (e, head refl, inl (h, m))) later (cases j)
     go later l (ends k h) j = ⊎-elim (λ m. (e, head refl, inr (h, m))) later (cases j)
     go later l (away k m) j = later j

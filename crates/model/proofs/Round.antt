@@ -45,8 +45,10 @@ points-with s c rise =
 pub candidate-range : (s : State) → Placed s → (c : Point) → Candidate (points s) c → T (inRange c)
 candidate-range s h c k =
     and-both (coordinateInRange (c .x)) (coordinateInRange (c .y))
-    (subst⁻¹ (λ z. T (coordinateInRange z)) (k .onX .2) (and-parts (coordinateInRange (k .onX .0 .x)) (coordinateInRange (k .onX .0 .y)) (held (k .onX .0) (k .onX .1)) .0))
-    (subst⁻¹ (λ z. T (coordinateInRange z)) (k .onY .2) (and-parts (coordinateInRange (k .onY .0 .x)) (coordinateInRange (k .onY .0 .y)) (held (k .onY .0) (k .onY .1)) .1))
+    (subst⁻¹ (λ z. T (coordinateInRange z)) (k .onX .2)
+    (and-parts (coordinateInRange (k .onX .0 .x)) (coordinateInRange (k .onX .0 .y)) (held (k .onX .0) (k .onX .1)) .0))
+    (subst⁻¹ (λ z. T (coordinateInRange z)) (k .onY .2)
+    (and-parts (coordinateInRange (k .onY .0 .x)) (coordinateInRange (k .onY .0 .y)) (held (k .onY .0) (k .onY .1)) .1))
   where
     held : (p : Point) → List·Memᴰ p (points s) → T (inRange p)
     held p i = ⊎-elim (h .pinsRange p) (h .steinerRange p) (points-in s p .0 i)
@@ -55,10 +57,14 @@ pub with-placed : (s : State) → Placed s → (c : Point) → Candidate (points
 with-placed s h c k =
     record {
       pinsRange = h .pinsRange;
-      steinerRange = λ p i. ⊎-elim (λ e. subst⁻¹ (λ z. T (inRange z)) e (candidate-range s h c k)) (h .steinerRange p) (put-in lower lower-order c p (s .steiner) .0 i);
+      steinerRange =
+          λ p i. ⊎-elim (λ e. subst⁻¹ (λ z. T (inRange z)) e (candidate-range s h c k)) (h .steinerRange p)
+          (put-in lower lower-order c p (s .steiner) .0 i);
       pinsRise = h .pinsRise;
       steinerRise = put-sorted lower lower-order c (s .steiner) (h .steinerRise);
-      apart = λ p i j. ⊎-elim (λ e. k .free (points-in s c .1 (inl (subst (λ z. List·Memᴰ z (s .pins)) e i)))) (h .apart p i) (put-in lower lower-order c p (s .steiner) .0 j);
+      apart =
+          λ p i j. ⊎-elim (λ e. k .free (points-in s c .1 (inl (subst (λ z. List·Memᴰ z (s .pins)) e i)))) (h .apart p i)
+          (put-in lower lower-order c p (s .steiner) .0 j);
     }
 
 -- What a round does: it is finished and no candidate shortens the tree, or it adds a candidate that does, and prunes.
@@ -124,7 +130,10 @@ round-finished s v = go (round-view s)
     tree-with : (c : Point) → ¬ List·Memᴰ c (points s) → Tree planar (c ∷ points s) (mst (put lower c (points s)))
     tree-with c far =
         tree-members (put lower c (points s)) (c ∷ points s) (mst (put lower c (points s)))
-        (λ p. (λ i. ⊎-elim (λ e. head e) (λ j. tail j) (put-in lower lower-order c p (points s) .0 i), λ i. put-in lower lower-order c p (points s) .1 (cases i)))
+        (λ p. (
+          λ i. ⊎-elim (λ e. head e) (λ j. tail j) (put-in lower lower-order c p (points s) .0 i),
+          λ i. put-in lower lower-order c p (points s) .1 (cases i),
+        ))
         (mst-run-tree (put lower c (points s)) (put-sorted lower lower-order c (points s) rise) .tree)
 
     go : {r : RoundResult} → Rounded s r → (r .answer ≡ finished) ↔ ((q : Point) → ¬ List·Memᴰ q (points s) → NoShorter s q)
@@ -157,10 +166,13 @@ rounds-from (suc k) s v h =
     next = round s .next
 
     result : RoundAnswer → Ended
-    result a = elim a [ finished ↦ record { final = s; count = 0 } | tap c fall ↦ let e = roundsFrom k (round s .next) in record { final = e .final; count = suc (e .count) } ]
+    result a =
+        let e = roundsFrom k (round s .next) in
+        elim a [ finished ↦ record { final = s; count = 0 } | tap c fall ↦ record { final = e .final; count = suc (e .count) } ]
 
     go : (a : RoundAnswer) → round s .answer ≡ a
-        → (lengthOfState (round s .next) ≤ k → RoundsTo (round s .next) (roundsFrom k (round s .next) .count) (roundsFrom k (round s .next) .final) × (roundsFrom k (round s .next) .count ≤ lengthOfState (round s .next)))
+        → (lengthOfState (round s .next) ≤ k → RoundsTo (round s .next) (roundsFrom k (round s .next) .count) (roundsFrom k (round s .next) .final)
+        × (roundsFrom k (round s .next) .count ≤ lengthOfState (round s .next)))
         → RoundsTo s (result a .count) (result a .final) × (result a .count ≤ lengthOfState s)
     go finished e rec = (ended e, omega arith)
     go (tap c fall) e rec =

@@ -2,7 +2,8 @@
 -- such. Points may come in any order, with repeats: a tree over a list is one over its members, so over the list put in order.
 use mathlib.Core.Path.{_≡_, sym, ap, subst}
 use mathlib.Core.Logic.{_⊎_, ⊎-elim, _↔_}
-use mathlib.Core.List.{List, [], _∷_, map, List·Memᴰ, List·Memᴰ·head as head, List·Memᴰ·tail as tail, List·Memᴰ·cases-cons as cases, List·Memᴰ·not-nil as not-nil, Memᴰ·append-left, Memᴰ·append-right, List·Memᴰ·append-cases}
+use mathlib.Core.List.{List, [], _∷_, map, List·Memᴰ, List·Memᴰ·head as head, List·Memᴰ·tail as tail, List·Memᴰ·cases-cons as cases}
+use mathlib.Core.List.{List·Memᴰ·not-nil as not-nil, Memᴰ·append-left, Memᴰ·append-right, List·Memᴰ·append-cases}
 use Prim.Native.Nat.{_-_}
 use native.Mathlib.Omega.{arith}
 use lib.ListN.{length}
@@ -80,10 +81,10 @@ module _ (ps : List Point) (rising : Sorted Lower ps) where
   -- All edges connect all points.
   pub edges-link : Links planar ps (edges ps)
   unfolding planar
-  edges-link = record { ends = λ e i. (edges-in e .0 i .0, edges-in e .0 i .1); joined = joined }
+  edges-link = record { ends = λ e i. (edges-in e .0 i .0, edges-in e .0 i .1); connected = connected }
     where
-      joined : (u v : Point) → List·Memᴰ u ps → List·Memᴰ v ps → Conn planar (In (edges ps)) v u
-      joined u v i j =
+      connected : (u v : Point) → List·Memᴰ u ps → List·Memᴰ v ps → Conn planar (In (edges ps)) v u
+      connected u v i j =
           ⊎-elim (λ h. conn-edge (edge u v) (edges-in (edge u v) .1 (i, j, h)))
           (λ r. ⊎-elim (λ e. stop e) (λ h. conn-sym (conn-edge (edge v u) (edges-in (edge v u) .1 (j, i, h)))) r)
           (lower-order .compare u v)

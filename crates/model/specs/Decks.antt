@@ -28,7 +28,9 @@ pub record Trace : Type 0 where
 
 -- The trace of calls from a state.
 unfoldable pub play : State → List Call → Trace
-unfolding total degree comp kruskal lower gap dist pointDec before listedBefore planar put out has union pairs edges mst treeLength points lowestWeak pruneFrom prune insert remove column crossings notHeld candidates saving bestAbove best round roundsFrom finish firstFailed insertRefusal removeRefusal step listed
+unfolding total degree comp kruskal lower gap dist pointDec before listedBefore planar put out has union pairs edges mst treeLength points lowestWeak
+    pruneFrom prune insert remove column crossings notHeld candidates saving bestAbove best round roundsFrom finish firstFailed insertRefusal
+    removeRefusal step listed
 play s [] = record { replies = []; lengths = lengthOfState s ∷ []; last = s; runs = listed s }
 play s (c ∷ cs) =
     let o = step s c in
@@ -46,18 +48,18 @@ pub record DeckRow : Type 0 where
   pub calls : List Call
   pub shows : Trace
 
-abbrev pub startOf : DeckRow → State
-startOf r = record { pins = r .start; steiner = [] }
+abbrev pub firstState : DeckRow → State
+firstState r = record { pins = r .start; steiner = [] }
 
 -- A row of the table: calls and what they show; differences and their octants; a file and what reading it gives.
-pub data Row : Type 0 where
-  deckRow : DeckRow → Row
-  octantRow : List Point → List ℕ → Row
-  fileRow : List ℕ → Read → Row
+pub data TableRow : Type 0 where
+  deckRow : DeckRow → TableRow
+  octantRow : List Point → List ℕ → TableRow
+  fileRow : List ℕ → Read → TableRow
 
 -- The row holds.
-abbrev pub Holds : Row → Type 0
-Holds (deckRow r) = play (startOf r) (r .calls) ≡ r .shows
+abbrev pub Holds : TableRow → Type 0
+Holds (deckRow r) = play (firstState r) (r .calls) ≡ r .shows
 Holds (octantRow differences numbers) = octants differences ≡ numbers
 Holds (fileRow b r) = reads b ≡ r
 
@@ -67,18 +69,18 @@ unfolding reads fileOf
 filed s = reads (fileOf s)
 
 -- The file of the last state of a row of calls reads back to it.
-abbrev pub Filed : Row → Type 0
+abbrev pub Filed : TableRow → Type 0
 Filed (deckRow r) = filed (r .shows .last) ≡ deck (r .shows .last)
 Filed (octantRow differences numbers) = Unit {0}
 Filed (fileRow b r) = Unit {0}
 
 -- Every row of a list.
-abbrev pub All : (Row → Type 0) → List Row → Type 0
+abbrev pub All : (TableRow → Type 0) → List TableRow → Type 0
 All P [] = Unit {0}
 All P (r ∷ l) = P r × All P l
 
-abbrev pub at : ℕ → ℕ → Point
-at x y = record { x = pos x; y = pos y }
+abbrev pub point : ℕ → ℕ → Point
+point x y = record { x = pos x; y = pos y }
 
 abbrev pub from : Point → Point → Edge
 from p q = record { lo = p; hi = q }

@@ -43,9 +43,9 @@ unfolding line1 line2 line3 line4 line5
 exampleText = line1 ++ (line2 ++ (line3 ++ (line4 ++ line5)))
 
 -- What the listing program answers for a file.
-unfoldable pub listed : List ℕ → List ℕ
+unfoldable pub listingAnswer : List ℕ → List ℕ
 unfolding play filed digitsFrom signedDecimal tapLines runLines listing listingOfFile
-listed b = listingOfFile b
+listingAnswer b = listingOfFile b
 
 abbrev pub ExampleListing : Type 0
-ExampleListing = listed exampleFile ≡ exampleText
+ExampleListing = listingAnswer exampleFile ≡ exampleText

@@ -4,8 +4,8 @@ pub mod Choice
 pub mod Decks
 pub mod Example
 pub mod File
-pub mod Joining
 pub mod Listing
+pub mod OctantClaim
 pub mod Question
 pub mod Refusal
 pub mod Round

@@ -3,9 +3,11 @@ use mathlib.Core.List.{List, [], _∷_}
 use lib.IntN.{pos, negsuc}
 use Rattle.model.specs.Round.{finished, tap}
 use Rattle.model.specs.Call.{add, withdraw, oneRound, runToEnd, done, answered, rounds}
-use Rattle.model.specs.Decks.{DeckRow, Row, deckRow, octantRow, at, from}
-use Rattle.model.specs.TableFiles.{otherStart, otherCount, tooLong, sectionsApart, byteBehind, unevenSection, unevenRuns, pinTooMany, pinTwice, beyondRange, tapOnPin, runTurned, tapOfTwoRuns, otherTree, fullFile, plainFile}
-use Rattle.model.specs.TableMore.{sweptByItsRound, sweepOrder, tapLine, secondRemoval, anotherRunJoins, orderOfEntry, equalSavings, greatestSaving, lowerEndFirst, octantBorder, refusals}
+use Rattle.model.specs.Decks.{DeckRow, TableRow, deckRow, octantRow, point, from}
+use Rattle.model.specs.TableFiles.{otherStart, otherCount, tooLong, sectionsApart, byteBehind, unevenSection, unevenRuns, pinTooMany, pinTwice}
+use Rattle.model.specs.TableFiles.{beyondRange, tapOnPin, runTurned, tapOfTwoRuns, otherTree, fullFile, plainFile}
+use Rattle.model.specs.TableMore.{sweptByItsRound, sweepOrder, tapLine, secondRemoval, anotherRunJoins, orderOfEntry, equalSavings}
+use Rattle.model.specs.TableMore.{greatestSaving, lowerEndFirst, octantBorder, refusals}
 
 -- 1. "no pin: length 0, finished"
 unfoldable pub deck1 : DeckRow
@@ -41,14 +43,14 @@ deck2 =
 unfoldable pub deck3 : DeckRow
 deck3 =
     record {
-      start = record { x = negsuc 4; y = pos 0 } ∷ at 5 4 ∷ [];
+      start = record { x = negsuc 4; y = pos 0 } ∷ point 5 4 ∷ [];
       calls = oneRound ∷ [];
       shows =
           record {
             replies = answered finished ∷ [];
             lengths = 14 ∷ 14 ∷ [];
-            last = record { pins = record { x = negsuc 4; y = pos 0 } ∷ at 5 4 ∷ []; steiner = [] };
-            runs = from (record { x = negsuc 4; y = pos 0 }) (at 5 4) ∷ [];
+            last = record { pins = record { x = negsuc 4; y = pos 0 } ∷ point 5 4 ∷ []; steiner = [] };
+            runs = from (record { x = negsuc 4; y = pos 0 }) (point 5 4) ∷ [];
           };
     }
 
@@ -56,14 +58,14 @@ deck3 =
 unfoldable pub deck4 : DeckRow
 deck4 =
     record {
-      start = at 0 0 ∷ at 5 8 ∷ at 10 0 ∷ [];
+      start = point 0 0 ∷ point 5 8 ∷ point 10 0 ∷ [];
       calls = oneRound ∷ oneRound ∷ [];
       shows =
           record {
-            replies = answered (tap (at 5 0) 5) ∷ answered finished ∷ [];
+            replies = answered (tap (point 5 0) 5) ∷ answered finished ∷ [];
             lengths = 23 ∷ 18 ∷ 18 ∷ [];
-            last = record { pins = at 0 0 ∷ at 5 8 ∷ at 10 0 ∷ []; steiner = at 5 0 ∷ [] };
-            runs = from (at 0 0) (at 5 0) ∷ from (at 5 0) (at 5 8) ∷ from (at 5 0) (at 10 0) ∷ [];
+            last = record { pins = point 0 0 ∷ point 5 8 ∷ point 10 0 ∷ []; steiner = point 5 0 ∷ [] };
+            runs = from (point 0 0) (point 5 0) ∷ from (point 5 0) (point 5 8) ∷ from (point 5 0) (point 10 0) ∷ [];
           };
     }
 
@@ -71,14 +73,14 @@ deck4 =
 unfoldable pub deck5 : DeckRow
 deck5 =
     record {
-      start = at 0 5 ∷ at 5 0 ∷ at 5 10 ∷ at 10 5 ∷ [];
+      start = point 0 5 ∷ point 5 0 ∷ point 5 10 ∷ point 10 5 ∷ [];
       calls = oneRound ∷ oneRound ∷ [];
       shows =
           record {
-            replies = answered (tap (at 5 5) 10) ∷ answered finished ∷ [];
+            replies = answered (tap (point 5 5) 10) ∷ answered finished ∷ [];
             lengths = 30 ∷ 20 ∷ 20 ∷ [];
-            last = record { pins = at 0 5 ∷ at 5 0 ∷ at 5 10 ∷ at 10 5 ∷ []; steiner = at 5 5 ∷ [] };
-            runs = from (at 0 5) (at 5 5) ∷ from (at 5 0) (at 5 5) ∷ from (at 5 5) (at 5 10) ∷ from (at 5 5) (at 10 5) ∷ [];
+            last = record { pins = point 0 5 ∷ point 5 0 ∷ point 5 10 ∷ point 10 5 ∷ []; steiner = point 5 5 ∷ [] };
+            runs = from (point 0 5) (point 5 5) ∷ from (point 5 0) (point 5 5) ∷ from (point 5 5) (point 5 10) ∷ from (point 5 5) (point 10 5) ∷ [];
           };
     }
 
@@ -86,14 +88,14 @@ deck5 =
 unfoldable pub deck6 : DeckRow
 deck6 =
     record {
-      start = at 0 5 ∷ at 5 0 ∷ at 5 10 ∷ at 10 5 ∷ [];
-      calls = runToEnd ∷ withdraw (at 10 5) ∷ [];
+      start = point 0 5 ∷ point 5 0 ∷ point 5 10 ∷ point 10 5 ∷ [];
+      calls = runToEnd ∷ withdraw (point 10 5) ∷ [];
       shows =
           record {
             replies = rounds 1 ∷ done ∷ [];
             lengths = 30 ∷ 20 ∷ 15 ∷ [];
-            last = record { pins = at 0 5 ∷ at 5 0 ∷ at 5 10 ∷ []; steiner = at 5 5 ∷ [] };
-            runs = from (at 0 5) (at 5 5) ∷ from (at 5 0) (at 5 5) ∷ from (at 5 5) (at 5 10) ∷ [];
+            last = record { pins = point 0 5 ∷ point 5 0 ∷ point 5 10 ∷ []; steiner = point 5 5 ∷ [] };
+            runs = from (point 0 5) (point 5 5) ∷ from (point 5 0) (point 5 5) ∷ from (point 5 5) (point 5 10) ∷ [];
           };
     }
 
@@ -101,14 +103,14 @@ deck6 =
 unfoldable pub deck7 : DeckRow
 deck7 =
     record {
-      start = at 0 5 ∷ at 5 0 ∷ at 5 10 ∷ at 10 5 ∷ [];
-      calls = runToEnd ∷ withdraw (at 10 5) ∷ withdraw (at 5 10) ∷ [];
+      start = point 0 5 ∷ point 5 0 ∷ point 5 10 ∷ point 10 5 ∷ [];
+      calls = runToEnd ∷ withdraw (point 10 5) ∷ withdraw (point 5 10) ∷ [];
       shows =
           record {
             replies = rounds 1 ∷ done ∷ done ∷ [];
             lengths = 30 ∷ 20 ∷ 15 ∷ 10 ∷ [];
-            last = record { pins = at 0 5 ∷ at 5 0 ∷ []; steiner = [] };
-            runs = from (at 0 5) (at 5 0) ∷ [];
+            last = record { pins = point 0 5 ∷ point 5 0 ∷ []; steiner = [] };
+            runs = from (point 0 5) (point 5 0) ∷ [];
           };
     }
 
@@ -116,14 +118,14 @@ deck7 =
 unfoldable pub deck8 : DeckRow
 deck8 =
     record {
-      start = at 0 5 ∷ at 5 0 ∷ at 5 10 ∷ at 10 5 ∷ [];
-      calls = runToEnd ∷ add (at 5 5) ∷ [];
+      start = point 0 5 ∷ point 5 0 ∷ point 5 10 ∷ point 10 5 ∷ [];
+      calls = runToEnd ∷ add (point 5 5) ∷ [];
       shows =
           record {
             replies = rounds 1 ∷ done ∷ [];
             lengths = 30 ∷ 20 ∷ 20 ∷ [];
-            last = record { pins = at 0 5 ∷ at 5 0 ∷ at 5 5 ∷ at 5 10 ∷ at 10 5 ∷ []; steiner = [] };
-            runs = from (at 0 5) (at 5 5) ∷ from (at 5 0) (at 5 5) ∷ from (at 5 5) (at 5 10) ∷ from (at 5 5) (at 10 5) ∷ [];
+            last = record { pins = point 0 5 ∷ point 5 0 ∷ point 5 5 ∷ point 5 10 ∷ point 10 5 ∷ []; steiner = [] };
+            runs = from (point 0 5) (point 5 5) ∷ from (point 5 0) (point 5 5) ∷ from (point 5 5) (point 5 10) ∷ from (point 5 5) (point 10 5) ∷ [];
           };
     }
 
@@ -131,14 +133,14 @@ deck8 =
 unfoldable pub deck9 : DeckRow
 deck9 =
     record {
-      start = at 0 0 ∷ at 0 10 ∷ at 10 0 ∷ at 10 10 ∷ [];
+      start = point 0 0 ∷ point 0 10 ∷ point 10 0 ∷ point 10 10 ∷ [];
       calls = oneRound ∷ [];
       shows =
           record {
             replies = answered finished ∷ [];
             lengths = 30 ∷ 30 ∷ [];
-            last = record { pins = at 0 0 ∷ at 0 10 ∷ at 10 0 ∷ at 10 10 ∷ []; steiner = [] };
-            runs = from (at 0 0) (at 0 10) ∷ from (at 0 0) (at 10 0) ∷ from (at 0 10) (at 10 10) ∷ [];
+            last = record { pins = point 0 0 ∷ point 0 10 ∷ point 10 0 ∷ point 10 10 ∷ []; steiner = [] };
+            runs = from (point 0 0) (point 0 10) ∷ from (point 0 0) (point 10 0) ∷ from (point 0 10) (point 10 10) ∷ [];
           };
     }
 
@@ -146,23 +148,25 @@ deck9 =
 unfoldable pub deck10 : DeckRow
 deck10 =
     record {
-      start = at 0 0 ∷ at 5 8 ∷ at 10 0 ∷ at 40 0 ∷ at 45 8 ∷ at 50 0 ∷ [];
+      start = point 0 0 ∷ point 5 8 ∷ point 10 0 ∷ point 40 0 ∷ point 45 8 ∷ point 50 0 ∷ [];
       calls = oneRound ∷ oneRound ∷ [];
       shows =
           record {
-            replies = answered (tap (at 5 0) 5) ∷ answered (tap (at 45 0) 5) ∷ [];
+            replies = answered (tap (point 5 0) 5) ∷ answered (tap (point 45 0) 5) ∷ [];
             lengths = 76 ∷ 71 ∷ 66 ∷ [];
-            last = record { pins = at 0 0 ∷ at 5 8 ∷ at 10 0 ∷ at 40 0 ∷ at 45 8 ∷ at 50 0 ∷ []; steiner = at 5 0 ∷ at 45 0 ∷ [] };
-            runs = from (at 0 0) (at 5 0) ∷ from (at 5 0) (at 5 8) ∷ from (at 5 0) (at 10 0) ∷ from (at 10 0) (at 40 0) ∷ from (at 40 0) (at 45 0) ∷ from (at 45 0) (at 45 8) ∷ from (at 45 0) (at 50 0) ∷ [];
+            last = record { pins = point 0 0 ∷ point 5 8 ∷ point 10 0 ∷ point 40 0 ∷ point 45 8 ∷ point 50 0 ∷ []; steiner = point 5 0 ∷ point 45 0 ∷ [] };
+            runs =
+                from (point 0 0) (point 5 0) ∷ from (point 5 0) (point 5 8) ∷ from (point 5 0) (point 10 0) ∷ from (point 10 0) (point 40 0)
+                ∷ from (point 40 0) (point 45 0) ∷ from (point 45 0) (point 45 8) ∷ from (point 45 0) (point 50 0) ∷ [];
           };
     }
 
 -- 11. The octants of four differences.
-unfoldable pub deck11 : Row
-deck11 = octantRow (at 1 0 ∷ at 1 1 ∷ at 0 1 ∷ record { x = negsuc 0; y = pos 1 } ∷ []) (0 ∷ 1 ∷ 2 ∷ 3 ∷ [])
+unfoldable pub deck11 : TableRow
+deck11 = octantRow (point 1 0 ∷ point 1 1 ∷ point 0 1 ∷ record { x = negsuc 0; y = pos 1 } ∷ []) (0 ∷ 1 ∷ 2 ∷ 3 ∷ [])
 
 -- The table.
-unfoldable pub table : List Row
+unfoldable pub table : List TableRow
 table =
     deckRow deck1 ∷ deckRow deck2 ∷ deckRow deck3 ∷ deckRow deck4 ∷ deckRow deck5 ∷ deckRow deck6 ∷ deckRow deck7 ∷ deckRow deck8
     ∷ deckRow deck9 ∷ deckRow deck10 ∷ deck11 ∷ deckRow sweptByItsRound ∷ deckRow sweepOrder ∷ deckRow tapLine

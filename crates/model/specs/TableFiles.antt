@@ -3,10 +3,10 @@
 use mathlib.Core.List.{[], _∷_, _++_}
 use lib.ListN.{replicate}
 use Rattle.model.specs.File.{deck, refusal}
-use Rattle.model.specs.Decks.{Row, fileRow, at}
+use Rattle.model.specs.Decks.{TableRow, fileRow, point}
 
 -- 1: the first four bytes are DECL; the second section does not start where the first ends.
-unfoldable pub otherStart : Row
+unfoldable pub otherStart : TableRow
 otherStart =
     fileRow
     (68 ∷ 69 ∷ 67 ∷ 76 ∷ 3 ∷ 0 ∷ 30 ∷ 0 ∷ 0 ∷ 0 ∷ 1 ∷ 0 ∷ 0 ∷ 0 ∷ 30 ∷ 0 ∷ 0 ∷ 0 ∷ 0 ∷ 0
@@ -14,7 +14,7 @@ otherStart =
     (refusal 1)
 
 -- 1: a section count of 4.
-unfoldable pub otherCount : Row
+unfoldable pub otherCount : TableRow
 otherCount =
     fileRow
     (68 ∷ 69 ∷ 67 ∷ 75 ∷ 4 ∷ 0 ∷ 30 ∷ 0 ∷ 0 ∷ 0 ∷ 8 ∷ 0 ∷ 0 ∷ 0 ∷ 38 ∷ 0 ∷ 0 ∷ 0 ∷ 0 ∷ 0
@@ -22,7 +22,7 @@ otherCount =
     (refusal 1)
 
 -- 1: 785 bytes, of which 755 are pins.
-unfoldable pub tooLong : Row
+unfoldable pub tooLong : TableRow
 tooLong =
     fileRow
     ((68 ∷ 69 ∷ 67 ∷ 75 ∷ 3 ∷ 0 ∷ 30 ∷ 0 ∷ 0 ∷ 0 ∷ 243 ∷ 2 ∷ 0 ∷ 0 ∷ 17 ∷ 3 ∷ 0 ∷ 0 ∷ 0 ∷ 0
@@ -30,7 +30,7 @@ tooLong =
     (refusal 1)
 
 -- 2: the second section does not start where the first ends; the first has three bytes.
-unfoldable pub sectionsApart : Row
+unfoldable pub sectionsApart : TableRow
 sectionsApart =
     fileRow
     (68 ∷ 69 ∷ 67 ∷ 75 ∷ 3 ∷ 0 ∷ 30 ∷ 0 ∷ 0 ∷ 0 ∷ 3 ∷ 0 ∷ 0 ∷ 0 ∷ 30 ∷ 0 ∷ 0 ∷ 0 ∷ 0 ∷ 0
@@ -38,7 +38,7 @@ sectionsApart =
     (refusal 2)
 
 -- 2: a byte behind the last section.
-unfoldable pub byteBehind : Row
+unfoldable pub byteBehind : TableRow
 byteBehind =
     fileRow
     (68 ∷ 69 ∷ 67 ∷ 75 ∷ 3 ∷ 0 ∷ 30 ∷ 0 ∷ 0 ∷ 0 ∷ 8 ∷ 0 ∷ 0 ∷ 0 ∷ 38 ∷ 0 ∷ 0 ∷ 0 ∷ 0 ∷ 0
@@ -46,7 +46,7 @@ byteBehind =
     (refusal 2)
 
 -- 3: 65 pins and a byte more.
-unfoldable pub unevenSection : Row
+unfoldable pub unevenSection : TableRow
 unevenSection =
     fileRow
     ((68 ∷ 69 ∷ 67 ∷ 75 ∷ 3 ∷ 0 ∷ 30 ∷ 0 ∷ 0 ∷ 0 ∷ 5 ∷ 1 ∷ 0 ∷ 0 ∷ 35 ∷ 1 ∷ 0 ∷ 0 ∷ 0 ∷ 0
@@ -54,7 +54,7 @@ unevenSection =
     (refusal 3)
 
 -- 3: runs of three bytes.
-unfoldable pub unevenRuns : Row
+unfoldable pub unevenRuns : TableRow
 unevenRuns =
     fileRow
     (68 ∷ 69 ∷ 67 ∷ 75 ∷ 3 ∷ 0 ∷ 30 ∷ 0 ∷ 0 ∷ 0 ∷ 8 ∷ 0 ∷ 0 ∷ 0 ∷ 38 ∷ 0 ∷ 0 ∷ 0 ∷ 0 ∷ 0
@@ -62,7 +62,7 @@ unevenRuns =
     (refusal 3)
 
 -- 4: 65 pins, all at one place.
-unfoldable pub pinTooMany : Row
+unfoldable pub pinTooMany : TableRow
 pinTooMany =
     fileRow
     ((68 ∷ 69 ∷ 67 ∷ 75 ∷ 3 ∷ 0 ∷ 30 ∷ 0 ∷ 0 ∷ 0 ∷ 4 ∷ 1 ∷ 0 ∷ 0 ∷ 34 ∷ 1 ∷ 0 ∷ 0 ∷ 0 ∷ 0
@@ -70,7 +70,7 @@ pinTooMany =
     (refusal 4)
 
 -- 5: two pins at one place; their run has its larger number first.
-unfoldable pub pinTwice : Row
+unfoldable pub pinTwice : TableRow
 pinTwice =
     fileRow
     (68 ∷ 69 ∷ 67 ∷ 75 ∷ 3 ∷ 0 ∷ 30 ∷ 0 ∷ 0 ∷ 0 ∷ 8 ∷ 0 ∷ 0 ∷ 0 ∷ 38 ∷ 0 ∷ 0 ∷ 0 ∷ 0 ∷ 0
@@ -78,7 +78,7 @@ pinTwice =
     (refusal 5)
 
 -- 5: a pin at (0,30001).
-unfoldable pub beyondRange : Row
+unfoldable pub beyondRange : TableRow
 beyondRange =
     fileRow
     (68 ∷ 69 ∷ 67 ∷ 75 ∷ 3 ∷ 0 ∷ 30 ∷ 0 ∷ 0 ∷ 0 ∷ 4 ∷ 0 ∷ 0 ∷ 0 ∷ 34 ∷ 0 ∷ 0 ∷ 0 ∷ 0 ∷ 0
@@ -86,7 +86,7 @@ beyondRange =
     (refusal 5)
 
 -- 5: a tap where a pin stands.
-unfoldable pub tapOnPin : Row
+unfoldable pub tapOnPin : TableRow
 tapOnPin =
     fileRow
     (68 ∷ 69 ∷ 67 ∷ 75 ∷ 3 ∷ 0 ∷ 30 ∷ 0 ∷ 0 ∷ 0 ∷ 8 ∷ 0 ∷ 0 ∷ 0 ∷ 38 ∷ 0 ∷ 0 ∷ 0 ∷ 4 ∷ 0
@@ -94,7 +94,7 @@ tapOnPin =
     (refusal 5)
 
 -- 6: two pins, and their run has its larger number first.
-unfoldable pub runTurned : Row
+unfoldable pub runTurned : TableRow
 runTurned =
     fileRow
     (68 ∷ 69 ∷ 67 ∷ 75 ∷ 3 ∷ 0 ∷ 30 ∷ 0 ∷ 0 ∷ 0 ∷ 8 ∷ 0 ∷ 0 ∷ 0 ∷ 38 ∷ 0 ∷ 0 ∷ 0 ∷ 0 ∷ 0
@@ -102,7 +102,7 @@ runTurned =
     (refusal 6)
 
 -- 6: a tap at (0,1) with two runs, between the pins (0,0) and (0,2).
-unfoldable pub tapOfTwoRuns : Row
+unfoldable pub tapOfTwoRuns : TableRow
 tapOfTwoRuns =
     fileRow
     (68 ∷ 69 ∷ 67 ∷ 75 ∷ 3 ∷ 0 ∷ 30 ∷ 0 ∷ 0 ∷ 0 ∷ 8 ∷ 0 ∷ 0 ∷ 0 ∷ 38 ∷ 0 ∷ 0 ∷ 0 ∷ 4 ∷ 0
@@ -110,7 +110,7 @@ tapOfTwoRuns =
     (refusal 6)
 
 -- 6: the pins of deck 9 with the run (10,0) to (10,10) in the place of (0,10) to (10,10), which is as long.
-unfoldable pub otherTree : Row
+unfoldable pub otherTree : TableRow
 otherTree =
     fileRow
     (68 ∷ 69 ∷ 67 ∷ 75 ∷ 3 ∷ 0 ∷ 30 ∷ 0 ∷ 0 ∷ 0 ∷ 16 ∷ 0 ∷ 0 ∷ 0 ∷ 46 ∷ 0 ∷ 0 ∷ 0 ∷ 0 ∷ 0
@@ -118,17 +118,17 @@ otherTree =
     (refusal 6)
 
 -- The pins (0,0) and (0,1) and their run.
-unfoldable pub fullFile : Row
+unfoldable pub fullFile : TableRow
 fullFile =
     fileRow
     (68 ∷ 69 ∷ 67 ∷ 75 ∷ 3 ∷ 0 ∷ 30 ∷ 0 ∷ 0 ∷ 0 ∷ 8 ∷ 0 ∷ 0 ∷ 0 ∷ 38 ∷ 0 ∷ 0 ∷ 0 ∷ 0 ∷ 0
     ∷ 0 ∷ 0 ∷ 38 ∷ 0 ∷ 0 ∷ 0 ∷ 2 ∷ 0 ∷ 0 ∷ 0 ∷ 0 ∷ 0 ∷ 0 ∷ 0 ∷ 0 ∷ 0 ∷ 1 ∷ 0 ∷ 0 ∷ 1 ∷ [])
-    (deck (record { pins = at 0 0 ∷ at 0 1 ∷ []; steiner = [] }))
+    (deck (record { pins = point 0 0 ∷ point 0 1 ∷ []; steiner = [] }))
 
 -- The same two pins in a plain file.
-unfoldable pub plainFile : Row
+unfoldable pub plainFile : TableRow
 plainFile =
     fileRow
     (68 ∷ 69 ∷ 67 ∷ 75 ∷ 3 ∷ 0 ∷ 30 ∷ 0 ∷ 0 ∷ 0 ∷ 8 ∷ 0 ∷ 0 ∷ 0 ∷ 38 ∷ 0 ∷ 0 ∷ 0 ∷ 0 ∷ 0
     ∷ 0 ∷ 0 ∷ 38 ∷ 0 ∷ 0 ∷ 0 ∷ 0 ∷ 0 ∷ 0 ∷ 0 ∷ 0 ∷ 0 ∷ 0 ∷ 0 ∷ 0 ∷ 0 ∷ 1 ∷ 0 ∷ [])
-    (deck (record { pins = at 0 0 ∷ at 0 1 ∷ []; steiner = [] }))
+    (deck (record { pins = point 0 0 ∷ point 0 1 ∷ []; steiner = [] }))

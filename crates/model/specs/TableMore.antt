@@ -3,20 +3,20 @@ use mathlib.Core.List.{[], _∷_}
 use lib.IntN.{pos, negsuc}
 use Rattle.model.specs.Round.{tap}
 use Rattle.model.specs.Call.{add, withdraw, oneRound, runToEnd, done, refused, answered, rounds}
-use Rattle.model.specs.Decks.{DeckRow, at, from}
+use Rattle.model.specs.Decks.{DeckRow, point, from}
 
 -- A round that sweeps out its own tap, and whose fall, 2, is above its saving, 1.
 unfoldable pub sweptByItsRound : DeckRow
 sweptByItsRound =
     record {
       start = [];
-      calls = add (at 0 3) ∷ add (at 2 1) ∷ add (at 0 0) ∷ runToEnd ∷ add (at 1 2) ∷ withdraw (at 0 0) ∷ oneRound ∷ [];
+      calls = add (point 0 3) ∷ add (point 2 1) ∷ add (point 0 0) ∷ runToEnd ∷ add (point 1 2) ∷ withdraw (point 0 0) ∷ oneRound ∷ [];
       shows =
           record {
-            replies = done ∷ done ∷ done ∷ rounds 1 ∷ done ∷ done ∷ answered (tap (at 0 2) 2) ∷ [];
+            replies = done ∷ done ∷ done ∷ rounds 1 ∷ done ∷ done ∷ answered (tap (point 0 2) 2) ∷ [];
             lengths = 0 ∷ 0 ∷ 4 ∷ 6 ∷ 5 ∷ 7 ∷ 6 ∷ 4 ∷ [];
-            last = record { pins = at 0 3 ∷ at 1 2 ∷ at 2 1 ∷ []; steiner = [] };
-            runs = from (at 0 3) (at 1 2) ∷ from (at 1 2) (at 2 1) ∷ [];
+            last = record { pins = point 0 3 ∷ point 1 2 ∷ point 2 1 ∷ []; steiner = [] };
+            runs = from (point 0 3) (point 1 2) ∷ from (point 1 2) (point 2 1) ∷ [];
           };
     }
 
@@ -25,13 +25,15 @@ unfoldable pub sweepOrder : DeckRow
 sweepOrder =
     record {
       start = [];
-      calls = add (at 2 1) ∷ add (at 1 0) ∷ add (at 4 1) ∷ add (at 3 0) ∷ add (at 0 2) ∷ runToEnd ∷ add (at 2 2) ∷ withdraw (at 2 1) ∷ [];
+      calls = add (point 2 1) ∷ add (point 1 0) ∷ add (point 4 1) ∷ add (point 3 0) ∷ add (point 0 2) ∷ runToEnd ∷ add (point 2 2) ∷ withdraw (point 2 1) ∷ [];
       shows =
           record {
             replies = done ∷ done ∷ done ∷ done ∷ done ∷ rounds 2 ∷ done ∷ done ∷ [];
             lengths = 0 ∷ 0 ∷ 2 ∷ 4 ∷ 6 ∷ 9 ∷ 7 ∷ 8 ∷ 8 ∷ [];
-            last = record { pins = at 0 2 ∷ at 1 0 ∷ at 2 2 ∷ at 3 0 ∷ at 4 1 ∷ []; steiner = at 3 1 ∷ [] };
-            runs = from (at 0 2) (at 2 2) ∷ from (at 1 0) (at 3 0) ∷ from (at 2 2) (at 3 1) ∷ from (at 3 0) (at 3 1) ∷ from (at 3 1) (at 4 1) ∷ [];
+            last = record { pins = point 0 2 ∷ point 1 0 ∷ point 2 2 ∷ point 3 0 ∷ point 4 1 ∷ []; steiner = point 3 1 ∷ [] };
+            runs =
+                from (point 0 2) (point 2 2) ∷ from (point 1 0) (point 3 0) ∷ from (point 2 2) (point 3 1)
+                ∷ from (point 3 0) (point 3 1) ∷ from (point 3 1) (point 4 1) ∷ [];
           };
     }
 
@@ -40,13 +42,13 @@ unfoldable pub tapLine : DeckRow
 tapLine =
     record {
       start = [];
-      calls = add (at 0 2) ∷ add (at 4 1) ∷ add (at 2 0) ∷ runToEnd ∷ add (at 3 2) ∷ withdraw (at 2 0) ∷ oneRound ∷ [];
+      calls = add (point 0 2) ∷ add (point 4 1) ∷ add (point 2 0) ∷ runToEnd ∷ add (point 3 2) ∷ withdraw (point 2 0) ∷ oneRound ∷ [];
       shows =
           record {
-            replies = done ∷ done ∷ done ∷ rounds 1 ∷ done ∷ done ∷ answered (tap (at 2 2) 2) ∷ [];
+            replies = done ∷ done ∷ done ∷ rounds 1 ∷ done ∷ done ∷ answered (tap (point 2 2) 2) ∷ [];
             lengths = 0 ∷ 0 ∷ 5 ∷ 7 ∷ 6 ∷ 8 ∷ 7 ∷ 5 ∷ [];
-            last = record { pins = at 0 2 ∷ at 3 2 ∷ at 4 1 ∷ []; steiner = [] };
-            runs = from (at 0 2) (at 3 2) ∷ from (at 3 2) (at 4 1) ∷ [];
+            last = record { pins = point 0 2 ∷ point 3 2 ∷ point 4 1 ∷ []; steiner = [] };
+            runs = from (point 0 2) (point 3 2) ∷ from (point 3 2) (point 4 1) ∷ [];
           };
     }
 
@@ -55,13 +57,13 @@ unfoldable pub secondRemoval : DeckRow
 secondRemoval =
     record {
       start = [];
-      calls = add (at 1 0) ∷ add (at 4 1) ∷ add (at 0 2) ∷ add (at 3 3) ∷ runToEnd ∷ withdraw (at 4 1) ∷ [];
+      calls = add (point 1 0) ∷ add (point 4 1) ∷ add (point 0 2) ∷ add (point 3 3) ∷ runToEnd ∷ withdraw (point 4 1) ∷ [];
       shows =
           record {
             replies = done ∷ done ∷ done ∷ done ∷ rounds 2 ∷ done ∷ [];
             lengths = 0 ∷ 0 ∷ 4 ∷ 7 ∷ 10 ∷ 8 ∷ 7 ∷ [];
-            last = record { pins = at 0 2 ∷ at 1 0 ∷ at 3 3 ∷ []; steiner = [] };
-            runs = from (at 0 2) (at 1 0) ∷ from (at 0 2) (at 3 3) ∷ [];
+            last = record { pins = point 0 2 ∷ point 1 0 ∷ point 3 3 ∷ []; steiner = [] };
+            runs = from (point 0 2) (point 1 0) ∷ from (point 0 2) (point 3 3) ∷ [];
           };
     }
 
@@ -70,13 +72,13 @@ unfoldable pub anotherRunJoins : DeckRow
 anotherRunJoins =
     record {
       start = [];
-      calls = add (at 2 0) ∷ add (at 1 1) ∷ add (at 0 0) ∷ oneRound ∷ add (at 2 1) ∷ withdraw (at 0 0) ∷ [];
+      calls = add (point 2 0) ∷ add (point 1 1) ∷ add (point 0 0) ∷ oneRound ∷ add (point 2 1) ∷ withdraw (point 0 0) ∷ [];
       shows =
           record {
-            replies = done ∷ done ∷ done ∷ answered (tap (at 1 0) 1) ∷ done ∷ done ∷ [];
+            replies = done ∷ done ∷ done ∷ answered (tap (point 1 0) 1) ∷ done ∷ done ∷ [];
             lengths = 0 ∷ 0 ∷ 2 ∷ 4 ∷ 3 ∷ 4 ∷ 2 ∷ [];
-            last = record { pins = at 1 1 ∷ at 2 0 ∷ at 2 1 ∷ []; steiner = [] };
-            runs = from (at 1 1) (at 2 1) ∷ from (at 2 0) (at 2 1) ∷ [];
+            last = record { pins = point 1 1 ∷ point 2 0 ∷ point 2 1 ∷ []; steiner = [] };
+            runs = from (point 1 1) (point 2 1) ∷ from (point 2 0) (point 2 1) ∷ [];
           };
     }
 
@@ -85,13 +87,13 @@ unfoldable pub orderOfEntry : DeckRow
 orderOfEntry =
     record {
       start = [];
-      calls = add (at 1 2) ∷ add (at 0 1) ∷ add (at 1 0) ∷ oneRound ∷ add (at 0 0) ∷ [];
+      calls = add (point 1 2) ∷ add (point 0 1) ∷ add (point 1 0) ∷ oneRound ∷ add (point 0 0) ∷ [];
       shows =
           record {
-            replies = done ∷ done ∷ done ∷ answered (tap (at 1 1) 1) ∷ done ∷ [];
+            replies = done ∷ done ∷ done ∷ answered (tap (point 1 1) 1) ∷ done ∷ [];
             lengths = 0 ∷ 0 ∷ 2 ∷ 4 ∷ 3 ∷ 4 ∷ [];
-            last = record { pins = at 0 0 ∷ at 0 1 ∷ at 1 0 ∷ at 1 2 ∷ []; steiner = [] };
-            runs = from (at 0 0) (at 0 1) ∷ from (at 0 0) (at 1 0) ∷ from (at 0 1) (at 1 2) ∷ [];
+            last = record { pins = point 0 0 ∷ point 0 1 ∷ point 1 0 ∷ point 1 2 ∷ []; steiner = [] };
+            runs = from (point 0 0) (point 0 1) ∷ from (point 0 0) (point 1 0) ∷ from (point 0 1) (point 1 2) ∷ [];
           };
     }
 
@@ -100,13 +102,13 @@ unfoldable pub equalSavings : DeckRow
 equalSavings =
     record {
       start = [];
-      calls = add (at 1 1) ∷ add (at 0 0) ∷ add (at 2 0) ∷ add (at 0 2) ∷ oneRound ∷ [];
+      calls = add (point 1 1) ∷ add (point 0 0) ∷ add (point 2 0) ∷ add (point 0 2) ∷ oneRound ∷ [];
       shows =
           record {
-            replies = done ∷ done ∷ done ∷ done ∷ answered (tap (at 0 1) 1) ∷ [];
+            replies = done ∷ done ∷ done ∷ done ∷ answered (tap (point 0 1) 1) ∷ [];
             lengths = 0 ∷ 0 ∷ 2 ∷ 4 ∷ 6 ∷ 5 ∷ [];
-            last = record { pins = at 0 0 ∷ at 0 2 ∷ at 1 1 ∷ at 2 0 ∷ []; steiner = at 0 1 ∷ [] };
-            runs = from (at 0 0) (at 0 1) ∷ from (at 0 0) (at 2 0) ∷ from (at 0 1) (at 0 2) ∷ from (at 0 1) (at 1 1) ∷ [];
+            last = record { pins = point 0 0 ∷ point 0 2 ∷ point 1 1 ∷ point 2 0 ∷ []; steiner = point 0 1 ∷ [] };
+            runs = from (point 0 0) (point 0 1) ∷ from (point 0 0) (point 2 0) ∷ from (point 0 1) (point 0 2) ∷ from (point 0 1) (point 1 1) ∷ [];
           };
     }
 
@@ -114,14 +116,14 @@ equalSavings =
 unfoldable pub greatestSaving : DeckRow
 greatestSaving =
     record {
-      start = at 0 0 ∷ at 1 3 ∷ at 3 1 ∷ [];
+      start = point 0 0 ∷ point 1 3 ∷ point 3 1 ∷ [];
       calls = oneRound ∷ [];
       shows =
           record {
-            replies = answered (tap (at 1 1) 2) ∷ [];
+            replies = answered (tap (point 1 1) 2) ∷ [];
             lengths = 8 ∷ 6 ∷ [];
-            last = record { pins = at 0 0 ∷ at 1 3 ∷ at 3 1 ∷ []; steiner = at 1 1 ∷ [] };
-            runs = from (at 0 0) (at 1 1) ∷ from (at 1 1) (at 1 3) ∷ from (at 1 1) (at 3 1) ∷ [];
+            last = record { pins = point 0 0 ∷ point 1 3 ∷ point 3 1 ∷ []; steiner = point 1 1 ∷ [] };
+            runs = from (point 0 0) (point 1 1) ∷ from (point 1 1) (point 1 3) ∷ from (point 1 1) (point 3 1) ∷ [];
           };
     }
 
@@ -129,14 +131,14 @@ greatestSaving =
 unfoldable pub lowerEndFirst : DeckRow
 lowerEndFirst =
     record {
-      start = at 0 2 ∷ at 1 0 ∷ at 3 1 ∷ at 3 2 ∷ [];
+      start = point 0 2 ∷ point 1 0 ∷ point 3 1 ∷ point 3 2 ∷ [];
       calls = [];
       shows =
           record {
             replies = [];
             lengths = 7 ∷ [];
-            last = record { pins = at 0 2 ∷ at 1 0 ∷ at 3 1 ∷ at 3 2 ∷ []; steiner = [] };
-            runs = from (at 0 2) (at 1 0) ∷ from (at 0 2) (at 3 2) ∷ from (at 3 1) (at 3 2) ∷ [];
+            last = record { pins = point 0 2 ∷ point 1 0 ∷ point 3 1 ∷ point 3 2 ∷ []; steiner = [] };
+            runs = from (point 0 2) (point 1 0) ∷ from (point 0 2) (point 3 2) ∷ from (point 3 1) (point 3 2) ∷ [];
           };
     }
 
@@ -144,14 +146,14 @@ lowerEndFirst =
 unfoldable pub octantBorder : DeckRow
 octantBorder =
     record {
-      start = record { x = pos 2; y = negsuc 1 } ∷ at 2 2 ∷ at 5 0 ∷ [];
-      calls = add (at 0 0) ∷ [];
+      start = record { x = pos 2; y = negsuc 1 } ∷ point 2 2 ∷ point 5 0 ∷ [];
+      calls = add (point 0 0) ∷ [];
       shows =
           record {
             replies = done ∷ [];
             lengths = 9 ∷ 13 ∷ [];
-            last = record { pins = at 0 0 ∷ record { x = pos 2; y = negsuc 1 } ∷ at 2 2 ∷ at 5 0 ∷ []; steiner = [] };
-            runs = from (at 0 0) (record { x = pos 2; y = negsuc 1 }) ∷ from (at 0 0) (at 2 2) ∷ from (at 0 0) (at 5 0) ∷ [];
+            last = record { pins = point 0 0 ∷ record { x = pos 2; y = negsuc 1 } ∷ point 2 2 ∷ point 5 0 ∷ []; steiner = [] };
+            runs = from (point 0 0) (record { x = pos 2; y = negsuc 1 }) ∷ from (point 0 0) (point 2 2) ∷ from (point 0 0) (point 5 0) ∷ [];
           };
     }
 
@@ -159,13 +161,17 @@ octantBorder =
 unfoldable pub refusals : DeckRow
 refusals =
     record {
-      start = at 0 0 ∷ at 5 8 ∷ at 10 0 ∷ [];
-      calls = oneRound ∷ add (at 30001 0) ∷ add (record { x = pos 0; y = negsuc 30000 }) ∷ add (at 5 8) ∷ withdraw (at 1 1) ∷ withdraw (at 5 0) ∷ withdraw (at 40000 0) ∷ add (record { x = pos 30000; y = negsuc 29999 }) ∷ [];
+      start = point 0 0 ∷ point 5 8 ∷ point 10 0 ∷ [];
+      calls =
+          oneRound ∷ add (point 30001 0) ∷ add (record { x = pos 0; y = negsuc 30000 }) ∷ add (point 5 8) ∷ withdraw (point 1 1)
+          ∷ withdraw (point 5 0) ∷ withdraw (point 40000 0) ∷ add (record { x = pos 30000; y = negsuc 29999 }) ∷ [];
       shows =
           record {
-            replies = answered (tap (at 5 0) 5) ∷ refused 7 ∷ refused 7 ∷ refused 8 ∷ refused 9 ∷ refused 9 ∷ refused 9 ∷ done ∷ [];
+            replies = answered (tap (point 5 0) 5) ∷ refused 7 ∷ refused 7 ∷ refused 8 ∷ refused 9 ∷ refused 9 ∷ refused 9 ∷ done ∷ [];
             lengths = 23 ∷ 18 ∷ 18 ∷ 18 ∷ 18 ∷ 18 ∷ 18 ∷ 18 ∷ 60008 ∷ [];
-            last = record { pins = at 0 0 ∷ at 5 8 ∷ at 10 0 ∷ record { x = pos 30000; y = negsuc 29999 } ∷ []; steiner = at 5 0 ∷ [] };
-            runs = from (at 0 0) (at 5 0) ∷ from (at 5 0) (at 5 8) ∷ from (at 5 0) (at 10 0) ∷ from (at 10 0) (record { x = pos 30000; y = negsuc 29999 }) ∷ [];
+            last = record { pins = point 0 0 ∷ point 5 8 ∷ point 10 0 ∷ record { x = pos 30000; y = negsuc 29999 } ∷ []; steiner = point 5 0 ∷ [] };
+            runs =
+                from (point 0 0) (point 5 0) ∷ from (point 5 0) (point 5 8) ∷ from (point 5 0) (point 10 0)
+                ∷ from (point 10 0) (record { x = pos 30000; y = negsuc 29999 }) ∷ [];
           };
     }

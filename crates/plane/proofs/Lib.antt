@@ -1,5 +1,4 @@
-pub mod Between
-pub mod Joining
+pub mod EdgeAtPoint
 pub mod Median
 pub mod Metric
 pub mod Nearest

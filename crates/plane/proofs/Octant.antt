@@ -1,4 +1,4 @@
--- Every difference other than 0, 0 is in exactly one octant, and `octant` gives it. By a chain of tests, `turn`, that finds
+-- Every difference other than 0, 0 is in exactly one octant, and `octant` gives it. By a chain of tests, `byTests`, that finds
 -- the octant: each octant's condition decides every test on its way.
 use mathlib.Core.Path.{_≡_, sym, ap, _∙_, subst}
 use mathlib.Core.Logic.{_⊎_, inl, inr, ⊎-elim}
@@ -18,8 +18,8 @@ use Rattle.plane.proofs.Whole.{plus, minus, whole-ext}
 use Rattle.plane.proofs.Sector.{Sector, to-sector, from-sector}
 
 -- The octant of a − b, c − d by a chain of tests.
-abbrev turn : ℕ → ℕ → ℕ → ℕ → ℕ
-turn a b c d =
+abbrev byTests : ℕ → ℕ → ℕ → ℕ → ℕ
+byTests a b c d =
     if (ltb b a)
     (λ _. if (leb d c) (λ _. if (ltb (c + b) (a + d)) (λ _. 0) (λ _. 1)) (λ _. if (ltb (a + c) (d + b)) (λ _. 6) (λ _. 7)))
     (λ _. if (ltb a b)
@@ -27,37 +27,37 @@ turn a b c d =
     (λ _. if (ltb d c) (λ _. 2) (λ _. 6)))
 
 -- The octant that a sector's condition names is where the tests lead.
-turn-is : (k a b c d : ℕ) → Sector k a b c d → turn a b c d ≡ k
-turn-is zero a b c d s = simp (lt-ltb b a (s .0), le-leb d c (s .1), lt-ltb (c + b) (a + d) (s .2))
-turn-is (suc zero) a b c d s =
+tests-find : (k a b c d : ℕ) → Sector k a b c d → byTests a b c d ≡ k
+tests-find zero a b c d s = simp (lt-ltb b a (s .0), le-leb d c (s .1), lt-ltb (c + b) (a + d) (s .2))
+tests-find (suc zero) a b c d s =
     simp (lt-ltb b a (s .0), le-leb d c (omega arith), le-ltb (c + b) (a + d) (s .1))
-turn-is (suc (suc zero)) a b c d s =
+tests-find (suc (suc zero)) a b c d s =
     by (decLt a b)
   where
-    by : Dec (a < b) → turn a b c d ≡ 2
+    by : Dec (a < b) → byTests a b c d ≡ 2
     by (yes h) = simp (le-ltb b a (s .1), lt-ltb a b h, lt-leb c d (s .0), lt-ltb (b + d) (c + a) (s .2))
     by (no n) = simp (le-ltb b a (s .1), le-ltb a b (omega arith), lt-ltb d c (s .0))
-turn-is (suc (suc (suc zero))) a b c d s =
+tests-find (suc (suc (suc zero))) a b c d s =
     simp (le-ltb b a (omega arith), lt-ltb a b (omega arith), lt-leb c d (s .0), le-ltb (b + d) (c + a) (s .1))
-turn-is (suc (suc (suc (suc zero)))) a b c d s =
+tests-find (suc (suc (suc (suc zero)))) a b c d s =
     simp (le-ltb b a (omega arith), lt-ltb a b (s .0), le-leb c d (s .1), lt-ltb (d + a) (b + c) (s .2))
-turn-is (suc (suc (suc (suc (suc zero))))) a b c d s =
+tests-find (suc (suc (suc (suc (suc zero))))) a b c d s =
     simp (le-ltb b a (omega arith), lt-ltb a b (s .0), le-leb c d (omega arith), le-ltb (d + a) (b + c) (s .1))
-turn-is (suc (suc (suc (suc (suc (suc zero)))))) a b c d s =
+tests-find (suc (suc (suc (suc (suc (suc zero)))))) a b c d s =
     by (decLt b a)
   where
-    by : Dec (b < a) → turn a b c d ≡ 6
+    by : Dec (b < a) → byTests a b c d ≡ 6
     by (yes h) = simp (lt-ltb b a h, lt-leb d c (s .0), lt-ltb (a + c) (d + b) (s .2))
     by (no n) = simp (le-ltb b a (omega arith), le-ltb a b (s .1), le-ltb d c (omega arith))
-turn-is (suc (suc (suc (suc (suc (suc (suc zero))))))) a b c d s =
+tests-find (suc (suc (suc (suc (suc (suc (suc zero))))))) a b c d s =
     simp (lt-ltb b a (omega arith), lt-leb d c (s .0), le-ltb (a + c) (d + b) (s .1))
-turn-is (suc (suc (suc (suc (suc (suc (suc (suc k)))))))) a b c d s = absurd s
+tests-find (suc (suc (suc (suc (suc (suc (suc (suc k)))))))) a b c d s = absurd s
 
 -- No difference is in two octants.
 pub only-octant : (j k : ℕ) (dx dy : ℤ) → T (inOctant j dx dy) → T (inOctant k dx dy) → j ≡ k
 only-octant j k dx dy s t =
-    sym (turn-is j (plus dx) (minus dx) (plus dy) (minus dy) (to-sector j dx dy s))
-    ∙ turn-is k (plus dx) (minus dx) (plus dy) (minus dy) (to-sector k dx dy t)
+    sym (tests-find j (plus dx) (minus dx) (plus dy) (minus dy) (to-sector j dx dy s))
+    ∙ tests-find k (plus dx) (minus dx) (plus dy) (minus dy) (to-sector k dx dy t)
 
 -- Every difference is in one, unless both parts are 0.
 some-sector : (a b c d : ℕ) → ((k : ℕ) × (k < 8) × Sector k a b c d) ⊎ ((a ≡ b) × (c ≡ d))

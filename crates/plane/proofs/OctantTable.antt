@@ -1,14 +1,14 @@
 -- The examples of octants, by computation.
 use mathlib.Core.Path.{refl}
-use Rattle.plane.specs.OctantTable.{octants, Borders, star, Joined, LowerOfEquals}
+use Rattle.plane.specs.OctantTable.{octants, Borders, star, NearestInOctants, LowerOfEquals}
 
 pub borders : Borders
 unfolding octants
 borders = refl
 
-pub joined : Joined
+pub nearest-in-octants : NearestInOctants
 unfolding star
-joined = refl
+nearest-in-octants = refl
 
 pub lower-of-equals : LowerOfEquals
 unfolding star

@@ -38,21 +38,48 @@ to-sector (suc zero) dx dy t =
 to-sector (suc (suc zero)) dx dy t =
     let h = and-parts (ltZ (pos 0) dy) (leZ (pos 0) (negℤ dx) && ltZ (negℤ dx) dy) t in
     let g = and-parts (leZ (pos 0) (negℤ dx)) (ltZ (negℤ dx) dy) (h .1) in
-    omega (arith, less-value (pos 0) dy (h .0), atmost-value (pos 0) (negℤ dx) (g .0), less-value (negℤ dx) dy (g .1), neg-plus dx, neg-minus dx, neg-plus dy, neg-minus dy)
+    omega (
+      arith,
+      less-value (pos 0) dy (h .0),
+      atmost-value (pos 0) (negℤ dx) (g .0),
+      less-value (negℤ dx) dy (g .1),
+      neg-plus dx,
+      neg-minus dx,
+      neg-plus dy,
+      neg-minus dy,
+    )
 to-sector (suc (suc (suc zero))) dx dy t =
     let h = and-parts (ltZ (pos 0) dy) (leZ dy (negℤ dx)) t in
     omega (arith, less-value (pos 0) dy (h .0), atmost-value dy (negℤ dx) (h .1), neg-plus dx, neg-minus dx, neg-plus dy, neg-minus dy)
 to-sector (suc (suc (suc (suc zero)))) dx dy t =
     let h = and-parts (ltZ dx (pos 0)) (leZ (pos 0) (negℤ dy) && ltZ (negℤ dy) (negℤ dx)) t in
     let g = and-parts (leZ (pos 0) (negℤ dy)) (ltZ (negℤ dy) (negℤ dx)) (h .1) in
-    omega (arith, less-value dx (pos 0) (h .0), atmost-value (pos 0) (negℤ dy) (g .0), less-value (negℤ dy) (negℤ dx) (g .1), neg-plus dx, neg-minus dx, neg-plus dy, neg-minus dy)
+    omega (
+      arith,
+      less-value dx (pos 0) (h .0),
+      atmost-value (pos 0) (negℤ dy) (g .0),
+      less-value (negℤ dy) (negℤ dx) (g .1),
+      neg-plus dx,
+      neg-minus dx,
+      neg-plus dy,
+      neg-minus dy,
+    )
 to-sector (suc (suc (suc (suc (suc zero))))) dx dy t =
     let h = and-parts (ltZ dx (pos 0)) (leZ (negℤ dx) (negℤ dy)) t in
     omega (arith, less-value dx (pos 0) (h .0), atmost-value (negℤ dx) (negℤ dy) (h .1), neg-plus dx, neg-minus dx, neg-plus dy, neg-minus dy)
 to-sector (suc (suc (suc (suc (suc (suc zero)))))) dx dy t =
     let h = and-parts (ltZ dy (pos 0)) (leZ (pos 0) dx && ltZ dx (negℤ dy)) t in
     let g = and-parts (leZ (pos 0) dx) (ltZ dx (negℤ dy)) (h .1) in
-    omega (arith, less-value dy (pos 0) (h .0), atmost-value (pos 0) dx (g .0), less-value dx (negℤ dy) (g .1), neg-plus dx, neg-minus dx, neg-plus dy, neg-minus dy)
+    omega (
+      arith,
+      less-value dy (pos 0) (h .0),
+      atmost-value (pos 0) dx (g .0),
+      less-value dx (negℤ dy) (g .1),
+      neg-plus dx,
+      neg-minus dx,
+      neg-plus dy,
+      neg-minus dy,
+    )
 to-sector (suc (suc (suc (suc (suc (suc (suc zero))))))) dx dy t =
     let h = and-parts (ltZ dy (pos 0)) (leZ (negℤ dy) dx) t in
     omega (arith, less-value dy (pos 0) (h .0), atmost-value (negℤ dy) dx (h .1), neg-plus dx, neg-minus dx, neg-plus dy, neg-minus dy)
@@ -62,22 +89,35 @@ pub from-sector : (k : ℕ) (dx dy : ℤ) → SectorOf k dx dy → T (inOctant k
 unfolding conditions
 from-sector zero dx dy s =
     and-both (ltZ (pos 0) dx) (leZ (pos 0) dy && ltZ dy dx) (value-less (pos 0) dx (omega (arith, neg-plus dx, neg-minus dx, neg-plus dy, neg-minus dy)))
-    (and-both (leZ (pos 0) dy) (ltZ dy dx) (value-atmost (pos 0) dy (omega (arith, neg-plus dx, neg-minus dx, neg-plus dy, neg-minus dy))) (value-less dy dx (omega (arith, neg-plus dx, neg-minus dx, neg-plus dy, neg-minus dy))))
+    (and-both (leZ (pos 0) dy) (ltZ dy dx) (value-atmost (pos 0) dy (omega (arith, neg-plus dx, neg-minus dx, neg-plus dy, neg-minus dy)))
+    (value-less dy dx (omega (arith, neg-plus dx, neg-minus dx, neg-plus dy, neg-minus dy))))
 from-sector (suc zero) dx dy s =
-    and-both (ltZ (pos 0) dx) (leZ dx dy) (value-less (pos 0) dx (omega (arith, neg-plus dx, neg-minus dx, neg-plus dy, neg-minus dy))) (value-atmost dx dy (omega (arith, neg-plus dx, neg-minus dx, neg-plus dy, neg-minus dy)))
+    and-both (ltZ (pos 0) dx) (leZ dx dy) (value-less (pos 0) dx (omega (arith, neg-plus dx, neg-minus dx, neg-plus dy, neg-minus dy)))
+    (value-atmost dx dy (omega (arith, neg-plus dx, neg-minus dx, neg-plus dy, neg-minus dy)))
 from-sector (suc (suc zero)) dx dy s =
-    and-both (ltZ (pos 0) dy) (leZ (pos 0) (negℤ dx) && ltZ (negℤ dx) dy) (value-less (pos 0) dy (omega (arith, neg-plus dx, neg-minus dx, neg-plus dy, neg-minus dy)))
-    (and-both (leZ (pos 0) (negℤ dx)) (ltZ (negℤ dx) dy) (value-atmost (pos 0) (negℤ dx) (omega (arith, neg-plus dx, neg-minus dx, neg-plus dy, neg-minus dy))) (value-less (negℤ dx) dy (omega (arith, neg-plus dx, neg-minus dx, neg-plus dy, neg-minus dy))))
+    and-both (ltZ (pos 0) dy) (leZ (pos 0) (negℤ dx) && ltZ (negℤ dx) dy)
+    (value-less (pos 0) dy (omega (arith, neg-plus dx, neg-minus dx, neg-plus dy, neg-minus dy)))
+    (and-both (leZ (pos 0) (negℤ dx)) (ltZ (negℤ dx) dy)
+    (value-atmost (pos 0) (negℤ dx) (omega (arith, neg-plus dx, neg-minus dx, neg-plus dy, neg-minus dy)))
+    (value-less (negℤ dx) dy (omega (arith, neg-plus dx, neg-minus dx, neg-plus dy, neg-minus dy))))
 from-sector (suc (suc (suc zero))) dx dy s =
-    and-both (ltZ (pos 0) dy) (leZ dy (negℤ dx)) (value-less (pos 0) dy (omega (arith, neg-plus dx, neg-minus dx, neg-plus dy, neg-minus dy))) (value-atmost dy (negℤ dx) (omega (arith, neg-plus dx, neg-minus dx, neg-plus dy, neg-minus dy)))
+    and-both (ltZ (pos 0) dy) (leZ dy (negℤ dx)) (value-less (pos 0) dy (omega (arith, neg-plus dx, neg-minus dx, neg-plus dy, neg-minus dy)))
+    (value-atmost dy (negℤ dx) (omega (arith, neg-plus dx, neg-minus dx, neg-plus dy, neg-minus dy)))
 from-sector (suc (suc (suc (suc zero)))) dx dy s =
-    and-both (ltZ dx (pos 0)) (leZ (pos 0) (negℤ dy) && ltZ (negℤ dy) (negℤ dx)) (value-less dx (pos 0) (omega (arith, neg-plus dx, neg-minus dx, neg-plus dy, neg-minus dy)))
-    (and-both (leZ (pos 0) (negℤ dy)) (ltZ (negℤ dy) (negℤ dx)) (value-atmost (pos 0) (negℤ dy) (omega (arith, neg-plus dx, neg-minus dx, neg-plus dy, neg-minus dy))) (value-less (negℤ dy) (negℤ dx) (omega (arith, neg-plus dx, neg-minus dx, neg-plus dy, neg-minus dy))))
+    and-both (ltZ dx (pos 0)) (leZ (pos 0) (negℤ dy) && ltZ (negℤ dy) (negℤ dx))
+    (value-less dx (pos 0) (omega (arith, neg-plus dx, neg-minus dx, neg-plus dy, neg-minus dy)))
+    (and-both (leZ (pos 0) (negℤ dy)) (ltZ (negℤ dy) (negℤ dx))
+    (value-atmost (pos 0) (negℤ dy) (omega (arith, neg-plus dx, neg-minus dx, neg-plus dy, neg-minus dy)))
+    (value-less (negℤ dy) (negℤ dx) (omega (arith, neg-plus dx, neg-minus dx, neg-plus dy, neg-minus dy))))
 from-sector (suc (suc (suc (suc (suc zero))))) dx dy s =
-    and-both (ltZ dx (pos 0)) (leZ (negℤ dx) (negℤ dy)) (value-less dx (pos 0) (omega (arith, neg-plus dx, neg-minus dx, neg-plus dy, neg-minus dy))) (value-atmost (negℤ dx) (negℤ dy) (omega (arith, neg-plus dx, neg-minus dx, neg-plus dy, neg-minus dy)))
+    and-both (ltZ dx (pos 0)) (leZ (negℤ dx) (negℤ dy))
+    (value-less dx (pos 0) (omega (arith, neg-plus dx, neg-minus dx, neg-plus dy, neg-minus dy)))
+    (value-atmost (negℤ dx) (negℤ dy) (omega (arith, neg-plus dx, neg-minus dx, neg-plus dy, neg-minus dy)))
 from-sector (suc (suc (suc (suc (suc (suc zero)))))) dx dy s =
     and-both (ltZ dy (pos 0)) (leZ (pos 0) dx && ltZ dx (negℤ dy)) (value-less dy (pos 0) (omega (arith, neg-plus dx, neg-minus dx, neg-plus dy, neg-minus dy)))
-    (and-both (leZ (pos 0) dx) (ltZ dx (negℤ dy)) (value-atmost (pos 0) dx (omega (arith, neg-plus dx, neg-minus dx, neg-plus dy, neg-minus dy))) (value-less dx (negℤ dy) (omega (arith, neg-plus dx, neg-minus dx, neg-plus dy, neg-minus dy))))
+    (and-both (leZ (pos 0) dx) (ltZ dx (negℤ dy)) (value-atmost (pos 0) dx (omega (arith, neg-plus dx, neg-minus dx, neg-plus dy, neg-minus dy)))
+    (value-less dx (negℤ dy) (omega (arith, neg-plus dx, neg-minus dx, neg-plus dy, neg-minus dy))))
 from-sector (suc (suc (suc (suc (suc (suc (suc zero))))))) dx dy s =
-    and-both (ltZ dy (pos 0)) (leZ (negℤ dy) dx) (value-less dy (pos 0) (omega (arith, neg-plus dx, neg-minus dx, neg-plus dy, neg-minus dy))) (value-atmost (negℤ dy) dx (omega (arith, neg-plus dx, neg-minus dx, neg-plus dy, neg-minus dy)))
+    and-both (ltZ dy (pos 0)) (leZ (negℤ dy) dx) (value-less dy (pos 0) (omega (arith, neg-plus dx, neg-minus dx, neg-plus dy, neg-minus dy)))
+    (value-atmost (negℤ dy) dx (omega (arith, neg-plus dx, neg-minus dx, neg-plus dy, neg-minus dy)))
 from-sector (suc (suc (suc (suc (suc (suc (suc (suc k)))))))) dx dy s = s

@@ -16,11 +16,12 @@ use Rattle.plane.specs.Point.{limit, coordinateInRange}
 use Rattle.plane.specs.Coordinate.{base, biased}
 use Rattle.plane.specs.Octant.{octant}
 use Rattle.arrays.proofs.Test.{and-parts, and-both, same-test}
-use Rattle.plane.proofs.Whole.{plus, minus, one-sided, sub-value, add-value, difference-value, whole-ext, less-value, value-less, atmost-value, value-atmost}
+use Rattle.plane.proofs.Whole.{plus, minus, one-sided, sub-value, add-value, difference-value, whole-ext, less-value, value-less, atmost-value}
+use Rattle.plane.proofs.Whole.{value-atmost}
 use Rattle.plane.proofs.Range.{range-values}
 use Rattle.plane.proofs.Stored.{value-range, biased-value}
 use Rattle.plane.proofs.Sector.{SectorOf}
-use Rattle.plane.proofs.Between.{sector-octant, octant-none}
+use Rattle.plane.proofs.octants.Between.{sector-octant, octant-none}
 
 -- What a test says.
 pub less-yes : (a b : ℤ) → ltZ a b ≡ true → plus a + minus b < plus b + minus a

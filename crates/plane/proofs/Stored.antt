@@ -45,13 +45,15 @@ coordinate-injective u v e = omega (arith, coordinate-value u, coordinate-value 
 pub gap-rising : (u v : ℕ) → u ≤ v → gap (coordinate u) (coordinate v) ≡ v - u
 gap-rising u v h =
     le-antisymm
-    (gap-le (coordinate u) (coordinate v) (v - u) (omega (arith, coordinate-value u, coordinate-value v)) (omega (arith, coordinate-value u, coordinate-value v)))
+    (gap-le (coordinate u) (coordinate v) (v - u) (omega (arith, coordinate-value u, coordinate-value v))
+    (omega (arith, coordinate-value u, coordinate-value v)))
     (omega (arith, coordinate-value u, coordinate-value v, gap-ge (coordinate u) (coordinate v)))
 
 pub gap-falling : (u v : ℕ) → v ≤ u → gap (coordinate u) (coordinate v) ≡ u - v
 gap-falling u v h =
     le-antisymm
-    (gap-le (coordinate u) (coordinate v) (u - v) (omega (arith, coordinate-value u, coordinate-value v)) (omega (arith, coordinate-value u, coordinate-value v)))
+    (gap-le (coordinate u) (coordinate v) (u - v) (omega (arith, coordinate-value u, coordinate-value v))
+    (omega (arith, coordinate-value u, coordinate-value v)))
     (omega (arith, coordinate-value u, coordinate-value v, gap-ge (coordinate u) (coordinate v)))
 
 -- Which of two points is lower, on their stored coordinates.

@@ -4,5 +4,6 @@ pub mod Edge
 pub mod Nearest
 pub mod Octant
 pub mod OctantTable
+pub mod Places
 pub mod Point
 pub mod Stored

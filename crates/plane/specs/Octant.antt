@@ -20,6 +20,10 @@ conditions dx dy =
     ∷ (ltZ dy (pos 0) && leZ (negℤ dy) dx)
     ∷ []
 
+-- How many octants there are; as the octant of a difference it stands for none.
+abbrev pub octantCount : ℕ
+octantCount = 8
+
 -- The difference (dx, dy) is in octant k.
 abbrev pub inOctant : ℕ → ℤ → ℤ → Bool
 inOctant k dx dy = getD (conditions dx dy) k false

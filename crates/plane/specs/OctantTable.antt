@@ -14,15 +14,15 @@ unfolding conditions firstTrue octant
 octants [] = []
 octants (d ∷ l) = octant (d .x) (d .y) ∷ octants l
 
-abbrev pub at : ℤ → ℤ → Point
-at x y = record { x = x; y = y }
+abbrev pub point : ℤ → ℤ → Point
+point x y = record { x = x; y = y }
 
 -- The borders of all eight octants in turn, and a difference inside each; 8 is the answer for no difference.
 abbrev pub Borders : Type 0
 Borders =
-    octants (at (negsuc 0) (pos 0) ∷ at (negsuc 0) (negsuc 0) ∷ at (pos 0) (negsuc 0) ∷ at (pos 1) (negsuc 0)
-    ∷ at (pos 2) (pos 1) ∷ at (pos 1) (pos 2) ∷ at (negsuc 0) (pos 2) ∷ at (negsuc 1) (pos 1)
-    ∷ at (negsuc 1) (negsuc 0) ∷ at (negsuc 0) (negsuc 1) ∷ at (pos 1) (negsuc 1) ∷ at (pos 2) (negsuc 0) ∷ at (pos 0) (pos 0) ∷ [])
+    octants (point (negsuc 0) (pos 0) ∷ point (negsuc 0) (negsuc 0) ∷ point (pos 0) (negsuc 0) ∷ point (pos 1) (negsuc 0)
+    ∷ point (pos 2) (pos 1) ∷ point (pos 1) (pos 2) ∷ point (negsuc 0) (pos 2) ∷ point (negsuc 1) (pos 1)
+    ∷ point (negsuc 1) (negsuc 0) ∷ point (negsuc 0) (negsuc 1) ∷ point (pos 1) (negsuc 1) ∷ point (pos 2) (negsuc 0) ∷ point (pos 0) (pos 0) ∷ [])
     ≡ 4 ∷ 5 ∷ 6 ∷ 7 ∷ 0 ∷ 1 ∷ 2 ∷ 3 ∷ 4 ∷ 5 ∷ 6 ∷ 7 ∷ 8 ∷ []
 
 -- The nearest of the points in each octant, from octant 0 on.
@@ -33,12 +33,12 @@ star p ps =
     ∷ nearest 6 p ps ∷ nearest 7 p ps ∷ []
 
 -- "Where (0,0) joins (2,−2), (2,2) and (5,0), its run to (5,0) ties at length 5 [..] and comes first": octant 0 must offer (5,0).
-abbrev pub Joined : Type 0
-Joined =
-    star (at (pos 0) (pos 0)) (at (pos 2) (negsuc 1) ∷ at (pos 2) (pos 2) ∷ at (pos 5) (pos 0) ∷ [])
-    ≡ some (at (pos 5) (pos 0)) ∷ some (at (pos 2) (pos 2)) ∷ none ∷ none ∷ none ∷ none ∷ none ∷ some (at (pos 2) (negsuc 1)) ∷ []
+abbrev pub NearestInOctants : Type 0
+NearestInOctants =
+    star (point (pos 0) (pos 0)) (point (pos 2) (negsuc 1) ∷ point (pos 2) (pos 2) ∷ point (pos 5) (pos 0) ∷ [])
+    ≡ some (point (pos 5) (pos 0)) ∷ some (point (pos 2) (pos 2)) ∷ none ∷ none ∷ none ∷ none ∷ none ∷ some (point (pos 2) (negsuc 1)) ∷ []
 
 -- Two points at the same distance in one octant: the lower is the nearest.
 abbrev pub LowerOfEquals : Type 0
 LowerOfEquals =
-    nearest 0 (at (pos 0) (pos 0)) (at (pos 5) (pos 2) ∷ at (pos 6) (pos 1) ∷ at (pos 7) (pos 0) ∷ []) ≡ some (at (pos 5) (pos 2))
+    nearest 0 (point (pos 0) (pos 0)) (point (pos 5) (pos 2) ∷ point (pos 6) (pos 1) ∷ point (pos 7) (pos 0) ∷ []) ≡ some (point (pos 5) (pos 2))

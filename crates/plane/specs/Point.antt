@@ -62,12 +62,16 @@ sameZ-refl (negsuc a) = eqb-refl a
 
 -- Two points are told apart by their coordinates.
 unfoldable pub pointDec : Discrete Point
-pointDec p q = byX (sameZ (p .x) (q .x)) (sameZ-eq (p .x) (q .x)) (λ e. subst⁻¹ (λ (z : ℤ). T (sameZ z (q .x))) (ap (λ (r : Point). r .x) e) (sameZ-refl (q .x)))
+pointDec p q =
+    byX (sameZ (p .x) (q .x)) (sameZ-eq (p .x) (q .x))
+    (λ e. subst⁻¹ (λ (z : ℤ). T (sameZ z (q .x))) (ap (λ (r : Point). r .x) e) (sameZ-refl (q .x)))
   where
     byY : (b : Bool) → (T b → p .y ≡ q .y) → (p ≡ q → T b) → p .x ≡ q .x → Dec (p ≡ q)
     byY true f g ex = let ey = f tt in yes (λ i. record { x = ex i; y = ey i })
     byY false f g ex = no (λ e. g e)
 
     byX : (b : Bool) → (T b → p .x ≡ q .x) → (p ≡ q → T b) → Dec (p ≡ q)
-    byX true f g = byY (sameZ (p .y) (q .y)) (sameZ-eq (p .y) (q .y)) (λ e. subst⁻¹ (λ (z : ℤ). T (sameZ z (q .y))) (ap (λ (r : Point). r .y) e) (sameZ-refl (q .y))) (f tt)
+    byX true f g =
+        byY (sameZ (p .y) (q .y)) (sameZ-eq (p .y) (q .y))
+        (λ e. subst⁻¹ (λ (z : ℤ). T (sameZ z (q .y))) (ap (λ (r : Point). r .y) e) (sameZ-refl (q .y))) (f tt)
     byX false f g = no (λ e. g e)

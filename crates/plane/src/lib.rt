@@ -19,6 +19,12 @@ pub const BASE: u64 = 65536;
 // The largest coordinate, and without its sign the smallest.
 pub const LIMIT: i32 = 30000;
 
+// Places for points in an array. A deck has at most 126 points, and 127 during a round; 128 is the next power of two.
+pub const PLACES: usize = 128;
+
+// The least high byte of a negative number.
+const SIGN: u64 = 128;
+
 // The distance along one axis.
 pub fn apart(a: u16, b: u16) -> u16
     ensures { λ r. ⌜ r ≡ gap (coordinate a) (coordinate b) ⌝ }
@@ -61,7 +67,7 @@ pub fn from_bytes(low: u8, high: u8) -> i32
     ensures { λ r. ⌜ r ≡ signed16 low high ⌝ }
 {
     let bits = low as u64 + 256 * (high as u64);
-    difference(bits, BASE * (high as u64 / 128))
+    difference(bits, BASE * (high as u64 / SIGN))
 }
 
 // The whole number of a stored coordinate.

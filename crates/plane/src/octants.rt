@@ -7,7 +7,12 @@ ghost use Rattle.plane.specs.Coordinate.{coordinate};
 ghost use Rattle.plane.specs.Octant as table;
 ghost use Rattle.plane.specs.Stored.{one};
 
-// The octant of a difference, 0 to 7, and 8 for no difference. A sum is taken only of numbers with unlike signs, so that it fits.
+// How many octants there are, and what stands for the octant of no difference.
+pub const OCTANTS: usize = 8;
+
+pub const NO_OCTANT: u8 = OCTANTS as u8;
+
+// The octant of a difference, 0 to 7, and NO_OCTANT for no difference. A sum is taken only of numbers with unlike signs, so that it fits.
 pub fn octant(dx: i32, dy: i32) -> u8
     ensures { λ r. ⌜ r ≡ table.octant dx dy ⌝ }
 {
@@ -28,7 +33,7 @@ pub fn octant(dx: i32, dy: i32) -> u8
     } else if dy < 0 {
         6
     } else {
-        8
+        NO_OCTANT
     }
 }
 
@@ -40,12 +45,12 @@ fn passes(p: bool, q: bool, s: bool) -> u8
     p as u8 + q as u8 + s as u8
 }
 
-// The octant of b seen from a, 8 where they share a place. A half turn has three rays inside it where an octant starts, and b's
+// The octant of b seen from a, NO_OCTANT where they are one point. A half turn has three rays inside it where an octant starts, and b's
 // octant in it is the count of those that b has reached. The first half turn, from the ray to the right, is where b comes after a
 // by y and then by x; the second is where it comes before.
 pub fn octant_between(ax: u16, ay: u16, bx: u16, by: u16) -> u8
     ensures { λ r. ⌜ r ≡ table.octant (coordinate bx -ℤ coordinate ax) (coordinate by -ℤ coordinate ay) ⌝ }
-    ensures { λ r. ⌜ r ≤ 8 ⌝ }
+    ensures { λ r. ⌜ r ≤ table.octantCount ⌝ }
 {
     let x_more = bx as u32 + ay as u32;
     let y_more = by as u32 + ax as u32;
@@ -58,6 +63,6 @@ pub fn octant_between(ax: u16, ay: u16, bx: u16, by: u16) -> u8
     } else if is_lower(by, bx, ay, ax) {
         below + 4
     } else {
-        8
+        NO_OCTANT
     }
 }

@@ -1,6 +1,9 @@
 // What the quote program calls: a deck file planned to the end.
 use calls::refusal_number;
-use deckfile::answer::store;
+use calls::run_to_end;
+use deckfile::answer::number_of;
+use deckfile::read_working;
+use deckfile::write_working;
 ghost use mathlib.Core.Path.{_≡_};
 ghost use Rattle.model.specs.File.{readFile};
 ghost use Rattle.deckfile.specs.Answer.{answerNumber, answerBuffer};
@@ -13,14 +16,12 @@ pub extern "C" fn planner_plan(file: &[u8], out: &mut [u8]) -> usize
     ensures { λ n. ⌜ n ≡ answerNumber (readFile (now (file .entry))) toEnd (now (out .entry)) ⌝ }
     ensures { λ _. ⌜ now (out .exit) ≡ answerBuffer (readFile (now (file .entry))) toEnd (now (out .entry)) ⌝ }
 {
-    let o = deckfile::read(file);
-    let reply = o.reply;
+    let c = read_working(file);
+    let reply = c.reply;
     let refused = refusal_number(reply);
     if refused != 0 {
         return refused as usize;
     }
-    let d = o.next;
-    let e = d.run_to_end();
-    let last = e.next;
-    store(last, out)
+    let e = run_to_end(c.working);
+    number_of(write_working(e.working, out))
 }

@@ -22,7 +22,9 @@ pub state-coded : (s : State) → Placed s → stateOf (coded s) ≡ s
 unfolding coded
 state-coded s p =
     λ i. record {
-      pins = (ap (map pointOf) (padded-take maxPins (map code (s .pins)) (length (s .pins)) (length-map (s .pins) code)) ∙ map-codes (s .pins) (p .pinsRange)) i;
+      pins =
+          (ap (map pointOf) (padded-take maxPins (map code (s .pins)) (length (s .pins)) (length-map (s .pins) code))
+          ∙ map-codes (s .pins) (p .pinsRange)) i;
       steiner =
           (ap (map pointOf) (padded-take places (map code (s .steiner)) (length (s .steiner)) (length-map (s .steiner) code))
           ∙ map-codes (s .steiner) (p .steinerRange)) i;
@@ -36,7 +38,8 @@ valid-few s v = ⊎-elim (λ e. omega (arith, e, v .few)) (λ h. omega (arith, h
 pub apart-codes : (q : Points) → ((p : Point) → List·Memᴰ p (stateOf q .pins) → List·Memᴰ p (stateOf q .steiner) → ⊥)
     → (k : ℕ) → List·Memᴰ k (take (q .npins) (q .pins)) → List·Memᴰ k (take (q .nsteiner) (q .steiner)) → ⊥
 apart-codes q f k i j =
-    f (pointOf k) (map-in pointOf (take (q .npins) (q .pins)) (pointOf k) .1 (k, i, refl)) (map-in pointOf (take (q .nsteiner) (q .steiner)) (pointOf k) .1 (k, j, refl))
+    f (pointOf k) (map-in pointOf (take (q .npins) (q .pins)) (pointOf k) .1 (k, i, refl))
+    (map-in pointOf (take (q .nsteiner) (q .steiner)) (pointOf k) .1 (k, j, refl))
 
 -- The points of a valid state are arranged.
 pub valid-arranged : (s : State) → Valid s → Arranged (coded s)

@@ -47,12 +47,15 @@ sorted-rises : (l : List ℕ) → Sorted (λ (j k : ℕ). T (ltb j k)) l → ris
 sorted-rises l s = true-of (rising ltb l) (rising-sorted ltb nat-order l .1 s)
 
 -- A code put in leaves arranged codes.
-pub codes-put : (a a′ : List ℕ) (n r room k : ℕ) → Codes a n room → T (isCode k) → n < room → Pasted (put ltb k (take n a)) a a′ 0 r → length a′ ≡ length a → Codes a′ r room
+pub codes-put : (a a′ : List ℕ) (n r room k : ℕ) → Codes a n room → T (isCode k) → n < room → Pasted (put ltb k (take n a)) a a′ 0 r
+    → length a′ ≡ length a → Codes a′ r room
 codes-put a a′ n r room k c t h x same =
     record {
       size = same ∙ c .size;
       few = omega (arith, front-count x, put-most k (take n a), full);
-      codes = λ q i. ⊎-elim (λ e. subst⁻¹ (λ (z : ℕ). T (isCode z)) e t) (c .codes q) (put-in ltb nat-order k q (take n a) .0 (subst (λ (l : List ℕ). List·Memᴰ q l) part i));
+      codes =
+          λ q i. ⊎-elim (λ e. subst⁻¹ (λ (z : ℕ). T (isCode z)) e t) (c .codes q)
+          (put-in ltb nat-order k q (take n a) .0 (subst (λ (l : List ℕ). List·Memᴰ q l) part i));
       rise = ap (rising ltb) part ∙ rises;
       rest =
           front-drop x r (omega arith) ∙ ap (λ (z : ℕ). drop z a) (sym sum) ∙ sym (drop-drop (r - n) n a)

@@ -8,15 +8,13 @@ use lib.ListN.{length, take, drop, replicate}
 use Rattle.arrays.specs.Array.{noneIn, allZero}
 use Rattle.arrays.specs.Set.{rising, all}
 use Rattle.plane.specs.Code.{code, pointOf, isCode}
+pub use Rattle.plane.specs.Places.{places}
 use Rattle.model.specs.State.{State, maxPins}
 use Rattle.points.specs.declared.Points.{Points}
 
--- "At most 126 points are held between calls, 127 during a round": the most points, and places for them.
+-- "At most 126 points are held between calls, 127 during a round": the most points.
 abbrev pub maxPoints : ℕ
 maxPoints = 127
-
-abbrev pub places : ℕ
-places = 128
 
 -- A list at the front of an array of n places, with zeros behind.
 abbrev pub padded : ℕ → List ℕ → List ℕ

@@ -13,7 +13,7 @@ pub const MAX_PINS: usize = 64;
 pub const MAX_POINTS: usize = 127;
 
 // Places for all points, one more than are held.
-pub const PLACES: usize = 128;
+pub const PLACES: usize = plane::PLACES;
 
 // Codes (see the crate plane) rise in each array, no code stands in both, and unused places hold zeros.
 pub struct Points {

@@ -1,16 +1,18 @@
 // The questions on a working form in order.
 use plane::codes::Located;
 use plane::codes::locate;
+use plane::codes::x_of;
+use plane::codes::y_of;
 use working::Working;
+use working::edges::CodedEdge;
+use working::edges::edge_numbers;
 ghost use mathlib.Core.Path.{_≡_};
-ghost use Prim.Native.Nat.{_/_, _%_, _<_};
 ghost use lib.Dec.{T};
 ghost use Rattle.model.specs.State.{Valid};
 ghost use Rattle.model.specs.Question as question;
-ghost use Rattle.tree.specs.Held.{held};
 ghost use Rattle.plane.specs.Code.{pointOf, isCode};
 ghost use Rattle.working.specs.InOrder.{InOrder, stateOf};
-ghost use Rattle.questions.specs.Answers.{lengthAnswer, countsAnswer, edgeAnswer, edgeAtAnswer, degreeAnswer, Listed};
+ghost use Rattle.questions.specs.Answers.{lengthAnswer, countsAnswer, codedAnswer, edgeAtAnswer, degreeAnswer};
 
 // What a question answers: a refusal by its number; the length; the counts of pins, Steiner points and edges; an edge by its
 // lower end, its higher end and its length, or that there is none at the place; the number of edges at a point.
@@ -23,22 +25,15 @@ pub enum Answer {
     Degree(u64),
 }
 
-// The edge between two points, whose numbers stand in one.
-fn edge_between(w: Working, ends: u64) -> Answer
-    requires { ⌜ InOrder w ⌝ }
-    requires { ⌜ (ends / 128 < w .npoints) × (ends % 128 < w .npoints) ⌝ }
-    ensures { λ r. ⌜ r ≡ edgeAnswer (record { lo = held (w .xs) (w .ys) (ends / 128); hi = held (w .xs) (w .ys) (ends % 128) }) ⌝ }
+// An edge, as the answer.
+fn answer_of(e: CodedEdge) -> Answer
+    ensures { λ r. ⌜ r ≡ codedAnswer e ⌝ }
 {
-    let xs = w.xs;
-    let ys = w.ys;
-    let i = (ends / 128) as usize;
-    let j = (ends % 128) as usize;
-    let length = plane::distance(xs[i], ys[i], xs[j], ys[j]);
-    let x = plane::to_signed(xs[i]);
-    let y = plane::to_signed(ys[i]);
-    let u = plane::to_signed(xs[j]);
-    let v = plane::to_signed(ys[j]);
-    Answer::Edge(x, y, u, v, length as u64)
+    let x = plane::to_signed(x_of(e.low));
+    let y = plane::to_signed(y_of(e.low));
+    let u = plane::to_signed(x_of(e.high));
+    let v = plane::to_signed(y_of(e.high));
+    Answer::Edge(x, y, u, v, e.distance)
 }
 
 // The number of edges at a place in range, 0 where no point is held.
@@ -79,16 +74,16 @@ pub fn counts(w: Working) -> Answer
     )
 }
 
-// The edge at a place in the listing order, places from 0, where `ends` begins with the edges in that order.
-pub fn edge_at(w: Working, ends: &[u64; 128], i: usize) -> Answer
+// The edge at a place in the listing order, places from 0.
+pub fn edge_at(w: Working, i: usize) -> Answer
     requires { ⌜ InOrder w ⌝ }
-    requires { ⌜ Listed w (now ends) ⌝ }
     ensures { λ r. ⌜ r ≡ edgeAtAnswer i (stateOf w) ⌝ }
 {
     if w.nkeys <= i {
         return Answer::NoEdge;
     }
-    edge_between(w, ends[i])
+    let ends = edge_numbers(w);
+    answer_of(working::edges::edge_at(w, &ends, i))
 }
 
 // The number of edges at a point, 0 where none is held.

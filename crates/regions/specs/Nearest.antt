@@ -15,18 +15,18 @@ pub data Side : Type 0 where
   south : Side
 
 -- Where the rays of a side stand in an array of all: 128 rows of each.
-abbrev pub place : Side → ℕ
-place east = 0
-place west = places
-place north = 2 * places
-place south = 3 * places
+abbrev pub sideOffset : Side → ℕ
+sideOffset east = 0
+sideOffset west = places
+sideOffset north = 2 * places
+sideOffset south = 3 * places
 
 abbrev pub rayPlaces : ℕ
 rayPlaces = 4 * places
 
 -- A ray is kept as its complement, how much it is below `farRay`: no ray is 0, and the least ray has the greatest complement.
 abbrev pub rayAt : List ℕ → Side → ℕ → ℕ
-rayAt least t r = farRay - getD least (place t + r) 0
+rayAt least t r = farRay - getD least (sideOffset t + r) 0
 
 -- An array of complements, and one with no ray.
 pub record Complements (least : List ℕ) : Type 0 where
@@ -75,7 +75,7 @@ pub record ColumnGiven (xs gaps ranks : List ℕ) (n count : ℕ) : Type 0 where
 -- A ray that counts where P holds is taken where it is less than the one before: by their complements.
 pub record Offered (P : Type 0) (k before after : ℕ) : Type 0 where
   pub taken : P → after ≡ max before (farRay - k)
-  pub kept : ¬ P → after ≡ before
+  pub unchanged : ¬ P → after ≡ before
 
 -- What relaxing the rows from `from` to `to` asks: the distances of one point to the rows, from the place `start` on; its difference
 -- in x and the complement of that; and the places of two sides, those of the flat one before those of the steep one.
@@ -105,5 +105,5 @@ pub record Relaxed (gaps : List ℕ) (start from to along steep flat : ℕ) (bef
 
 -- The place `flat` is that of the side, west or east, on which the point j is.
 pub record FlatSide (xs : List ℕ) (x j flat : ℕ) : Type 0 where
-  pub low : flat ≤ place west
-  pub is : ((getD xs j 0 < x) × (flat ≡ place west)) ⊎ ((x ≤ getD xs j 0) × (flat ≡ place east))
+  pub low : flat ≤ sideOffset west
+  pub is : ((getD xs j 0 < x) × (flat ≡ sideOffset west)) ⊎ ((x ≤ getD xs j 0) × (flat ≡ sideOffset east))

@@ -1,9 +1,6 @@
 -- A ray is an edge from a crossing to a held point as one number: its length times 128, and the point's number.
 use Prim.Native.Nat.{ℕ, _+_, _*_, _/_, _%_}
-
--- Places for points, and for rows: the numbers of both are less.
-abbrev pub places : ℕ
-places = 128
+pub use Rattle.plane.specs.Places.{places}
 
 -- A table of 128 rows of 128: an entry for each two points, or for each point and row.
 abbrev pub tableSize : ℕ
@@ -20,7 +17,7 @@ rayLength k = k / places
 abbrev pub rayPoint : ℕ → ℕ
 rayPoint k = k % places
 
--- Longer than every edge between two places: stored coordinates are at most 65,535 apart on each axis.
+-- Longer than every edge between two points: stored coordinates are at most 65,535 apart on each axis.
 abbrev pub far : ℕ
 far = 131072
 

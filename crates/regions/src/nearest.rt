@@ -1,8 +1,8 @@
 // The nearest points of the crossings of one column, by sides: for each row the least ray of each side, all rows at a time.
 //
 // A ray is kept as its complement, how much it is below FAR_RAY: no ray is 0, and the least ray has the greatest complement.
-use super::rows::PLACES;
 use super::rows::SCALE;
+use plane::PLACES;
 ghost use mathlib.Core.Path.{_≡_};
 ghost use Prim.Native.Nat.{_+_, _-_, _≤_, _<_, max};
 ghost use lib.Dec.{ltb};
@@ -10,7 +10,7 @@ ghost use Rattle.arrays.specs.Test.{if};
 ghost use Rattle.regions.specs.Rays.{farRay};
 ghost use Rattle.regions.specs.Nearest as spec;
 
-// Longer than every edge between two places: stored coordinates are at most 65,535 apart on each axis.
+// Longer than every edge between two points: stored coordinates are at most 65,535 apart on each axis.
 pub const FAR: u32 = 131072;
 
 // The ray of no point: one of length FAR to point 0.

@@ -1,15 +1,13 @@
 // What a column's search needs of the rows: for each point the distance to each row, and how many rows are below it.
+use plane::PLACES;
 ghost use mathlib.Core.Path.{_≡_};
 ghost use Prim.Native.Nat.{_+_, _≤_};
 ghost use lib.ListN.{length};
 ghost use Rattle.regions.specs.Rays.{places, tableSize};
 ghost use Rattle.regions.specs.Rows.{RowsGiven, Ranked, RowGaps, Located};
 
-// Places for points, and for rows: the numbers of both are less.
-pub const PLACES: usize = 128;
-
 // A ray is its length times this, and the point's number, which is less.
-pub const SCALE: u32 = 128;
+pub const SCALE: u32 = PLACES as u32;
 
 // A table of PLACES rows of PLACES.
 pub const TABLE_SIZE: usize = PLACES * PLACES;

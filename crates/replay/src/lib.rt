@@ -5,7 +5,7 @@ use calls::Reply;
 use calls::refusal_number;
 use deck::Deck;
 use deck::Outcome;
-use deckfile::answer::store;
+use deckfile::answer::number_of;
 use list::call_all;
 ghost use mathlib.Core.Path.{_≡_};
 ghost use Rattle.deckfile.specs.Reading.{outcomeOf};
@@ -40,5 +40,5 @@ pub extern "C" fn replay_calls(file: &[u8], calls: &[u8], out: &mut [u8]) -> usi
     }
     let d = o.next;
     let last = call_all(d, calls);
-    store(last, out)
+    number_of(deckfile::write(last, out))
 }

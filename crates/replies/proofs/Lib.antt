@@ -1,1 +1,1 @@
-pub mod Replying
+pub mod Values

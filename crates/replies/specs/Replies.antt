@@ -39,6 +39,22 @@ degreeWord = 100 ∷ 101 ∷ 103 ∷ 114 ∷ 101 ∷ 101 ∷ []
 abbrev pub octantWord : List ℕ
 octantWord = 111 ∷ 99 ∷ 116 ∷ 97 ∷ 110 ∷ 116 ∷ []
 
+-- Room for the parts of a line: a fall in length, three counts, the ends of an edge, an edge; and for any line.
+abbrev pub fallRoom : ℕ
+fallRoom = 73
+
+abbrev pub countsRoom : ℕ
+countsRoom = 69
+
+abbrev pub endsRoom : ℕ
+endsRoom = 88
+
+abbrev pub edgeRoom : ℕ
+edgeRoom = 112
+
+abbrev pub lineRoom : ℕ
+lineRoom = 128
+
 -- A word and a number.
 abbrev pub numberText : List ℕ → ℕ → List ℕ
 numberText w n = w ++ field (decimal n)

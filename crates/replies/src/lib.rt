@@ -8,11 +8,15 @@ ghost use Prim.Native.Nat.{_+_, _≤_};
 ghost use lib.ListN.{length};
 ghost use Rattle.arrays.specs.Paste.{Pasted};
 ghost use Rattle.replies.specs.Replies.{numberText, fallText, countsText, endsText, edgeText, replyText, answerText, errorWord, octantWord};
-ghost use Rattle.ascii.specs.Text.{fitting};
+ghost use Rattle.replies.specs.Replies.{fallRoom, countsRoom, endsRoom, edgeRoom, lineRoom};
+ghost use Rattle.ascii.specs.Text.{fitting, fieldRoom};
+
+// Room for any line.
+const LINE_ROOM: usize = 128;
 
 // A word and a number.
 fn number_line(out: &mut [u8], w: &[u8], n: u64) -> usize
-    requires { ⌜ length (now w) + 21 ≤ length (now out) ⌝ }
+    requires { ⌜ length (now w) + fieldRoom ≤ length (now out) ⌝ }
     ensures { λ r. ⌜ Pasted (numberText (now (w .entry)) n) (now (out .entry)) (now (out .exit)) 0 r ⌝ }
 {
     let next = put_bytes(out, 0, w);
@@ -21,7 +25,7 @@ fn number_line(out: &mut [u8], w: &[u8], n: u64) -> usize
 
 // A new Steiner point and the fall in length.
 fn fall_line(out: &mut [u8], x: i32, y: i32, fall: u64) -> usize
-    requires { ⌜ 73 ≤ length (now out) ⌝ }
+    requires { ⌜ fallRoom ≤ length (now out) ⌝ }
     ensures { λ r. ⌜ Pasted (fallText x y fall) (now (out .entry)) (now (out .exit)) 0 r ⌝ }
 {
     let a = put_bytes(out, 0, b"tap");
@@ -33,7 +37,7 @@ fn fall_line(out: &mut [u8], x: i32, y: i32, fall: u64) -> usize
 
 // The counts of pins, Steiner points and edges.
 fn counts_line(out: &mut [u8], pins: u64, taps: u64, runs: u64) -> usize
-    requires { ⌜ 69 ≤ length (now out) ⌝ }
+    requires { ⌜ countsRoom ≤ length (now out) ⌝ }
     ensures { λ r. ⌜ Pasted (countsText pins taps runs) (now (out .entry)) (now (out .exit)) 0 r ⌝ }
 {
     let a = put_bytes(out, 0, b"counts");
@@ -44,9 +48,9 @@ fn counts_line(out: &mut [u8], pins: u64, taps: u64, runs: u64) -> usize
 
 // The coordinates of two points.
 fn ends_fields(out: &mut [u8], at: usize, x: i32, y: i32, u: i32, v: i32) -> usize
-    requires { ⌜ at + 88 ≤ length (now out) ⌝ }
+    requires { ⌜ at + endsRoom ≤ length (now out) ⌝ }
     ensures { λ r. ⌜ Pasted (endsText x y u v) (now (out .entry)) (now (out .exit)) at r ⌝ }
-    ensures { λ r. ⌜ r ≤ at + 88 ⌝ }
+    ensures { λ r. ⌜ r ≤ at + endsRoom ⌝ }
 {
     let a = signed_field(out, at, x);
     let b = signed_field(out, a, y);
@@ -56,7 +60,7 @@ fn ends_fields(out: &mut [u8], at: usize, x: i32, y: i32, u: i32, v: i32) -> usi
 
 // An edge by its ends and its length.
 fn edge_line(out: &mut [u8], x: i32, y: i32, u: i32, v: i32, n: u64) -> usize
-    requires { ⌜ 112 ≤ length (now out) ⌝ }
+    requires { ⌜ edgeRoom ≤ length (now out) ⌝ }
     ensures { λ r. ⌜ Pasted (edgeText x y u v n) (now (out .entry)) (now (out .exit)) 0 r ⌝ }
 {
     let a = put_bytes(out, 0, b"run");
@@ -66,9 +70,9 @@ fn edge_line(out: &mut [u8], x: i32, y: i32, u: i32, v: i32, n: u64) -> usize
 
 // The line of a reply at the front of `out`, which has to have room for 128 bytes. Returns its length; 0 where there is no room.
 pub fn reply_line(reply: Reply, out: &mut [u8]) -> usize
-    ensures { λ r. ⌜ Pasted (fitting 128 (now (out .entry)) (replyText reply)) (now (out .entry)) (now (out .exit)) 0 r ⌝ }
+    ensures { λ r. ⌜ Pasted (fitting lineRoom (now (out .entry)) (replyText reply)) (now (out .entry)) (now (out .exit)) 0 r ⌝ }
 {
-    if out.len() < 128 {
+    if out.len() < LINE_ROOM {
         return 0;
     }
     match reply {
@@ -82,9 +86,9 @@ pub fn reply_line(reply: Reply, out: &mut [u8]) -> usize
 
 // The line of an answer, by the same rule.
 pub fn answer_line(answer: Answer, out: &mut [u8]) -> usize
-    ensures { λ r. ⌜ Pasted (fitting 128 (now (out .entry)) (answerText answer)) (now (out .entry)) (now (out .exit)) 0 r ⌝ }
+    ensures { λ r. ⌜ Pasted (fitting lineRoom (now (out .entry)) (answerText answer)) (now (out .entry)) (now (out .exit)) 0 r ⌝ }
 {
-    if out.len() < 128 {
+    if out.len() < LINE_ROOM {
         return 0;
     }
     match answer {
@@ -99,9 +103,9 @@ pub fn answer_line(answer: Answer, out: &mut [u8]) -> usize
 
 // `error`, by the same rule.
 pub fn error_line(out: &mut [u8]) -> usize
-    ensures { λ r. ⌜ Pasted (fitting 128 (now (out .entry)) errorWord) (now (out .entry)) (now (out .exit)) 0 r ⌝ }
+    ensures { λ r. ⌜ Pasted (fitting lineRoom (now (out .entry)) errorWord) (now (out .entry)) (now (out .exit)) 0 r ⌝ }
 {
-    if out.len() < 128 {
+    if out.len() < LINE_ROOM {
         return 0;
     }
     put_bytes(out, 0, b"error")
@@ -109,9 +113,9 @@ pub fn error_line(out: &mut [u8]) -> usize
 
 // `octant N`, by the same rule.
 pub fn octant_line(n: u64, out: &mut [u8]) -> usize
-    ensures { λ r. ⌜ Pasted (fitting 128 (now (out .entry)) (numberText octantWord n)) (now (out .entry)) (now (out .exit)) 0 r ⌝ }
+    ensures { λ r. ⌜ Pasted (fitting lineRoom (now (out .entry)) (numberText octantWord n)) (now (out .entry)) (now (out .exit)) 0 r ⌝ }
 {
-    if out.len() < 128 {
+    if out.len() < LINE_ROOM {
         return 0;
     }
     number_line(out, b"octant", n)

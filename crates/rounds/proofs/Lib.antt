@@ -1,3 +1,3 @@
-pub mod OneRound
-pub mod Searching
-pub mod ToEnd
+pub mod Round
+pub mod Run
+pub mod Search

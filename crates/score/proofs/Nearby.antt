@@ -23,7 +23,8 @@ use Rattle.tree.proofs.keys.Parts as keys
 use Rattle.tree.proofs.keys.All.{rays-in, KeyAt, all-keys-in, all-keys-sorted, key-ends, all-keys-join}
 use Rattle.regions.specs.Rays.{places, ray, rayLength, rayPoint, far, farRay}
 use Rattle.score.specs.Gain.{gain}
-use Rattle.score.proofs.Bounds.{keyOf, withFar, starred, Rays, Rising, Walk, key-edge, key-weight, key-conn, Plain, starred-in, starred-sorted, ray-walk, plain-walk}
+use Rattle.score.proofs.Bounds.{keyOf, withFar, starred, Rays, Rising, Walk, key-edge, key-weight, key-conn, Plain, starred-in, starred-sorted}
+use Rattle.score.proofs.Bounds.{ray-walk, plain-walk}
 use Rattle.score.proofs.Gains.{light, leastWeight, gains}
 
 -- The rays of a list are those of points to the crossing c, or of no point; and for each held point one leads no farther round.

@@ -1,2 +1,2 @@
 -- What the proof of `length_with` uses.
-mod Place
+mod Point

@@ -4,6 +4,7 @@ use mathlib.Core.List.{List}
 use Prim.Native.Nat.{ℕ, _+_, _-_, _≤_, _<_}
 use lib.ListN.{length, getD}
 use Rattle.plane.specs.Point.{Point, lower}
+use Rattle.plane.specs.Coordinate.{base}
 use Rattle.arrays.specs.Set.{put}
 use Rattle.model.specs.Tree.{treeLength}
 use Rattle.tree.specs.Build.{Rises}
@@ -21,9 +22,9 @@ pub record Prepared (xs ys : List ℕ) (n : ℕ) (table gaps ranks rows : List �
   pub inRanks : n ≤ length ranks
   pub sizeTable : length table ≡ tableSize
   pub sizeGaps : length gaps ≡ tableSize
-  pub storedXs : (i : ℕ) → getD xs i 0 < 65536
-  pub storedYs : (i : ℕ) → getD ys i 0 < 65536
-  pub storedRows : (i : ℕ) → getD rows i 0 < 65536
+  pub storedXs : (i : ℕ) → getD xs i 0 < base
+  pub storedYs : (i : ℕ) → getD ys i 0 < base
+  pub storedRows : (i : ℕ) → getD rows i 0 < base
   pub rises : Rises (held xs ys) n
   pub bottlenecks : Bottlenecks (treeKeys (held xs ys) n) n table
   pub given : RowsGiven rows count

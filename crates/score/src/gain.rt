@@ -15,7 +15,7 @@ ghost use Rattle.regions.specs.Rays.{places, tableSize, rayLength, rayPoint, fa
 ghost use Rattle.regions.specs.Nearest.{Complements};
 ghost use Rattle.score.specs.Gain as spec;
 
-// Longer than every edge between two places.
+// Longer than every edge between two points.
 pub const FAR: u64 = regions::nearest::FAR as u64;
 
 // The bottleneck of the crossing and the point of the ray q: over the ray k, or `rest`, what it is without it.

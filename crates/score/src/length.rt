@@ -1,4 +1,4 @@
-// The length of a tree with one point more, at any place, held or not.
+// The length of a tree with one point more, held or not.
 use super::gain::FAR;
 use super::gain::gain_at;
 use regions::nearest::nearest;

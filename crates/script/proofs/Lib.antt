@@ -1,5 +1,5 @@
 pub mod Arguments
-pub mod Asking
 pub mod Examples
-pub mod Fitting
-pub mod Naming
+pub mod FileSize
+pub mod Lines
+pub mod Names

@@ -19,10 +19,17 @@ use Rattle.words.specs.Words.{wordsOf}
 use Rattle.words.specs.Numbers.{numberOf, sizeOf}
 use Rattle.words.specs.Hex.{isHex, pairs}
 
+-- The most bytes of a line, and of a deck file.
+abbrev pub lineLimit : ℕ
+lineLimit = 2000
+
+abbrev pub longestFile : ℕ
+longestFile = 784
+
 -- One word: `write`, `round`, `finish`, `length`, `counts`, `list`. The capacity of `write` is then that of the longest file.
 unfoldable pub alone : List ℕ → Command
 alone w =
-    if (sameList w (bytes "write")) (λ _. Write 784)
+    if (sameList w (bytes "write")) (λ _. Write longestFile)
     (λ _. if (sameList w (bytes "round")) (λ _. Round)
     (λ _. if (sameList w (bytes "finish")) (λ _. Finish)
     (λ _. if (sameList w (bytes "length")) (λ _. Length)
@@ -48,8 +55,8 @@ withOne w x =
     (λ _. ofSize (sized w) (sizeOf x))
 
 -- A word and two numbers: `add X Y`, `withdraw X Y`, `degree X Y`, `octant DX DY`.
-unfoldable pub placed : List ℕ → ℤ → ℤ → Command
-placed w i j =
+unfoldable pub withPair : List ℕ → ℤ → ℤ → Command
+withPair w i j =
     if (sameList w (bytes "add")) (λ _. Add i j)
     (λ _. if (sameList w (bytes "withdraw")) (λ _. Withdraw i j)
     (λ _. if (sameList w (bytes "degree")) (λ _. Degree i j)
@@ -63,15 +70,15 @@ ofNumbers f (Is i) (Is j) = f i j
 
 -- A word and two arguments.
 unfoldable pub withTwo : List ℕ → List ℕ → List ℕ → Command
-withTwo w x y = ofNumbers (placed w) (numberOf x) (numberOf y)
+withTwo w x y = ofNumbers (withPair w) (numberOf x) (numberOf y)
 
 -- The command of a line's words; no command has more than three.
-unfoldable pub asked : List (List ℕ) → Command
-asked [] = Error
-asked (w ∷ []) = alone w
-asked (w ∷ x ∷ []) = withOne w x
-asked (w ∷ x ∷ y ∷ []) = withTwo w x y
-asked (w ∷ x ∷ y ∷ z ∷ l) = Error
+unfoldable pub ofWords : List (List ℕ) → Command
+ofWords [] = Error
+ofWords (w ∷ []) = alone w
+ofWords (w ∷ x ∷ []) = withOne w x
+ofWords (w ∷ x ∷ y ∷ []) = withTwo w x y
+ofWords (w ∷ x ∷ y ∷ z ∷ l) = Error
 
 -- Whether a line is empty or a comment, which begins with `#` (35).
 abbrev pub isBlank : List ℕ → Bool
@@ -81,8 +88,8 @@ isBlank (b ∷ l) = eqb b 35
 -- The command of a line, which has no line feed. A line of more than 2,000 bytes is an error.
 unfoldable pub commandOf : List ℕ → Command
 commandOf line =
-    if (ltb 2000 (length line)) (λ _. Error)
-    (λ _. if (isBlank line) (λ _. Blank) (λ _. asked (wordsOf line)))
+    if (ltb lineLimit (length line)) (λ _. Error)
+    (λ _. if (isBlank line) (λ _. Blank) (λ _. ofWords (wordsOf line)))
 
 -- The second word, empty where there is none.
 abbrev pub second : List (List ℕ) → List ℕ

@@ -12,11 +12,11 @@ use Rattle.arrays.specs.Same.{sameList}
 use Rattle.words.specs.Words.{isSpace, split}
 use Rattle.words.specs.Numbers.{areDigits, valueFrom, numberOf, sizeOf}
 use Rattle.words.specs.Hex.{digitOf, isHex, pairs}
-use Rattle.script.specs.Commands.{alone, sized, withOne, placed, withTwo, asked, commandOf, fileOf}
+use Rattle.script.specs.Commands.{alone, sized, withOne, withPair, withTwo, ofWords, commandOf, fileOf}
 
 -- The commands of lines.
 unfoldable pub commands : List String → List Command
-unfolding isSpace split sameList areDigits valueFrom numberOf sizeOf digitOf isHex alone sized withOne placed withTwo asked commandOf
+unfolding isSpace split sameList areDigits valueFrom numberOf sizeOf digitOf isHex alone sized withOne withPair withTwo ofWords commandOf
 commands [] = []
 commands (s ∷ l) = commandOf (bytes s) ∷ commands l
 

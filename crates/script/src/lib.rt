@@ -10,7 +10,7 @@ use words::numbers::number_of;
 use words::numbers::size_of;
 ghost use mathlib.Core.Path.{_≡_};
 ghost use lib.ListN.{length, take};
-ghost use Rattle.script.specs.Commands.{commandOf, asked, alone, withOne, withTwo, sized, placed, fileOf};
+ghost use Rattle.script.specs.Commands.{commandOf, ofWords, alone, withOne, withTwo, sized, withPair, fileOf};
 ghost use Rattle.arrays.specs.Paste.{Pasted};
 ghost use Rattle.words.specs.Words.{wordsOf};
 
@@ -33,11 +33,17 @@ pub enum Command {
     List,
 }
 
+// The most bytes of a line; a longer one is an error.
+pub const LINE_LIMIT: usize = 2000;
+
+// The most bytes of a deck file, the capacity of `write` where none is given.
+pub const LONGEST_FILE: u32 = 784;
+
 // The command of a line, which is given without its line feed.
 pub fn parse(line: &[u8]) -> Command
     ensures { λ r. ⌜ r ≡ commandOf (now (line .entry)) ⌝ }
 {
-    if line.len() > 2000 {
+    if line.len() > LINE_LIMIT {
         return Command::Error;
     }
     if line.len() == 0 {
@@ -51,7 +57,7 @@ pub fn parse(line: &[u8]) -> Command
 
 // The command of a line's words. They stand from a to b, from c to d and from e to f, and from g to h what may follow.
 fn by_words(line: &[u8]) -> Command
-    ensures { λ r. ⌜ r ≡ asked (wordsOf (now (line .entry))) ⌝ }
+    ensures { λ r. ⌜ r ≡ ofWords (wordsOf (now (line .entry))) ⌝ }
 {
     let w = next(line, 0);
     let a = w.start;
@@ -88,7 +94,7 @@ fn by_name(name: &[u8]) -> Command
     ensures { λ r. ⌜ r ≡ alone (now (name .entry)) ⌝ }
 {
     if same_bytes(name, b"write") {
-        return Command::Write(784);
+        return Command::Write(LONGEST_FILE);
     }
     if same_bytes(name, b"round") {
         return Command::Round;
@@ -148,14 +154,14 @@ fn with_two(name: &[u8], x: &[u8], y: &[u8]) -> Command
         Number::NoNumber => Command::Error,
         Number::Is(i) => match number_of(y) {
             Number::NoNumber => Command::Error,
-            Number::Is(j) => with_place(name, i, j),
+            Number::Is(j) => with_pair(name, i, j),
         },
     }
 }
 
 // The command of a word and two numbers.
-fn with_place(name: &[u8], i: i32, j: i32) -> Command
-    ensures { λ r. ⌜ r ≡ placed (now (name .entry)) i j ⌝ }
+fn with_pair(name: &[u8], i: i32, j: i32) -> Command
+    ensures { λ r. ⌜ r ≡ withPair (now (name .entry)) i j ⌝ }
 {
     if same_bytes(name, b"add") {
         return Command::Add(i, j);

@@ -1,3 +1,3 @@
 pub mod Bytes
+pub mod Codes
 pub mod Layout
-pub mod Points

@@ -3,8 +3,7 @@ use super::number::number2;
 use super::number::number4;
 ghost use mathlib.Core.Path.{_≡_};
 ghost use Prim.Native.Nat.{_≤_};
-ghost use lib.ListN.{length, take};
-ghost use Rattle.arrays.specs.Same.{sameList};
+ghost use lib.ListN.{length};
 ghost use Rattle.model.specs.File.{headed, laidOut, whole, plain};
 
 // 1: "under 30 or over 784 bytes, other first four bytes, or a section count other than 3"

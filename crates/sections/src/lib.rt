@@ -1,5 +1,5 @@
 // The header and the sections of a deck file in bytes: their checks, the codes of points, and the edges compared.
+pub mod codes;
 pub mod edges;
 pub mod header;
 pub mod number;
-pub mod points;

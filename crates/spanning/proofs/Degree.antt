@@ -21,9 +21,9 @@ touches? G p e =
     dite (G .dec p (G .lo e)) (λ a. yes (inl a)) (λ a. dite (G .dec p (G .hi e)) (λ b. yes (inr b)) (λ b. no (⊎-elim a b)))
 
 -- The edges of F with an end at p.
-unfoldable pub at : {P E : Type 0} → Graph P E → P → List E → List E
-at G p [] = []
-at G p (e ∷ F) = dite (touches? G p e) (λ _. e ∷ at G p F) (λ _. at G p F)
+unfoldable pub edgesAt : {P E : Type 0} → Graph P E → P → List E → List E
+edgesAt G p [] = []
+edgesAt G p (e ∷ F) = dite (touches? G p e) (λ _. e ∷ edgesAt G p F) (λ _. edgesAt G p F)
 
 member-length : {A : Type 0} {a : A} {l : List A} → List·Memᴰ a l → 1 ≤ length l
 member-length (head p) = omega arith
@@ -58,35 +58,35 @@ module _ {P E : Type 0} (G : Graph P E) (p : P) where
           Dec-prop (hedberg (G .dec) p (G .hi e)) (G .dec p (G .hi e)) (no (λ b. n (inr b))),
         ) (omega arith)
 
-    pub at-touch : Touches G p e → at G p (e ∷ F) ≡ e ∷ at G p F
-    unfolding at
-    at-touch h = if-pos (touches? G p e) h (e ∷ at G p F) (at G p F)
+    pub edges-touch : Touches G p e → edgesAt G p (e ∷ F) ≡ e ∷ edgesAt G p F
+    unfolding edgesAt
+    edges-touch h = if-pos (touches? G p e) h (e ∷ edgesAt G p F) (edgesAt G p F)
 
-    pub at-away : ¬ Touches G p e → at G p (e ∷ F) ≡ at G p F
-    unfolding at
-    at-away n = if-neg (touches? G p e) n (e ∷ at G p F) (at G p F)
+    pub edges-away : ¬ Touches G p e → edgesAt G p (e ∷ F) ≡ edgesAt G p F
+    unfolding edgesAt
+    edges-away n = if-neg (touches? G p e) n (e ∷ edgesAt G p F) (edgesAt G p F)
 
   -- The degree counts the edges at p.
-  pub degree-at : (F : List E) → degree G p F ≡ length (at G p F)
-  unfolding degree at
-  degree-at [] = refl
-  degree-at (e ∷ F) =
-      dite (touches? G p e) (λ h. degree-touch e F h ∙ ap suc (degree-at F) ∙ sym (ap length (at-touch e F h)))
-      (λ n. degree-away e F n ∙ degree-at F ∙ sym (ap length (at-away e F n)))
+  pub degree-edges : (F : List E) → degree G p F ≡ length (edgesAt G p F)
+  unfolding degree edgesAt
+  degree-edges [] = refl
+  degree-edges (e ∷ F) =
+      dite (touches? G p e) (λ h. degree-touch e F h ∙ ap suc (degree-edges F) ∙ sym (ap length (edges-touch e F h)))
+      (λ n. degree-away e F n ∙ degree-edges F ∙ sym (ap length (edges-away e F n)))
 
-  pub at-in : (F : List E) (e : E) → In (at G p F) e ↔ (In F e × Touches G p e)
-  unfolding at
-  at-in [] e = (λ m. absurd (not-nil m), λ h. absurd (not-nil (h .0)))
-  at-in (x ∷ F) e =
+  pub edges-in : (F : List E) (e : E) → In (edgesAt G p F) e ↔ (In F e × Touches G p e)
+  unfolding edgesAt
+  edges-in [] e = (λ m. absurd (not-nil m), λ h. absurd (not-nil (h .0)))
+  edges-in (x ∷ F) e =
       dite (touches? G p x)
-      (λ t. subst (λ K. In K e ↔ (In (x ∷ F) e × Touches G p e)) (sym (at-touch x F t)) (
-        λ m. ⊎-elim (λ q. (head q, subst (Touches G p) (sym q) t)) (λ k. let r = at-in F e .0 k in (tail (r .0), r .1))
+      (λ t. subst (λ K. In K e ↔ (In (x ∷ F) e × Touches G p e)) (sym (edges-touch x F t)) (
+        λ m. ⊎-elim (λ q. (head q, subst (Touches G p) (sym q) t)) (λ k. let r = edges-in F e .0 k in (tail (r .0), r .1))
             (cases m),
-        λ h. ⊎-elim head (λ k. tail (at-in F e .1 (k, h .1))) (cases (h .0)),
+        λ h. ⊎-elim head (λ k. tail (edges-in F e .1 (k, h .1))) (cases (h .0)),
       ))
-      (λ n. subst (λ K. In K e ↔ (In (x ∷ F) e × Touches G p e)) (sym (at-away x F n)) (
-        λ m. let r = at-in F e .0 m in (tail (r .0), r .1),
-        λ h. ⊎-elim (λ q. absurd (n (subst (Touches G p) q (h .1)))) (λ k. at-in F e .1 (k, h .1)) (cases (h .0)),
+      (λ n. subst (λ K. In K e ↔ (In (x ∷ F) e × Touches G p e)) (sym (edges-away x F n)) (
+        λ m. let r = edges-in F e .0 m in (tail (r .0), r .1),
+        λ h. ⊎-elim (λ q. absurd (n (subst (Touches G p) q (h .1)))) (λ k. edges-in F e .1 (k, h .1)) (cases (h .0)),
       ))
 
   pub degree-zero : (F : List E) → ((e : E) → In F e → ¬ Touches G p e) → degree G p F ≡ 0
@@ -95,12 +95,12 @@ module _ {P E : Type 0} (G : Graph P E) (p : P) where
   degree-zero (e ∷ F) h = degree-away e F (h e (head refl)) ∙ degree-zero F (λ f m. h f (tail m))
 
   pub degree-pos : (F : List E) (e : E) → In F e → Touches G p e → 1 ≤ degree G p F
-  degree-pos F e m h = omega (arith, degree-at F, member-length (at-in F e .1 (m, h)))
+  degree-pos F e m h = omega (arith, degree-edges F, member-length (edges-in F e .1 (m, h)))
 
   pub degree-edge : (F : List E) → 1 ≤ degree G p F → (e : E) × In F e × Touches G p e
   degree-edge F h =
-      let r = first-member (at G p F) (omega (arith, degree-at F)) in
-      let k = at-in F (r .0) .0 (r .1) in
+      let r = first-member (edgesAt G p F) (omega (arith, degree-edges F)) in
+      let k = edges-in F (r .0) .0 (r .1) in
       (r .0, k .0, k .1)
 
 -- The degrees of all ends add up to twice the number of edges.

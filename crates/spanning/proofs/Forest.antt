@@ -2,7 +2,8 @@
 -- One exchange step carries all of it: an edge that closes the walk of another can change places with it.
 use mathlib.Core.Path.{_≡_, refl, sym, _∙_, ap, subst}
 use mathlib.Core.Logic.{_↔_, _⊎_, inl, inr, ⊎-elim}
-use mathlib.Core.List.{List, [], _∷_, _++_, append-nil, List·Memᴰ·head as head, List·Memᴰ·tail as tail, List·Memᴰ·cases-cons as cases, List·Memᴰ·not-nil as not-nil, Memᴰ·append-left, Memᴰ·append-right}
+use mathlib.Core.List.{List, [], _∷_, _++_, append-nil, List·Memᴰ·head as head, List·Memᴰ·tail as tail, List·Memᴰ·cases-cons as cases}
+use mathlib.Core.List.{List·Memᴰ·not-nil as not-nil, Memᴰ·append-left, Memᴰ·append-right}
 use Rattle.spanning.specs.Graph.{Graph, Conn, stop, fwd, bwd, In, Forest}
 use Rattle.spanning.proofs.Conn.{conn-cast, conn-trans, conn-sym, conn-edge, conn-mono}
 use Rattle.arrays.proofs.Members.{mem-shift, mem-split, mem-more, mem-less, Distinct}

@@ -36,13 +36,13 @@ module _ {E : Type 0} {before : E → E → Type 0} (order : StrictTotal before)
       first b =
           record {
             list = e ∷ x ∷ S;
-            place = here ahead;
-            sorted = (ahead, s);
+            place = here before-all;
+            sorted = (before-all, s);
             members = λ f. (λ m. ⊎-elim inl inr (cases m), ⊎-elim head tail);
           }
         where
-          ahead : (f : E) → In (x ∷ S) f → before e f
-          ahead f m = ⊎-elim (λ p. subst (before e) (sym p) b) (λ k. order .trans e x f b (s .0 f k)) (cases m)
+          before-all : (f : E) → In (x ∷ S) f → before e f
+          before-all f m = ⊎-elim (λ p. subst (before e) (sym p) b) (λ k. order .trans e x f b (s .0 f k)) (cases m)
 
       next : before x e → Fresh e S → Fresh e (x ∷ S)
       next b r =

@@ -86,8 +86,8 @@ module _ {P E : Type 0} {G : Graph P E} {before : E → E → Type 0} where
       }
 
   -- T's next edge cannot be one that Kruskal's method has passed.
-  ahead : {F es Q T : List E} {t : E} → Race G before F es Q (t ∷ T) → ((f : E) → In (t ∷ Q) f → ¬ In es f) → ⊥
-  ahead {F} {Q = Q} {t = t} r out =
+  next-not-passed : {F es Q T : List E} {t : E} → Race G before F es Q (t ∷ T) → ((f : E) → In (t ∷ Q) f → ¬ In es f) → ⊥
+  next-not-passed {F} {Q = Q} {t = t} r out =
       let h : suc (length Q) ≤ length F = rank G (t ∷ Q) F (forest-grown G (t ∷ Q) .1 (r .joins .0, r .past))
       (λ f m. ⊎-elim (λ k. absurd (out f m k)) (λ c. c)
       (r .inside f (⊎-elim (λ p. inr (head p)) inl (cases m)))) in
@@ -95,8 +95,8 @@ module _ {P E : Type 0} {G : Graph P E} {before : E → E → Type 0} where
       omega arith
 
   -- T has an edge left where Kruskal's method keeps one.
-  behind : {F es Q : List E} {e : E} → ¬ Conn G (In F) (G .hi e) (G .lo e) → Race G before F (e ∷ es) Q [] → ⊥
-  behind {F} {Q = Q} {e = e} n r =
+  edge-left : {F es Q : List E} {e : E} → ¬ Conn G (In F) (G .hi e) (G .lo e) → Race G before F (e ∷ es) Q [] → ⊥
+  edge-left {F} {Q = Q} {e = e} n r =
       let h : suc (length F) ≤ length Q = rank G (e ∷ F) Q (forest-grown G (e ∷ F) .1 (n, r .grown))
       (λ f m. conn-mono (λ g. ⊎-elim (λ k. k) (λ k. absurd (not-nil k)))
       (r .spans f (⊎-elim (λ p. inr (head p)) inl (cases m)))) in
@@ -107,13 +107,13 @@ module _ {P E : Type 0} (G : Graph P E) {before : E → E → Type 0} (order : S
   race : (F es Q T : List E) → Race G before F es Q T → Dominates before (kruskal G F es) T
   unfolding kruskal
   race F [] Q [] r = none
-  race F [] Q (t ∷ T) r = absurd (ahead r (λ f m. not-nil))
+  race F [] Q (t ∷ T) r = absurd (next-not-passed r (λ f m. not-nil))
   race F (e ∷ es) Q [] r =
-      kruskal-cases G F e es (λ K. Dominates before K []) (λ c. race F es Q [] (skip c r)) (λ n. absurd (behind n r))
+      kruskal-cases G F e es (λ K. Dominates before K []) (λ c. race F es Q [] (skip c r)) (λ n. absurd (edge-left n r))
   race F (e ∷ es) Q (t ∷ T) r =
       kruskal-cases G F e es (λ K. Dominates before K (t ∷ T)) (λ c. race F es Q (t ∷ T) (skip c r))
       (λ n. let rest = race (e ∷ F) es (t ∷ Q) T (keep n r) in
-      ⊎-elim (λ b. both (inl b) rest) (⊎-elim (λ p. both (inr p) rest) (λ b. absurd (ahead r (late b)))) (order .compare e t))
+      ⊎-elim (λ b. both (inl b) rest) (⊎-elim (λ p. both (inr p) rest) (λ b. absurd (next-not-passed r (late b)))) (order .compare e t))
     where
       -- The edges of T so far come before e, and so before every edge that is left.
       late : before t e → (f : E) → In (t ∷ Q) f → ¬ In (e ∷ es) f

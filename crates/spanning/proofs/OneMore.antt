@@ -108,7 +108,8 @@ module _ {P E : Type 0} (G : Graph P E) {before : E → E → Type 0} (order : S
             first = λ y h d. r .first y h (upto-closed F S x y a d);
           }
 
-      here-dropped : ¬ Conn G (In F) (G .hi x) (G .lo x) → Conn G (In (e ∷ F)) (G .hi x) (G .lo x) → Drop F (x ∷ S) e (x ∷ kruskal G (x ∷ F) S) (kruskal G (e ∷ F) S)
+      here-dropped : ¬ Conn G (In F) (G .hi x) (G .lo x) → Conn G (In (e ∷ F)) (G .hi x) (G .lo x)
+          → Drop F (x ∷ S) e (x ∷ kruskal G (x ∷ F) S) (kruskal G (e ∷ F) S)
       here-dropped a b =
           record {
             dropped = x;

@@ -14,7 +14,7 @@ use Rattle.spanning.proofs.Cover.{cover}
 -- The edges E₀ run between members of ps and connect them all.
 pub record Links {P E : Type 0} (G : Graph P E) (ps : List P) (E₀ : List E) : Type 0 where
   pub ends : (e : E) → In E₀ e → List·Memᴰ (G .lo e) ps × List·Memᴰ (G .hi e) ps
-  pub joined : (u v : P) → List·Memᴰ u ps → List·Memᴰ v ps → Conn G (In E₀) v u
+  pub connected : (u v : P) → List·Memᴰ u ps → List·Memᴰ v ps → Conn G (In E₀) v u
 
 module _ {P E : Type 0} {G : Graph P E} {ps : List P} {E₀ : List E} (links : Links G ps E₀) where
   pub tree-connects : {T : List E} → Tree G ps T → Spans G T E₀
@@ -28,7 +28,7 @@ module _ {P E : Type 0} {G : Graph P E} {ps : List P} {E₀ : List E} (links : L
   spanning-tree s =
       record {
         ends = λ e m. links .ends e (s .inside e m);
-        spans = λ u v m k. conn-bind (s .connects) (links .joined u v m k);
+        spans = λ u v m k. conn-bind (s .connects) (links .connected u v m k);
         forest = s .forest;
       }
 
@@ -36,7 +36,7 @@ module _ {P E : Type 0} {G : Graph P E} {ps : List P} {E₀ : List E} (links : L
   kruskal-tree =
       record {
         ends = λ e m. links .ends e (kruskal-in G [] E₀ e m);
-        spans = λ u v m k. kruskal-connects G E₀ .1 (links .joined u v m k);
+        spans = λ u v m k. kruskal-connects G E₀ .1 (links .connected u v m k);
         forest = kruskal-forest G E₀;
       }
 

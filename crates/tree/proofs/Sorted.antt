@@ -17,7 +17,7 @@ use Rattle.spanning.proofs.Kruskal.{kruskal-in}
 use Rattle.plane.specs.Point.{Point, Lower, dist}
 use Rattle.plane.specs.Edge.{Edge, Rising, listedBefore, Before, planar}
 use Rattle.plane.proofs.Order.{lower-order, before-order, shorter-before}
-use Rattle.plane.proofs.Joining.{level, listed-lo, listed-hi}
+use Rattle.plane.proofs.EdgeAtPoint.{level, listed-lo, listed-hi}
 use Rattle.model.specs.Tree.{edges, mst, edgesAt}
 use Rattle.model.proofs.Tree.{edges-in, edges-sorted}
 use Rattle.model.proofs.Candidate.{map-in}

@@ -118,7 +118,7 @@ module _ (at : ℕ → Point) (n : ℕ) (small : n ≤ 128) (one : (u v : ℕ) �
       (cover keyGraph nat-order weight (λ a b h. weight-le a b (ltb→lt a b h)) (allKeys at n) (r .list) (all-keys-sorted at n) (r .inside)
       (λ k i. let q = all-keys-in at n k .0 i in
       let e = key-ends at n k small q in
-      rw (e .1) (rw (e .0) (joined (q .i) (q .j) (omega arith) (q .below)))))
+      rw (e .1) (rw (e .0) (connected (q .i) (q .j) (omega arith) (q .below)))))
       (r .light)
     where
       tree : RunTree qs (mst qs)
@@ -127,8 +127,8 @@ module _ (at : ℕ → Point) (n : ℕ) (small : n ≤ 128) (one : (u v : ℕ) �
       r : Keyed (mst qs)
       r = keyed (mst qs) (tree .tree .ends) (tree .rising)
 
-      joined : (i j : ℕ) → i < n → j < n → Conn keyGraph (In (r .list)) j i
-      joined i j hi hj =
+      connected : (i j : ℕ) → i < n → j < n → Conn keyGraph (In (r .list)) j i
+      connected i j hi hj =
           rw (number-at j hj) at (rw (number-at i hi) at (conn-map number (r .links)
           (tree .tree .spans (at i) (at j) (members (at i) .1 (i, hi, refl)) (members (at j) .1 (j, hj, refl)))))
 

@@ -8,7 +8,7 @@ use Rattle.plane.specs.Stored.{pointAt}
 use Rattle.arrays.specs.Set.{put}
 use Rattle.model.specs.Tree.{treeLength}
 use Rattle.tree.specs.Held.{held}
-use Rattle.tree.specs.Keys.{places, octants, tab, treeKeys}
+use Rattle.tree.specs.Keys.{places, octantCount, tab, treeKeys}
 
 -- The first n points rise with their numbers.
 abbrev pub Rises : (ℕ → Point) → ℕ → Type 0
@@ -18,15 +18,15 @@ pub record BuildRequires (xs ys : List ℕ) (n room : ℕ) : Type 0 where
   pub inXs : n ≤ length xs
   pub inYs : n ≤ length ys
   pub few : n ≤ places
-  pub fits : n + octants ≤ room
+  pub fits : n + octantCount ≤ room
   pub rises : Rises (held xs ys) n
 
 pub record JoinRequires (xs ys : List ℕ) (n : ℕ) (keys : List ℕ) (m room : ℕ) : Type 0 where
   pub inXs : n < length xs
   pub inYs : n < length ys
   pub few : n < places
-  pub fits : n + octants ≤ length keys
-  pub work : n + octants ≤ room
+  pub fits : n + octantCount ≤ length keys
+  pub work : n + octantCount ≤ room
   pub rises : Rises (held xs ys) (n + 1)
   pub within : m ≤ length keys
   pub tree : take m keys ≡ treeKeys (held xs ys) n

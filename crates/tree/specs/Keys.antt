@@ -7,18 +7,12 @@ use Rattle.spanning.specs.Graph.{Graph}
 use Rattle.spanning.specs.Kruskal.{kruskal}
 use Rattle.arrays.specs.Test.{if}
 use Rattle.plane.specs.Point.{Point, dist}
+pub use Rattle.plane.specs.Octant.{octantCount}
+pub use Rattle.plane.specs.Places.{places}
 use Rattle.plane.specs.Edge.{Edge}
 use Rattle.plane.specs.Nearest.{inOctantOf}
 use Rattle.arrays.specs.Set.{union}
 use Rattle.model.specs.File.{numberOf}
-
--- How many points can have a number: as many as a deck has, 64 pins and 64 Steiner points.
-abbrev pub places : ℕ
-places = 128
-
--- A star has a key for each octant.
-abbrev pub octants : ℕ
-octants = 8
 
 -- The longest edge: each of two coordinates of 16 bits differs by at most 65,535.
 abbrev pub longest : ℕ
@@ -82,7 +76,7 @@ leastKey at c n o (suc j) =
 
 -- The least keys of the eight octants, from octant 0 on.
 unfoldable pub octantKeys : (ℕ → Point) → Point → ℕ → List ℕ
-octantKeys at c n = tab (λ (o : ℕ). leastKey at c n o n) octants
+octantKeys at c n = tab (λ (o : ℕ). leastKey at c n o n) octantCount
 
 -- The keys of a list that are keys.
 unfoldable pub offered : List ℕ → List ℕ

@@ -1,16 +1,14 @@
 // An edge between two numbered points as one number, its key: (length * 128 + low) * 128 + high, where low and high are the numbers of
 // its two points, low the smaller. One comparison of keys compares lengths, then low, then high.
+use plane::PLACES;
 ghost use mathlib.Core.Path.{_≡_};
 ghost use Prim.Native.Nat.{_≤_, _<_};
 ghost use Rattle.tree.specs.Keys as spec;
 
-// How many points can have a number: as many as a deck has, 64 pins and 64 Steiner points.
-pub const PLACES: usize = 128;
+// The number of a point is less than this, a factor of keys; what stands above the two numbers of a key.
+const FACTOR: u64 = PLACES as u64;
 
-// The same as a factor of keys, and what stands above the two numbers of a key: PLACES * PLACES.
-const FACTOR: u64 = 128;
-
-const PAIRS: u64 = 16384;
+const PAIRS: u64 = FACTOR * FACTOR;
 
 // Larger than every key, since the longest edge has 17 bits and two numbers have 14.
 pub const NO_KEY: u64 = 4294967295;

@@ -1,8 +1,8 @@
 // Kruskal's pass over a list of keys: of each key in turn, whether its two numbers are connected already by the keys that
 // were kept before. Each of the numbers below PLACES has a label, and two numbers are connected exactly if they have the same one.
-use super::keys::PLACES;
 use super::keys::high;
 use super::keys::low;
+use plane::PLACES;
 ghost use mathlib.Core.Path.{_≡_};
 ghost use mathlib.Core.List.{[]};
 ghost use Prim.Native.Nat.{ℕ, _≤_, _<_};

@@ -1,4 +1,1 @@
-pub mod Decoding
-pub mod Digits
-pub mod Pairs
-pub mod Splitting
+pub mod Words

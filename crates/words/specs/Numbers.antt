@@ -29,13 +29,20 @@ isMagnitude most (b ∷ l) = areDigits (b ∷ l) && leb (valueFrom 0 (b ∷ l)) 
 unfoldable pub magnitudeOf : ℕ → List ℕ → ℕ
 magnitudeOf most l = if (isMagnitude most l) (λ _. valueFrom 0 l) (λ _. most + 1)
 
+-- The largest number of 32 bits with a sign, and the smallest without its sign.
+abbrev pub largest : ℕ
+largest = 2147483647
+
+abbrev pub smallest : ℕ
+smallest = 2147483648
+
 -- The number of a word: digits, with a minus sign (45) before them or with none, of a value that 32 bits hold.
 unfoldable pub numberOf : List ℕ → Number
 numberOf [] = NoNumber
 numberOf (b ∷ l) =
     if (eqb b 45)
-    (λ _. if (isMagnitude 2147483648 l) (λ _. Is (negℤ (pos (valueFrom 0 l)))) (λ _. NoNumber))
-    (λ _. if (isMagnitude 2147483647 (b ∷ l)) (λ _. Is (pos (valueFrom 0 (b ∷ l)))) (λ _. NoNumber))
+    (λ _. if (isMagnitude smallest l) (λ _. Is (negℤ (pos (valueFrom 0 l)))) (λ _. NoNumber))
+    (λ _. if (isMagnitude largest (b ∷ l)) (λ _. Is (pos (valueFrom 0 (b ∷ l)))) (λ _. NoNumber))
 
 -- A number as a size, which is not negative.
 abbrev pub natural : Number → Size

@@ -17,7 +17,7 @@ pub struct Span {
 fn is_space(b: u8) -> bool
     ensures { λ r. ⌜ r ≡ isSpace b ⌝ }
 {
-    if b == 32 {
+    if b == b' ' {
         return true;
     }
     if b < 9 {

@@ -2,7 +2,12 @@
 ghost use mathlib.Core.Path.{_≡_};
 ghost use Prim.Native.Nat.{_≤_};
 ghost use lib.IntN.{pos, negℤ};
-ghost use Rattle.words.specs.Numbers.{magnitudeOf, numberOf, sizeOf};
+ghost use Rattle.words.specs.Numbers.{largest, smallest, magnitudeOf, numberOf, sizeOf};
+
+// The largest number of 32 bits with a sign, and the smallest without its sign.
+const LARGEST: u64 = 2147483647;
+
+const SMALLEST: u64 = LARGEST + 1;
 
 // A word as a number: none, or its value.
 pub enum Number {
@@ -18,7 +23,7 @@ pub enum Size {
 
 // The value of one or more digits, or `most` + 1 where there are none, or others beside them, or the value is more than `most`.
 fn magnitude(digits: &[u8], most: u64) -> u64
-    requires { ⌜ most ≤ 2147483648 ⌝ }
+    requires { ⌜ most ≤ smallest ⌝ }
     ensures { λ r. ⌜ r ≡ magnitudeOf most (now (digits .entry)) ⌝ }
 {
     let none = most + 1;
@@ -29,13 +34,13 @@ fn magnitude(digits: &[u8], most: u64) -> u64
     let mut i = 0;
     while i < digits.len() {
         let b = digits[i];
-        if b < 48 {
+        if b < b'0' {
             return none;
         }
-        if 57 < b {
+        if b'9' < b {
             return none;
         }
-        v = 10 * v + (b - 48) as u64;
+        v = 10 * v + (b - b'0') as u64;
         if most < v {
             return none;
         }
@@ -46,7 +51,7 @@ fn magnitude(digits: &[u8], most: u64) -> u64
 
 // The negative of a magnitude.
 fn negated(m: u64) -> i32
-    requires { ⌜ m ≤ 2147483648 ⌝ }
+    requires { ⌜ m ≤ smallest ⌝ }
     ensures { λ r. ⌜ r ≡ negℤ (pos m) ⌝ }
 {
     (0 - m as i64) as i32
@@ -54,7 +59,7 @@ fn negated(m: u64) -> i32
 
 // A magnitude as a signed number.
 fn positive(m: u64) -> i32
-    requires { ⌜ m ≤ 2147483647 ⌝ }
+    requires { ⌜ m ≤ largest ⌝ }
     ensures { λ r. ⌜ r ≡ pos m ⌝ }
 {
     m as i32
@@ -68,14 +73,14 @@ pub fn number_of(word: &[u8]) -> Number
         return Number::NoNumber;
     }
     if word[0] == b'-' {
-        let m = magnitude(&word[1..], 2147483648);
-        if 2147483648 < m {
+        let m = magnitude(&word[1..], SMALLEST);
+        if SMALLEST < m {
             return Number::NoNumber;
         }
         return Number::Is(negated(m));
     }
-    let m = magnitude(word, 2147483647);
-    if 2147483647 < m {
+    let m = magnitude(word, LARGEST);
+    if LARGEST < m {
         return Number::NoNumber;
     }
     Number::Is(positive(m))

@@ -1,4 +1,2 @@
-pub mod Arranging
-pub mod HeldPoints
-pub mod Sweeping
-pub mod Weakness
+pub mod Held
+pub mod InOrder

@@ -1,2 +1,3 @@
-pub mod Weak
+pub mod Edges
 pub mod InOrder
+pub mod Weak

@@ -2,7 +2,7 @@
 //! happen to give a sound deck.
 
 use crate::damages::Damaged;
-use crate::deck::{code, row, Deck};
+use crate::deck::{code, Deck, END_PLACES};
 use reference::generate::Random;
 use reference::plane::Point;
 use reference::session::{is_valid, State};
@@ -12,17 +12,16 @@ type Ends = Vec<(u64, u64)>;
 
 fn ends_of(deck: &Deck, count: usize) -> Ends {
     let pair = |&word: &u64| (word / 128, word % 128);
-    deck.ends[..count].iter().map(pair).collect()
+    deck.ends()[..count].iter().map(pair).collect()
 }
 
 /// The deck with these edges, as they stand.
 fn with(deck: &Deck, ends: &Ends) -> Deck {
-    let mut damaged = Deck {
-        ends: [0; 128],
-        ..*deck
-    };
-    for (place, &(a, b)) in ends.iter().enumerate().take(128) {
-        damaged.ends[place] = 128 * a + b;
+    let mut damaged = *deck;
+    let words = &mut damaged.words[END_PLACES];
+    words.fill(0);
+    for (word, &(a, b)) in words.iter_mut().zip(ends) {
+        *word = 128 * a + b;
     }
     damaged
 }
@@ -76,7 +75,7 @@ pub fn other_trees(state: &State, deck: &Deck, most: usize) -> Vec<Damaged> {
 
 /// One edge changed, swapped, missing, doubled, turned round or in a ring.
 pub fn edges(random: &mut Random, deck: &Deck, count: usize) -> Vec<Damaged> {
-    let points = (deck.npins + deck.nsteiner) as u64;
+    let points = (deck.npins() + deck.nsteiner()) as u64;
     let right = ends_of(deck, count);
     let mut damaged = Vec::new();
     for i in 0..count {
@@ -112,13 +111,7 @@ pub fn edges(random: &mut Random, deck: &Deck, count: usize) -> Vec<Damaged> {
 fn with_roles(deck: &Deck, pins: &[Point], steiner: &[Point]) -> Deck {
     let state = State::new(pins.to_vec(), steiner.to_vec());
     let codes = |points: &[Point]| points.iter().take(64).map(|&p| code(p)).collect::<Vec<_>>();
-    Deck {
-        pins: row(&codes(&state.pins)),
-        npins: state.pins.len().min(64),
-        steiner: row(&codes(&state.steiner)),
-        nsteiner: state.steiner.len().min(64),
-        ends: deck.ends,
-    }
+    Deck::with_lists(&codes(&state.pins), &codes(&state.steiner), deck.ends())
 }
 
 /// A pin that becomes a Steiner point, one that becomes a pin, and a Steiner

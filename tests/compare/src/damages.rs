@@ -1,34 +1,39 @@
-//! Decks with one field damaged: the counts, the points, the places that are
+//! Decks damaged in one part: the counts, the points, the places that are
 //! not used, and every word. A damage may happen to give a sound deck.
 
-use crate::deck::{code, Deck, WORDS};
+use crate::deck::{code, Deck, END_PLACES, WORDS};
+use crate::deck::{PIN_COUNT, PIN_PLACES, STEINER_COUNT, STEINER_PLACES};
 use reference::generate::Random;
 use reference::plane::{Point, LIMIT};
+use std::ops::Range;
 
 /// A damaged deck, with the name of what was done to it.
 pub type Damaged = (&'static str, Deck);
 
 /// Counts that are too large, or one off.
 pub fn counts(deck: &Deck) -> Vec<Damaged> {
-    let with = |count: usize| {
+    let with = |name: &'static str, place: usize| {
+        let count = deck.words[place];
         let near = [
             count.wrapping_sub(1),
             count + 1,
             count + 2,
             count + (1 << 32),
         ];
-        let fixed = [0, 62, 63, 64, 65, 66, 126, 128, 256, usize::MAX];
-        near.into_iter().chain(fixed).filter(move |&n| n != count)
+        let fixed = [0, 62, 63, 64, 65, 66, 126, 128, 256, u64::MAX];
+        let other = near.into_iter().chain(fixed).filter(move |&n| n != count);
+        other.map(move |n| (name, deck.with(place, n)))
     };
-    let pins = with(deck.npins).map(|npins| ("count of pins", Deck { npins, ..*deck }));
-    let steiner =
-        with(deck.nsteiner).map(|nsteiner| ("count of Steiner points", Deck { nsteiner, ..*deck }));
+    let pins = with("count of pins", PIN_COUNT);
+    let steiner = with("count of Steiner points", STEINER_COUNT);
     pins.chain(steiner).collect()
 }
 
-/// One of the two arrays of points, its count, and the names of its damages.
+/// Where pins or Steiner points stand and where their count, and the names of
+/// their damages.
 struct Points {
-    steiner: bool,
+    places: Range<usize>,
+    count: usize,
     moved: &'static str,
     doubled: &'static str,
     out_of_order: &'static str,
@@ -36,7 +41,8 @@ struct Points {
 }
 
 const PINS: Points = Points {
-    steiner: false,
+    places: PIN_PLACES,
+    count: PIN_COUNT,
     moved: "pin moved",
     doubled: "pin doubled",
     out_of_order: "pin out of order",
@@ -44,7 +50,8 @@ const PINS: Points = Points {
 };
 
 const STEINER: Points = Points {
-    steiner: true,
+    places: STEINER_PLACES,
+    count: STEINER_COUNT,
     moved: "Steiner point moved",
     doubled: "Steiner point doubled",
     out_of_order: "Steiner point out of order",
@@ -53,21 +60,13 @@ const STEINER: Points = Points {
 
 impl Points {
     fn count(&self, deck: &Deck) -> usize {
-        if self.steiner {
-            deck.nsteiner
-        } else {
-            deck.npins
-        }
+        deck.words[self.count] as usize
     }
 
-    /// The deck after a change of the array.
+    /// The deck after a change of these points.
     fn with(&self, deck: &Deck, change: impl Fn(&mut [u64])) -> Deck {
         let mut damaged = *deck;
-        if self.steiner {
-            change(&mut damaged.steiner);
-        } else {
-            change(&mut damaged.pins);
-        }
+        change(&mut damaged.words[self.places.clone()]);
         damaged
     }
 
@@ -108,19 +107,17 @@ pub fn points(deck: &Deck) -> Vec<Damaged> {
 /// A number in each place that is not used, one at a time.
 pub fn unused(deck: &Deck) -> Vec<Damaged> {
     let some = code(Point::new(LIMIT, LIMIT));
-    let edges = (deck.npins + deck.nsteiner).saturating_sub(1);
+    let edges = (deck.npins() + deck.nsteiner()).saturating_sub(1);
     let mut damaged = Vec::new();
     for value in [1, some, u64::MAX] {
-        for i in deck.npins..64 {
+        for i in deck.npins()..64 {
             damaged.push(("unused pin", PINS.with(deck, |a| a[i] = value)));
         }
-        for i in deck.nsteiner..64 {
+        for i in deck.nsteiner()..64 {
             damaged.push(("unused Steiner point", STEINER.with(deck, |a| a[i] = value)));
         }
         for i in edges..128 {
-            let mut ends = deck.ends;
-            ends[i] = value;
-            damaged.push(("unused edge", Deck { ends, ..*deck }));
+            damaged.push(("unused edge", deck.with(END_PLACES.start + i, value)));
         }
     }
     damaged
@@ -130,22 +127,17 @@ pub fn unused(deck: &Deck) -> Vec<Damaged> {
 pub fn words(random: &mut Random, deck: &Deck) -> Vec<Damaged> {
     let mut damaged = Vec::new();
     for place in 0..WORDS {
-        let mut copy = *deck;
-        let value = copy.word(place).get();
+        let value = deck.words[place];
         let other = random.range(0, WORDS as i64 - 1) as usize;
         let values = [
             value.wrapping_add(1),
             value.wrapping_sub(1),
             value ^ (1 << random.range(0, 63)),
             value ^ (1 << random.range(0, 20)),
-            copy.word(other).get(),
+            deck.words[other],
         ];
-        for changed in values {
-            if changed != value {
-                copy.word(place).set(changed);
-                damaged.push(("word", copy));
-            }
-        }
+        let others = values.into_iter().filter(|&other| other != value);
+        damaged.extend(others.map(|other| ("word", deck.with(place, other))));
     }
     damaged
 }

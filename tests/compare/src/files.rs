@@ -90,12 +90,12 @@ pub fn taken(random: &mut Random, length: usize) -> Vec<Vec<u8>> {
     plain.into_iter().chain(full).collect()
 }
 
-/// The file that shows the fields of a deck whose points are in range; zeros
+/// The file that shows the parts of a deck whose points are in range; zeros
 /// at the end of its edges are no edges.
 pub fn of_deck(deck: &Deck) -> Vec<u8> {
-    let unused = deck.ends.iter().rev().take_while(|&&word| word == 0);
-    let count = deck.ends.len() - unused.count();
-    let edges = deck.ends[..count].iter();
+    let ends = deck.ends();
+    let unused = ends.iter().rev().take_while(|&&word| word == 0);
+    let edges = ends[..ends.len() - unused.count()].iter();
     let bytes = edges.flat_map(|word| [(word / 128) as u8, (word % 128) as u8]);
     let points = deck.points().expect("counts that are not too large");
     assemble(

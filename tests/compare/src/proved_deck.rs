@@ -1,54 +1,34 @@
 //! The proved calls. They take every deck, so each wrapper is safe.
 
-use crate::deck::Deck;
+use crate::deck::{Deck, WORDS};
 use reference::session::{Call, Reply};
 
 mod library {
+    use crate::deck::WORDS;
+
     unsafe extern "C" {
-        pub fn entry_empty(
-            pins: &mut [u64; 64],
-            npins: &mut usize,
-            steiner: &mut [u64; 128],
-            nsteiner: &mut usize,
-            ends: &mut [u64; 128],
-        );
+        pub fn entry_empty(words: &mut [u64; WORDS]);
         pub fn entry_add(
             x: i32,
             y: i32,
-            pins: &mut [u64; 64],
-            npins: &mut usize,
-            steiner: &mut [u64; 128],
-            nsteiner: &mut usize,
-            ends: &mut [u64; 128],
+            words: &mut [u64; WORDS],
             numbers: &mut [u64; 3],
             places: &mut [i32; 4],
         ) -> u8;
         pub fn entry_withdraw(
             x: i32,
             y: i32,
-            pins: &mut [u64; 64],
-            npins: &mut usize,
-            steiner: &mut [u64; 128],
-            nsteiner: &mut usize,
-            ends: &mut [u64; 128],
+            words: &mut [u64; WORDS],
             numbers: &mut [u64; 3],
             places: &mut [i32; 4],
         ) -> u8;
         pub fn entry_round(
-            pins: &mut [u64; 64],
-            npins: &mut usize,
-            steiner: &mut [u64; 128],
-            nsteiner: &mut usize,
-            ends: &mut [u64; 128],
+            words: &mut [u64; WORDS],
             numbers: &mut [u64; 3],
             places: &mut [i32; 4],
         ) -> u8;
         pub fn entry_run_to_end(
-            pins: &mut [u64; 64],
-            npins: &mut usize,
-            steiner: &mut [u64; 128],
-            nsteiner: &mut usize,
-            ends: &mut [u64; 128],
+            words: &mut [u64; WORDS],
             numbers: &mut [u64; 3],
             places: &mut [i32; 4],
         ) -> u8;
@@ -108,46 +88,20 @@ fn coordinate(z: i64) -> i32 {
 
 /// The empty deck.
 pub fn empty() -> Deck {
-    let mut deck = Deck {
-        pins: [NUMBER_BEFORE; 64],
-        npins: NUMBER_BEFORE as usize,
-        steiner: [NUMBER_BEFORE; 128],
-        nsteiner: NUMBER_BEFORE as usize,
-        ends: [NUMBER_BEFORE; 128],
-    };
-    let d = &mut deck;
-    // SAFETY: each field is lent whole and alone.
-    unsafe {
-        library::entry_empty(
-            &mut d.pins,
-            &mut d.npins,
-            &mut d.steiner,
-            &mut d.nsteiner,
-            &mut d.ends,
-        );
-    }
-    deck
+    let mut words = [NUMBER_BEFORE; WORDS];
+    // SAFETY: the words are lent whole and alone.
+    unsafe { library::entry_empty(&mut words) };
+    Deck { words }
 }
 
 /// One call: the deck that is handed back, and the reply in its parts.
 pub fn call(deck: &Deck, call: Call) -> (Deck, Parts) {
     let (mut next, mut parts) = (*deck, Parts::before());
-    let (d, p) = (&mut next, &mut parts);
+    let (w, p) = (&mut next.words, &mut parts);
     macro_rules! make {
         ($entry:ident $(, $argument:expr)*) => {
-            // SAFETY: each field and each part is lent whole and alone.
-            unsafe {
-                library::$entry(
-                    $($argument,)*
-                    &mut d.pins,
-                    &mut d.npins,
-                    &mut d.steiner,
-                    &mut d.nsteiner,
-                    &mut d.ends,
-                    &mut p.numbers,
-                    &mut p.places,
-                )
-            }
+            // SAFETY: the words and each part are lent whole and alone.
+            unsafe { library::$entry($($argument,)* w, &mut p.numbers, &mut p.places) }
         };
     }
     p.kind = match call {

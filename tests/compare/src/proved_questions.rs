@@ -4,50 +4,30 @@ use crate::deck::Deck;
 use crate::proved_deck::Parts;
 
 mod library {
+    use crate::deck::WORDS;
+
     unsafe extern "C" {
-        pub fn entry_is_valid(
-            pins: &[u64; 64],
-            npins: usize,
-            steiner: &[u64; 128],
-            nsteiner: usize,
-            ends: &[u64; 128],
-        ) -> bool;
+        pub fn entry_is_valid(words: &[u64; WORDS]) -> bool;
         pub fn entry_length(
-            pins: &[u64; 64],
-            npins: usize,
-            steiner: &[u64; 128],
-            nsteiner: usize,
-            ends: &[u64; 128],
+            words: &[u64; WORDS],
             numbers: &mut [u64; 3],
             places: &mut [i32; 4],
         ) -> u8;
         pub fn entry_counts(
-            pins: &[u64; 64],
-            npins: usize,
-            steiner: &[u64; 128],
-            nsteiner: usize,
-            ends: &[u64; 128],
+            words: &[u64; WORDS],
             numbers: &mut [u64; 3],
             places: &mut [i32; 4],
         ) -> u8;
         pub fn entry_edge_at(
             i: usize,
-            pins: &[u64; 64],
-            npins: usize,
-            steiner: &[u64; 128],
-            nsteiner: usize,
-            ends: &[u64; 128],
+            words: &[u64; WORDS],
             numbers: &mut [u64; 3],
             places: &mut [i32; 4],
         ) -> u8;
         pub fn entry_degree_at(
             x: i32,
             y: i32,
-            pins: &[u64; 64],
-            npins: usize,
-            steiner: &[u64; 128],
-            nsteiner: usize,
-            ends: &[u64; 128],
+            words: &[u64; WORDS],
             numbers: &mut [u64; 3],
             places: &mut [i32; 4],
         ) -> u8;
@@ -65,30 +45,18 @@ pub enum Question {
 
 /// Whether the deck is sound.
 pub fn is_valid(deck: &Deck) -> bool {
-    let d = deck;
-    // SAFETY: each array is lent whole.
-    unsafe { library::entry_is_valid(&d.pins, d.npins, &d.steiner, d.nsteiner, &d.ends) }
+    // SAFETY: the words are lent whole.
+    unsafe { library::entry_is_valid(&deck.words) }
 }
 
 /// The answer to a question, in its parts.
 pub fn ask(deck: &Deck, question: Question) -> Parts {
     let mut parts = Parts::before();
-    let (d, p) = (deck, &mut parts);
+    let (w, p) = (&deck.words, &mut parts);
     macro_rules! make {
         ($entry:ident $(, $argument:expr)*) => {
-            // SAFETY: each array is lent whole, and each part alone.
-            unsafe {
-                library::$entry(
-                    $($argument,)*
-                    &d.pins,
-                    d.npins,
-                    &d.steiner,
-                    d.nsteiner,
-                    &d.ends,
-                    &mut p.numbers,
-                    &mut p.places,
-                )
-            }
+            // SAFETY: the words are lent whole, and each part alone.
+            unsafe { library::$entry($($argument,)* w, &mut p.numbers, &mut p.places) }
         };
     }
     p.kind = match question {

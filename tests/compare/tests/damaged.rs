@@ -92,14 +92,14 @@ fn damages(random: &mut Random, state: &State) -> Vec<Damaged> {
 
 /// Does all damages to a deck, and counts them.
 fn damage(random: &mut Random, state: &State, seen: &mut Seen) {
-    let mut right = Deck::of(state);
-    for (name, mut damaged) in damages(random, state) {
+    let right = Deck::of(state);
+    for (name, damaged) in damages(random, state) {
         let refused = answers(random, state, name, &damaged);
         let kind = seen.kinds.entry(name).or_default();
         kind.0 += refused as usize;
         kind.1 += !refused as usize;
         for place in 0..WORDS {
-            let differs = damaged.word(place).get() != right.word(place).get();
+            let differs = damaged.words[place] != right.words[place];
             seen.words[place] += (refused && differs) as usize;
         }
     }

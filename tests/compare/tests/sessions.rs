@@ -132,7 +132,7 @@ fn rounds_on_full_decks() {
 fn the_most_points() {
     let state = comb(62);
     let deck = Deck::of(&state);
-    assert_eq!((deck.npins, deck.nsteiner), (64, 62));
+    assert_eq!((deck.npins(), deck.nsteiner()), (64, 62));
     let on_steiner = Call::Add(state.steiner[7].x, state.steiner[7].y);
     for (asked, reply) in [
         (on_steiner, Reply::Refused(10)),

@@ -25,7 +25,8 @@ returns c =
     let at-byte = at-magnitude .before .before .before .before in
     let at-if1 = at-byte .before .before in
     let at-start = at-if1 .before .before in
-    minus-put _ _ _ _ _ _ (at-start .fits .z) (at-magnitude .magnitude .ensures) (at-if1 .if1 .taken) (pasted-then (at-byte .put-byte .ensures) (omega arith) (at-decimal .decimal .ensures .0))
+    minus-put _ _ _ _ _ _ (at-start .fits .z) (at-magnitude .magnitude .ensures) (at-if1 .if1 .taken)
+    (pasted-then (at-byte .put-byte .ensures) (omega arith) (at-decimal .decimal .ensures .0))
 
 magnitude-requires-2 : tie.Need-magnitude-requires-2
 magnitude-requires-2 c κs = search needs

@@ -2,7 +2,7 @@
 use mathlib.Core.Path.{_∙_}
 use Rattle.model.specs.Call as call
 use Rattle.plane.proofs.codes.Points.{read-located, out-located, located-is}
-use Rattle.calls.proofs.Calling.{refused-is, by-point, add-out}
+use Rattle.calls.proofs.PointCalls.{refused-is, by-point, add-out}
 use borrow.Author.Needs.{needs}
 use Rattle.calls.proofs.add.Statement.{statement}
 use Rattle.calls.proofs.add.Tie as tie

@@ -2,8 +2,8 @@
 use mathlib.Core.Path.{sym, _∙_, subst}
 use Prim.Native.Nat.{ℕ, _≤_, _<_}
 use borrow.Author.Tests.{leb-true, leb-false}
-use Rattle.rounds.proofs.OneRound.{point-room}
-use Rattle.calls.proofs.Calling.{in-range, refused-is, done-is, add-there, add-full, add-done, pin-there, pin-count}
+use Rattle.rounds.proofs.Round.{point-room}
+use Rattle.calls.proofs.PointCalls.{in-range, refused-is, done-is, add-there, add-full, add-done, pin-there, pin-count}
 use borrow.Author.Needs.{needs}
 use Rattle.calls.proofs.add_at.Statement.{statement}
 use Rattle.calls.proofs.add_at.Tie as tie

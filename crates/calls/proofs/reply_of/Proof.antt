@@ -1,7 +1,7 @@
 -- `calls::reply_of` meets its contract, case by case.
 use mathlib.Core.Path.{sym, ap, _∙_}
 use Rattle.calls.specs.Changes.{stepReply}
-use Rattle.calls.proofs.Rounding.{read-tap}
+use Rattle.calls.proofs.RoundCalls.{read-tap}
 use borrow.Author.Needs.{needs}
 use Rattle.calls.proofs.reply_of.Statement.{statement}
 use Rattle.calls.proofs.reply_of.Tie as tie

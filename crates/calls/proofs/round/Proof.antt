@@ -1,5 +1,5 @@
 -- `calls::round` meets its contract, by that of `rounds::round_of`.
-use Rattle.calls.proofs.Rounding.{round-is}
+use Rattle.calls.proofs.RoundCalls.{round-is}
 use borrow.Author.Needs.{needs}
 use Rattle.calls.proofs.round.Statement.{statement}
 use Rattle.calls.proofs.round.Tie as tie

@@ -2,7 +2,7 @@
 use mathlib.Core.Path.{_∙_}
 use Rattle.model.specs.Call as call
 use Rattle.plane.proofs.codes.Points.{read-located, out-located, located-is}
-use Rattle.calls.proofs.Calling.{refused-is, by-point, withdraw-none, none-outside}
+use Rattle.calls.proofs.PointCalls.{refused-is, by-point, withdraw-none, none-outside}
 use borrow.Author.Needs.{needs}
 use Rattle.calls.proofs.withdraw.Statement.{statement}
 use Rattle.calls.proofs.withdraw.Tie as tie

@@ -1,7 +1,7 @@
 -- `calls::withdraw_at` meets its contract: the test for 9, else the pin leaves.
 use mathlib.Core.Path.{sym, _∙_}
 use borrow.Author.Tests.{not-true, not-false}
-use Rattle.calls.proofs.Calling.{refused-is, done-is, withdraw-none, withdraw-done, pin-there}
+use Rattle.calls.proofs.PointCalls.{refused-is, done-is, withdraw-none, withdraw-done, pin-there}
 use borrow.Author.Needs.{needs}
 use Rattle.calls.proofs.withdraw_at.Statement.{statement}
 use Rattle.calls.proofs.withdraw_at.Tie as tie
@@ -21,7 +21,8 @@ returns c =
     let at-has = at-if .before in
     let at-start = at-has .before .before .before in
     let p = at-start .pre .0 in
-    refused-is _ p _ 9 (withdraw-none _ _ (sym (pin-there _ p _ (at-start .pre .1)) ∙ sym (at-has .has .ensures) ∙ not-true _ (at-if .if1 .taken))) _ (c .refuse .ensures)
+    refused-is _ p _ 9 (withdraw-none _ _ (sym (pin-there _ p _ (at-start .pre .1)) ∙ sym (at-has .has .ensures) ∙ not-true _ (at-if .if1 .taken)))
+    _ (c .refuse .ensures)
 
 remove-requires : tie.Need-remove-requires
 remove-requires c κs = search needs

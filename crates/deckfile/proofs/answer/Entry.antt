@@ -1,6 +1,6 @@
 -- What an entry answers: the refusal of the file, or what writing the deck after the calls answers. A deck that is read is that of
 -- a valid state, calls lead on to such a deck (`after-deck`), and writing it is the model's.
-use mathlib.Core.Path.{_≡_, refl, sym, ap, ap₂, _∙_, subst⁻¹}
+use mathlib.Core.Path.{_≡_, refl, sym, ap, _∙_, subst⁻¹}
 use mathlib.Core.Bool.{Bool, true, false}
 use mathlib.Core.List.{List, _++_}
 use Prim.Native.Nat.{ℕ, _≤_, _<_}
@@ -12,43 +12,41 @@ use Rattle.arrays.specs.Test.{if}
 use Rattle.model.specs.State.{State, Valid}
 use Rattle.model.specs.Call.{Call, stateAfter}
 use Rattle.model.specs.File.{Read, deck, refusal, fileOf, longest}
-use Rattle.model.proofs.Step.{after-valid}
+use Rattle.model.proofs.Step.{step-valid, after-valid}
 use Rattle.model.proofs.FileAnswer.{Possible, taken, refused, possible-valid}
 use Rattle.model.proofs.FileSize.{file-size}
 use Rattle.model.proofs.FileRoundTrip.{written-read}
-use Rattle.calls.specs.Changes.{refusalNumber}
+use Rattle.working.specs.InOrder as work
+use Rattle.working.specs.InOrder.{InOrder}
+use Rattle.calls.specs.declared.Changed.{Changed}
+use Rattle.working.specs.declared.Working.{Working}
+use Rattle.calls.specs.Changes.{refusalNumber, ChangedBy}
 use Rattle.deck.specs.declared.Deck.{Deck}
 use Rattle.deck.specs.declared.Outcome.{Outcome}
 use Rattle.deck.specs.Form.{deckOf}
 use Rattle.deck.specs.Session.{deckAfter}
-use Rattle.deck.proofs.Forms.{state-deck}
+use Rattle.deck.proofs.Form.{state-deck}
 use Rattle.deck.proofs.Session.{valid-passes, after-deck}
 use Rattle.deckfile.specs.declared.Written.the-variants.{Refused, Length}
-use Rattle.deckfile.specs.Reading.{outcomeOf, reading, accepting}
-use Rattle.deckfile.specs.Writing.{stored, writing, written, left}
+use Rattle.deckfile.specs.declared.Written.{Written}
+use Rattle.deckfile.specs.Reading.{outcomeOf, reading, accepting, stateRead, replyRead, ReadTo}
+use Rattle.deckfile.specs.Writing.{stored, storedAnswer, storedBuffer, written, left}
+use Rattle.deckfile.proofs.Stored.{write-stored}
 use Rattle.deckfile.specs.Answer.{rewritten, answerNumber, answerBuffer, writtenNumber}
 
-push : {A B : Type 0} (f : A → B) (t : Bool) (x y : Unit {0} → A) → f (if t x y) ≡ if t (λ _. f (x tt)) (λ _. f (y tt))
-push f true x y = refl
-push f false x y = refl
+-- The answer of storing, as one number.
+pub number-stored : (s : State) (l : List ℕ) → writtenNumber (storedAnswer s l) ≡ stored s l (λ n. n) length
+unfolding writtenNumber
+number-stored s l = go (leb (length (fileOf s)) (length l))
+  where
+    go : (t : Bool) → writtenNumber (if t (λ _. Length (length (fileOf s))) (λ _. Refused 12)) ≡ if t (λ _. length (fileOf s)) (λ _. 12)
+    go true = refl
+    go false = refl
 
 -- Writing the deck of a valid state.
 module _ (s : State) (v : Valid s) (l : List ℕ) where
-  writes : {A : Type 0} (refuse : ℕ → A) (done : List ℕ → A) → writing (deckOf s) l refuse done ≡ stored s l refuse done
-  writes refuse done =
-      ap₂ (λ (t : Bool) (z : State). if t (λ _. stored z l refuse done) (λ _. refuse 11))
-      (valid-passes s v)
-      (state-deck s (v .placed))
-
-  number-stored : writtenNumber (written (deckOf s) l) ≡ stored s l (λ n. n) length
-  unfolding written writtenNumber
-  number-stored =
-      ap writtenNumber (writes Refused (λ file. Length (length file)))
-      ∙ push writtenNumber (leb (length (fileOf s)) (length l)) (λ _. Length (length (fileOf s))) (λ _. Refused 12)
-
-  buffer-stored : left (deckOf s) l ≡ stored s l (λ _. l) (λ file. file ++ drop (length file) l)
-  unfolding left
-  buffer-stored = writes (λ _. l) (λ file. file ++ drop (length file) l)
+  writes : (storedAnswer s l ≡ written (deckOf s) l) × (storedBuffer s l ≡ left (deckOf s) l)
+  writes = write-stored (deckOf s) l (valid-passes s v) (sym (state-deck s (v .placed))) (refl, refl)
 
 -- The refusal of a file.
 pub answer-refused : (r : Read) (calls : List Call) (l : List ℕ) {o : Outcome} (n : ℕ) → o ≡ outcomeOf r
@@ -65,8 +63,32 @@ unfolding rewritten refusalNumber outcomeOf
 answer-deck (deck s) (taken v) calls l e f z is em eb =
     let q = rw e at is ∙ after-deck calls s v in
     let w = after-valid calls s v in
-    (rw q at em ∙ number-stored (stateAfter s calls) w l, rw q at eb ∙ buffer-stored (stateAfter s calls) w l)
+    let written = writes (stateAfter s calls) w l in
+    (rw q at em ∙ ap writtenNumber (sym (written .0)) ∙ number-stored (stateAfter s calls) l, rw q at eb ∙ sym (written .1))
 answer-deck (refusal k) (refused h j) calls l e f z is em eb = absurd (omega (arith, rw e at f))
+
+-- The same where the working form is handed on. A file that was read has the working form of a valid state.
+pub read-refused : (r : Read) (calls : List Call) (l : List ℕ) {c : Changed} (n : ℕ) → ReadTo r c
+    → n ≡ refusalNumber (c .reply) → ¬ (n ≡ 0) → (n ≡ answerNumber r calls l) × (l ≡ answerBuffer r calls l)
+unfolding rewritten refusalNumber replyRead
+read-refused (deck s) calls l n e f h = absurd (h (rw (e .reply) at f))
+read-refused (refusal k) calls l n e f h = (rw (e .reply) at f, refl)
+
+pub read-taken : (r : Read) → Possible r → {c : Changed} {n : ℕ} → ReadTo r c → n ≡ refusalNumber (c .reply) → n ≡ 0
+    → (r ≡ deck (work.stateOf (c .working))) × InOrder (c .working) × Valid (work.stateOf (c .working))
+unfolding refusalNumber replyRead stateRead
+read-taken (deck s) (taken v) e f z = (ap deck (sym (e .state)), e .inOrder, subst⁻¹ Valid (e .state) v)
+read-taken (refusal k) (refused h j) e f z = absurd (omega (arith, rw (e .reply) at f))
+
+-- A call on a working form of a valid state leaves one.
+pub changed-valid : {w : Working} {c : Call} {r : Changed} → Valid (work.stateOf w) → ChangedBy w c r
+    → InOrder (r .working) × Valid (work.stateOf (r .working))
+changed-valid {w} {c} v by = (by .inOrder, subst⁻¹ Valid (by .next) (step-valid (work.stateOf w) c v))
+
+pub answer-stored : (r : Read) (calls : List Call) (l : List ℕ) {s t : State} → r ≡ deck s → t ≡ stateAfter s calls → {a : Written} {m : ℕ} {b : List ℕ}
+    → m ≡ writtenNumber a → (a ≡ storedAnswer t l) × (b ≡ storedBuffer t l) → (m ≡ answerNumber r calls l) × (b ≡ answerBuffer r calls l)
+unfolding rewritten
+answer-stored r calls l {s} {t} e q em w = rw e rw (sym q) (em ∙ ap writtenNumber (w .0) ∙ number-stored t l, w .1)
 
 -- A file that is taken, and a buffer that has room for every file: the file of the state after the calls stands in front, and is
 -- read as the deck after the calls.

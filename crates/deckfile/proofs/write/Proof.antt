@@ -1,47 +1,36 @@
--- `deckfile::write` meets its contract: one check after the other.
-use Rattle.deck.proofs.Forms.{sound-is}
-use Rattle.arrays.proofs.Test.{of-true}
-use Rattle.deckfile.proofs.Reading.{passed, failed}
-use Rattle.deckfile.proofs.Writing.{write-unsound, write-short, write-done}
+-- `deckfile::write` meets its contract: the check, then the file of the working form.
+use borrow.Author.Tests.{not-true, not-false}
+use mathlib.Core.Path.{sym, _∙_}
+use Rattle.deck.proofs.Calls.{checked-sound, checked-valid}
+use Rattle.deckfile.proofs.Stored.{write-unsound, write-stored}
 use borrow.Author.Needs.{needs}
-use native.Mathlib.Omega.{arith}
 use Rattle.deckfile.proofs.write.Statement.{statement}
 use Rattle.deckfile.proofs.write.Tie as tie
 
-is-valid-requires : tie.Need-is-valid-requires
-is-valid-requires c κs = search needs
+check-requires : tie.Need-check-requires
+check-requires c κs = search needs
 
 returns : tie.Need-returns
 returns c =
-    write-unsound _ _ (failed (c .before .is-valid .ensures) (c .if1 .taken))
+    let k = c .before .before .check .ensures in
+    write-unsound _ _ (sym (k .ok) ∙ not-true _ (c .if1 .taken))
 
-file-length-requires : tie.Need-file-length-requires
-file-length-requires c κs =
-    sound-is _ .0 (of-true (passed (c .before .is-valid .ensures) (c .if1 .left)))
-
-returns-2 : tie.Need-returns-2
-returns-2 c =
-    write-short _ _ (passed (c .before .before .before .is-valid .ensures) (c .before .before .if1 .left)) _ (c .before .file-length .ensures) (c .if2 .taken)
-
-put-file-requires : tie.Need-put-file-requires
-put-file-requires c κs =
-    (sound-is _ .0 (of-true (passed (c .before .before .before .before .is-valid .ensures) (c .before .before .before .if1 .left))), omega (arith, c .before .before .file-length .ensures))
+write-working-requires : tie.Need-write-working-requires
+write-working-requires c κs =
+    let at-if = c .before in
+    checked-valid _ _ (at-if .before .before .check .ensures) (not-false _ (at-if .if1 .left))
 
 same-length : tie.Need-same-length
 same-length c = search needs
 
-returns-3 : tie.Need-returns-3
-returns-3 c =
-    write-done _ _ (passed (c .before .before .before .before .before .before .before .is-valid .ensures) (c .before .before .before .before .before .before .if1 .left)) _ (c .before .before .before .before .before .file-length .ensures) (omega arith) _ (c .before .before .put-file .ensures)
+returns-2 : tie.Need-returns-2
+returns-2 c =
+    let at-write = c .before .before in
+    let at-if = at-write .before .before in
+    let k = at-if .before .before .check .ensures in
+    let e = not-false _ (at-if .if1 .left) in
+    write-stored _ _ (sym (k .ok) ∙ e) (checked-sound _ _ k e .2) (at-write .write-working .ensures)
 
 pub write-spec : {M : Type 1} → statement M
 write-spec =
-    tie.close
-    (tie.spec
-    is-valid-requires
-    returns
-    file-length-requires
-    returns-2
-    put-file-requires
-    same-length
-    returns-3)
+    tie.close (tie.spec check-requires returns write-working-requires same-length returns-2)

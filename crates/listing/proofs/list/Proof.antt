@@ -1,21 +1,23 @@
 -- `listing::list` meets its contract: the listing where the deck is sound, else the refusal.
-use mathlib.Core.Path.{sym, _∙_}
-use native.Mathlib.Omega.{arith}
+use mathlib.Core.Path.{sym, ap, _∙_}
+use mathlib.Core.List.{List}
+use Prim.Native.Nat.{ℕ}
 use borrow.Author.Tests.{not-true, not-false}
-use borrow.Author.Needs.{needs}
-use Rattle.deck.proofs.Forms.{sound-is}
-use Rattle.arrays.proofs.Test.{of-true}
-use Rattle.ascii.proofs.Fitting.{front-none, front-put}
-use Rattle.listing.proofs.Answering.{text-sound, text-unsound}
 use Rattle.arrays.proofs.paste.Parts.{pasted-same}
+use Rattle.model.specs.Listing.{listing}
+use Rattle.deck.proofs.Calls.{checked-sound, checked-valid}
+use Rattle.ascii.specs.Text.{fitting}
+use Rattle.ascii.proofs.Room.{front-none, front-put}
+use Rattle.listing.proofs.Text.{text-sound, text-unsound}
+use borrow.Author.Needs.{needs}
 use Rattle.listing.proofs.list.Statement.{statement}
 use Rattle.listing.proofs.list.Tie as tie
 
 returns : tie.Need-returns
 returns c = front-none 8192 _ _ (c .if1 .taken)
 
-measure-requires : tie.Need-measure-requires
-measure-requires c κs = search needs
+check-requires : tie.Need-check-requires
+check-requires c κs = search needs
 
 refused-line-requires : tie.Need-refused-line-requires
 refused-line-requires c κs = search needs
@@ -25,44 +27,38 @@ same-length c = search needs
 
 returns-2 : tie.Need-returns-2
 returns-2 c =
-    let at-refused-line = c .before .before in
-    let at-if2 = at-refused-line .before .before in
-    let at-measure = at-if2 .before .before in
-    let at-if1 = at-measure .before in
-    let at-start = at-if1 .before .before in
-    front-put 8192 _ _ _ _ (at-if1 .if1 .left)
-    (pasted-same (text-unsound (at-start .args .d) (sym (at-measure .measure .ensures .ok) ∙ not-true _ (at-if2 .if2 .taken))) (at-refused-line .refused-line .ensures))
+    let at-line = c .before .before in
+    let at-if = at-line .before .before in
+    let at-check = at-if .before .before in
+    front-put 8192 _ _ _ _ (at-check .before .if1 .left)
+    (pasted-same (text-unsound _ (sym (at-check .check .ensures .ok) ∙ not-true _ (at-if .if2 .taken))) (at-line .refused-line .ensures))
 
-write-deck-requires : tie.Need-write-deck-requires
-write-deck-requires c κs =
-    let at-if2 = c .before in
-    let at-measure = at-if2 .before .before in
-    let at-start = at-measure .before .before .before in
-    let e = sym (at-measure .measure .ensures .ok) ∙ not-false _ (at-if2 .if2 .left) in
-    (omega arith, (sound-is (at-start .args .d) .0 (of-true e), at-measure .measure .ensures .length (of-true e)))
+list-working-requires : tie.Need-list-working-requires
+list-working-requires c κs =
+    let at-if = c .before in
+    checked-valid _ _ (at-if .before .before .check .ensures) (not-false _ (at-if .if2 .left))
 
 same-length-2 : tie.Need-same-length-2
 same-length-2 c = search needs
 
 returns-3 : tie.Need-returns-3
 returns-3 c =
-    let at-write-deck = c .before .before in
-    let at-if2 = at-write-deck .before .before in
-    let at-measure = at-if2 .before .before in
-    let at-if1 = at-measure .before in
-    let at-start = at-if1 .before .before in
-    front-put 8192 _ _ _ _ (at-if1 .if1 .left)
-    (pasted-same (text-sound (at-start .args .d) (sym (at-measure .measure .ensures .ok) ∙ not-false _ (at-if2 .if2 .left))) (at-write-deck .write-deck .ensures))
+    let at-list = c .before .before in
+    let at-if = at-list .before .before in
+    let k = at-if .before .before .check .ensures in
+    let e = not-false _ (at-if .if2 .left) in
+    let out = at-if .before .before .before .before .before .args .out .now in
+    pasted-same (ap (λ (t : List ℕ). fitting 8192 out t) (ap listing (checked-sound _ _ k e .2) ∙ text-sound _ (sym (k .ok) ∙ e))) (at-list .list-working .ensures)
 
 pub list-spec : {M : Type 1} → statement M
 list-spec =
     tie.close
     (tie.spec
     returns
-    measure-requires
+    check-requires
     refused-line-requires
     same-length
     returns-2
-    write-deck-requires
+    list-working-requires
     same-length-2
     returns-3)

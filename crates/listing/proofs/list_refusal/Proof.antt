@@ -1,5 +1,5 @@
 -- `listing::list_refusal` meets its contract.
-use Rattle.ascii.proofs.Fitting.{front-none, front-put}
+use Rattle.ascii.proofs.Room.{front-none, front-put}
 use borrow.Author.Needs.{needs}
 use Rattle.listing.proofs.list_refusal.Statement.{statement}
 use Rattle.listing.proofs.list_refusal.Tie as tie

@@ -1,7 +1,8 @@
--- `listing::write_taps` meets its contract: a sound deck has few Steiner points.
+-- `listing::write_taps` meets its contract: a valid state has few Steiner points.
 use native.Mathlib.Omega.{arith}
 use borrow.Author.Needs.{needs}
-use Rattle.deck.proofs.Forms.{sound-left, sound-arranged}
+use Rattle.model.proofs.FileSize.{steiner-few}
+use Rattle.points.proofs.Coded.{steiner-count}
 use Rattle.listing.proofs.write_taps.Statement.{statement}
 use Rattle.listing.proofs.write_taps.Tie as tie
 
@@ -11,8 +12,9 @@ slice-aggregate-tap-lines c = search needs
 tap-lines-requires : tie.Need-tap-lines-requires
 tap-lines-requires c κs =
     let at-start = c .before .before .before .before in
-    let s = sound-arranged (at-start .args .d) (at-start .pre .1) .steinerCodes in
-    (omega (arith, sound-left (at-start .args .d) (at-start .pre .1)), omega (arith, s .few, s .size))
+    let p = at-start .pre .1 .0 in
+    let s = p .arranged .steinerCodes in
+    (omega (arith, steiner-few _ (at-start .pre .1 .1), steiner-count _ (p .arranged)), omega (arith, s .few, s .size))
 
 same-length : tie.Need-same-length
 same-length c = search needs
@@ -21,7 +23,8 @@ returns : tie.Need-returns
 returns c =
     let at-tap-lines = c .before .before in
     let at-start = at-tap-lines .before .before .before .before .before in
-    (at-tap-lines .tap-lines .ensures .0, omega (arith, at-tap-lines .tap-lines .ensures .1, sound-left (at-start .args .d) (at-start .pre .1)))
+    let few = steiner-few _ (at-start .pre .1 .1) in
+    (at-tap-lines .tap-lines .ensures .0, omega (arith, at-tap-lines .tap-lines .ensures .1, few, steiner-count _ (at-start .pre .1 .0 .arranged)))
 
 pub write-taps-spec : {M : Type 1} → statement M
 write-taps-spec =

@@ -1,47 +1,63 @@
--- `planner::planner_plan` meets its contract: a refusal of the file, or the run to the end of its deck written.
-use mathlib.Core.Path.{ap}
+-- `planner::planner_plan` meets its contract: a refusal of the file, or its working form run to the end and written.
+use Rattle.model.specs.Call.{stateAfter}
 use Rattle.model.specs.File.{readFile}
 use Rattle.model.proofs.FileAnswer.{read-possible}
-use Rattle.deck.specs.declared.Outcome.{Outcome}
-use Rattle.deck.specs.Session.{deckAfter}
-use Rattle.deckfile.proofs.answer.Entry.{answer-refused, answer-deck}
+use Rattle.deckfile.proofs.answer.Entry.{read-refused, read-taken, changed-valid, answer-stored}
 use Rattle.planner.specs.Entry.{toEnd}
 use borrow.Author.Needs.{needs}
 use Rattle.planner.proofs.planner_plan.Statement.{statement}
 use Rattle.planner.proofs.planner_plan.Tie as tie
 
-read-requires : tie.Need-read-requires
-read-requires c κs = tt
+read-working-requires : tie.Need-read-working-requires
+read-working-requires c κs = search needs
 
 refusal-number-requires : tie.Need-refusal-number-requires
-refusal-number-requires c κs = tt
+refusal-number-requires c κs = search needs
 
 cast-result : tie.Need-cast-result
 cast-result c = search needs
 
 returns : tie.Need-returns
 returns c =
-    answer-refused (readFile _) toEnd _ _ (c .before .before .read .ensures) (c .before .refusal-number .ensures) (c .if1 .taken)
+    read-refused (readFile _) toEnd _ _ (c .before .before .read-working .ensures) (c .before .refusal-number .ensures) (c .if1 .taken)
 
 run-to-end-requires : tie.Need-run-to-end-requires
-run-to-end-requires c κs = tt
+run-to-end-requires c κs =
+    let read = read-taken (readFile _) (read-possible _) (c .before .before .read-working .ensures) (c .before .refusal-number .ensures) (c .if1 .left) in
+    (read .1, read .2)
 
-store-requires : tie.Need-store-requires
-store-requires c κs = tt
+write-working-requires : tie.Need-write-working-requires
+write-working-requires c κs =
+    let run = c .before in
+    let test = run .before in
+    let read = read-taken (readFile _) (read-possible _) (test .before .before .read-working .ensures) (test .before .refusal-number .ensures) (test .if1 .left) in
+    changed-valid (read .2) (run .run-to-end .ensures)
+
+number-of-requires : tie.Need-number-of-requires
+number-of-requires c κs = search needs
 
 same-length : tie.Need-same-length
 same-length c = search needs
 
 returns-2 : tie.Need-returns-2
-unfolding deckAfter
+unfolding stateAfter
 returns-2 c =
-    let stored = c .before .before in
-    let run = stored .before .before .before in
-    let test = run .before .before in
-    answer-deck (readFile _) (read-possible _) toEnd _ (test .before .before .read .ensures) (test .before .refusal-number .ensures)
-    (test .if1 .left) (ap (λ (o : Outcome). o .next) (run .run-to-end .ensures)) (stored .store .ensures .0) (stored .store .ensures .1)
+    let write = c .before .before .before in
+    let run = write .before .before in
+    let test = run .before in
+    let read = read-taken (readFile _) (read-possible _) (test .before .before .read-working .ensures) (test .before .refusal-number .ensures) (test .if1 .left) in
+    answer-stored (readFile _) toEnd _ (read .0) (run .run-to-end .ensures .next) (c .number-of .ensures) (write .write-working .ensures)
 
 pub planner-plan-spec : {M : Type 1} → statement M
 planner-plan-spec =
     tie.close
-    (tie.spec read-requires refusal-number-requires cast-result returns run-to-end-requires store-requires same-length returns-2)
+    (tie.spec
+    read-working-requires
+    refusal-number-requires
+    cast-result
+    returns
+    run-to-end-requires
+    write-working-requires
+    number-of-requires
+    same-length
+    returns-2)

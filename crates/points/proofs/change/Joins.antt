@@ -56,10 +56,21 @@ module _ (q : Points) (s : Arranged q) (k : ℕ) (c : T (isCode k)) where
     record {
       pinCodes = codes-put (q .pins) pins (q .npins) p maxPins k (s .pinCodes) c (h .0) x sx;
       steinerCodes = codes-out (q .steiner) steiner (q .nsteiner) t places k (s .steinerCodes) y sy;
-      room = omega (arith, h .1, put-few (q .pins) pins (q .npins) p k maxPins (s .pinCodes) x, out-few (q .steiner) steiner (q .nsteiner) t k places (s .steinerCodes) y);
-      apart = λ z i j. let m = out-member (q .steiner) steiner (q .nsteiner) t k y z j in ⊎-elim (m .1) (λ l. s .apart z l (m .0)) (put-member (q .pins) pins (q .npins) p k x z i);
+      room =
+          omega (
+            arith,
+            h .1,
+            put-few (q .pins) pins (q .npins) p k maxPins (s .pinCodes) x,
+            out-few (q .steiner) steiner (q .nsteiner) t k places (s .steinerCodes) y,
+          );
+      apart =
+          λ z i j. let m = out-member (q .steiner) steiner (q .nsteiner) t k y z j in ⊎-elim (m .1) (λ l. s .apart z l (m .0))
+          (put-member (q .pins) pins (q .npins) p k x z i);
     },
-    λ i. record { pins = put-points (q .pins) pins (q .npins) p k maxPins c (s .pinCodes) x i; steiner = out-points (q .steiner) steiner (q .nsteiner) t k places c (s .steinerCodes) y i },
+    λ i. record {
+      pins = put-points (q .pins) pins (q .npins) p k maxPins c (s .pinCodes) x i;
+      steiner = out-points (q .steiner) steiner (q .nsteiner) t k places c (s .steinerCodes) y i;
+    },
   )
 
   -- A pin leaves.
@@ -86,7 +97,9 @@ module _ (q : Points) (s : Arranged q) (k : ℕ) (c : T (isCode k)) where
       pinCodes = s .pinCodes;
       steinerCodes = codes-put (q .steiner) steiner (q .nsteiner) t places k (s .steinerCodes) c (omega arith) x sx;
       room = omega (arith, h, put-few (q .steiner) steiner (q .nsteiner) t k places (s .steinerCodes) x);
-      apart = λ z i j. ⊎-elim (λ e. free (subst (λ (y : ℕ). List·Memᴰ y (take (q .npins) (q .pins))) e i)) (s .apart z i) (put-member (q .steiner) steiner (q .nsteiner) t k x z j);
+      apart =
+          λ z i j. ⊎-elim (λ e. free (subst (λ (y : ℕ). List·Memᴰ y (take (q .npins) (q .pins))) e i)) (s .apart z i)
+          (put-member (q .steiner) steiner (q .nsteiner) t k x z j);
     },
     λ i. record { pins = stateOf q .pins; steiner = put-points (q .steiner) steiner (q .nsteiner) t k places c (s .steinerCodes) x i },
   )
@@ -94,7 +107,8 @@ module _ (q : Points) (s : Arranged q) (k : ℕ) (c : T (isCode k)) where
   -- A Steiner point leaves.
   pub without-steiner : (steiner : List ℕ) (t : ℕ) → Removed (out ltb k (take (q .nsteiner) (q .steiner))) (q .steiner) steiner (q .nsteiner) t
       → length steiner ≡ length (q .steiner)
-      → let r : Points = record { pins = q .pins; npins = q .npins; steiner = steiner; nsteiner = t } in Arranged r × (stateOf r ≡ without (pointOf k) (stateOf q))
+      → let r : Points = record { pins = q .pins; npins = q .npins; steiner = steiner; nsteiner = t } in Arranged r
+      × (stateOf r ≡ without (pointOf k) (stateOf q))
   without-steiner steiner t x sx = (
     record {
       pinCodes = s .pinCodes;

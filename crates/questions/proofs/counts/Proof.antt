@@ -1,5 +1,5 @@
 -- `questions::counts` meets its contract.
-use Rattle.questions.proofs.Asking.{counts-answer}
+use Rattle.questions.proofs.Answers.{counts-answer}
 use Rattle.questions.proofs.counts.Statement.{statement}
 use Rattle.questions.proofs.counts.Tie as tie
 

@@ -5,7 +5,7 @@ use Rattle.working.specs.InOrder.{stateOf}
 use Rattle.plane.proofs.codes.Points.{read-located, out-located, located-is}
 use Rattle.questions.specs.declared.Answer.the-variants.{Degree}
 use Rattle.questions.specs.Answers.{degreeAnswer}
-use Rattle.questions.proofs.Asking.{none-beyond}
+use Rattle.questions.proofs.Answers.{none-beyond}
 use borrow.Author.Needs.{needs}
 use Rattle.questions.proofs.degree_at.Statement.{statement}
 use Rattle.questions.proofs.degree_at.Tie as tie

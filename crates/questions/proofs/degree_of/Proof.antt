@@ -4,7 +4,7 @@ use native.Mathlib.Omega.{arith}
 use lib.ListN.{length}
 use borrow.Author.Tests.{not-true, not-false}
 use Rattle.arrays.proofs.Test.{of-true}
-use Rattle.questions.proofs.Asking.{degree-none, degree-there}
+use Rattle.questions.proofs.Answers.{degree-none, degree-there}
 use borrow.Author.Needs.{needs}
 use Rattle.questions.proofs.degree_of.Statement.{statement}
 use Rattle.questions.proofs.degree_of.Tie as tie

@@ -17,7 +17,7 @@ use Rattle.regions.specs.Nearest.{Complements, Offered, RelaxGiven, Rela
 
 -- An offer that counts where A holds too, which does, by other names for what stood there before and stands there now.
 pub offered-in : {A P : Type 0} {k a b a′ b′ : ℕ} → A → a′ ≡ a → b′ ≡ b → Offered P k a b → Offered (A × P) k a′ b′
-offered-in h ea eb o = record { taken = λ q. rw (ea, eb) (o .taken (q .1)); kept = λ n. rw (ea, eb) (o .kept (λ q. n (h, q))) }
+offered-in h ea eb o = record { taken = λ q. rw (ea, eb) (o .taken (q .1)); unchanged = λ n. rw (ea, eb) (o .unchanged (λ q. n (h, q))) }
 
 -- The complement of a ray, less a part added to the ray.
 pub complement-less : (along : ℕ) {complement : ℕ} (d : ℕ) → complement ≡ farRay - along → complement - d ≡ farRay - (along + d)
@@ -27,11 +27,11 @@ complement-less along d e = omega arith
 module _ {along d k : ℕ} {t : Bool} (ek : k ≡ farRay - (along + d)) (et : t ≡ ltb along d) {old m v : ℕ} (ev : v ≡ max old m) where
   pub offered-steep : m ≡ if t (λ _. k) (λ _. 0) → Offered (along < d) (along + d) old v
   offered-steep em =
-      record { taken = λ h. omega (arith, simp (et, lt-ltb along d h) at em); kept = λ n. omega (arith, simp (et, le-ltb along d (omega arith)) at em) }
+      record { taken = λ h. omega (arith, simp (et, lt-ltb along d h) at em); unchanged = λ n. omega (arith, simp (et, le-ltb along d (omega arith)) at em) }
 
   pub offered-flat : m ≡ if t (λ _. 0) (λ _. k) → Offered (d ≤ along) (along + d) old v
   offered-flat em =
-      record { taken = λ h. omega (arith, simp (et, le-ltb along d h) at em); kept = λ n. omega (arith, simp (et, lt-ltb along d (omega arith)) at em) }
+      record { taken = λ h. omega (arith, simp (et, le-ltb along d h) at em); unchanged = λ n. omega (arith, simp (et, lt-ltb along d (omega arith)) at em) }
 
 -- A complement set among complements.
 complements-set : {l : List ℕ} (i v : ℕ) → Complements l → i < length l → v ≤ farRay → Complements (set l i v)

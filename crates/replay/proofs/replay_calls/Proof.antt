@@ -1,4 +1,6 @@
 -- `replay::replay_calls` meets its contract: a refusal of the file, or the deck after the calls written.
+use mathlib.Core.Path.{ap, _∙_}
+use Rattle.deckfile.specs.Answer.{writtenNumber}
 use Rattle.deckfile.proofs.answer.Entry.{answer-refused, answer-deck}
 use Rattle.replay.specs.Calls.{startOf, callsOf}
 use Rattle.replay.proofs.FirstDeck.{start-possible}
@@ -22,21 +24,25 @@ returns c =
 call-all-requires : tie.Need-call-all-requires
 call-all-requires c κs = tt
 
-store-requires : tie.Need-store-requires
-store-requires c κs = tt
+write-requires : tie.Need-write-requires
+write-requires c κs = tt
+
+number-of-requires : tie.Need-number-of-requires
+number-of-requires c κs = tt
 
 same-length : tie.Need-same-length
 same-length c = search needs
 
 returns-2 : tie.Need-returns-2
 returns-2 c =
-    let stored = c .before .before in
-    let made = stored .before .before in
+    let write = c .before .before .before in
+    let made = write .before .before in
     let test = made .before .before in
     answer-deck (startOf _) (start-possible _) (callsOf _) _ (test .before .before .start .ensures)
-    (test .before .refusal-number .ensures) (test .if1 .left) (made .call-all .ensures) (stored .store .ensures .0) (stored .store .ensures .1)
+    (test .before .refusal-number .ensures) (test .if1 .left) (made .call-all .ensures)
+    (c .number-of .ensures ∙ ap writtenNumber (write .write .ensures .0)) (write .write .ensures .1)
 
 pub replay-calls-spec : {M : Type 1} → statement M
 replay-calls-spec =
     tie.close
-    (tie.spec start-requires refusal-number-requires cast-result returns call-all-requires store-requires same-length returns-2)
+    (tie.spec start-requires refusal-number-requires cast-result returns call-all-requires write-requires number-of-requires same-length returns-2)

@@ -2,7 +2,7 @@
 use native.Mathlib.Omega.{arith}
 use borrow.Author.Needs.{needs}
 use Rattle.arrays.proofs.paste.Parts.{pasted-then}
-use Rattle.replies.proofs.Replying.{ends-again}
+use Rattle.replies.proofs.Values.{ends-again}
 use Rattle.replies.proofs.edge_line.Statement.{statement}
 use Rattle.replies.proofs.edge_line.Tie as tie
 
@@ -28,7 +28,9 @@ returns c =
     let at-word = at-ends-fields .before .before .before .before in
     let at-start = at-word .before .before .before .before in
     pasted-then (at-word .put-bytes .ensures) (omega arith)
-    (pasted-then (ends-again _ _ _ _ (at-start .fits .x) (at-start .fits .y) (at-start .fits .u) (at-start .fits .v) (at-ends-fields .ends-fields .ensures .0)) (omega arith)
+    (pasted-then
+    (ends-again _ _ _ _ (at-start .fits .x) (at-start .fits .y) (at-start .fits .u) (at-start .fits .v) (at-ends-fields .ends-fields .ensures .0))
+    (omega arith)
     (at-decimal-field .decimal-field .ensures .0))
 
 pub edge-line-spec : {M : Type 1} → statement M

@@ -2,9 +2,9 @@
 use mathlib.Core.Path.{sym, ap}
 use borrow.Author.Needs.{needs}
 use Rattle.replies.specs.Replies.{replyText}
-use Rattle.ascii.proofs.Fitting.{front-none, front-put}
+use Rattle.ascii.proofs.Room.{front-none, front-put}
 use Rattle.arrays.proofs.paste.Parts.{pasted-same}
-use Rattle.replies.proofs.Replying.{fall-again}
+use Rattle.replies.proofs.Values.{fall-again}
 use Rattle.replies.proofs.reply_line.Statement.{statement}
 use Rattle.replies.proofs.reply_line.Tie as tie
 

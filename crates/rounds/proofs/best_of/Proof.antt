@@ -1,7 +1,7 @@
 -- `rounds::best_of` meets its contract: the search is over the points of the state.
 use mathlib.Core.Path.{_≡_, _∙_}
 use lib.ListN.{length}
-use Rattle.rounds.proofs.Searching.{given, best-is}
+use Rattle.rounds.proofs.Search.{given, best-is}
 use borrow.Author.Needs.{needs}
 use Rattle.rounds.proofs.best_of.Statement.{statement}
 use Rattle.rounds.proofs.best_of.Tie as tie

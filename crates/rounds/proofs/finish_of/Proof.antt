@@ -5,7 +5,7 @@ use native.Mathlib.Omega.{arith}
 use borrow.Author.Needs.{needs}
 use Rattle.model.specs.Question.{lengthOfState}
 use Rattle.working.specs.InOrder as work
-use Rattle.rounds.proofs.ToEnd.{Running, running-start, running-less, running-fits, running-next, running-more, running-end}
+use Rattle.rounds.proofs.Run.{Running, running-start, running-less, running-fits, running-next, running-more, running-end}
 use Rattle.rounds.proofs.finish_of.Statement.{statement}
 use Rattle.rounds.proofs.finish_of.Tie as tie
 
@@ -30,10 +30,16 @@ round-of-requires-2 : tie.Need-round-of-requires-2 Inv-loop μ-loop
 round-of-requires-2 c κs = running-next _ _ _ _ (c .before .before .loop .inv .0) (sym (c .before .before .loop .inv .1) ∙ c .before .loop-test .taken)
 
 loop-less : tie.Need-loop-less Inv-loop μ-loop
-loop-less c = omega (arith, running-less _ _ _ _ (c .before .before .before .loop .inv .0) (sym (c .before .before .before .loop .inv .1) ∙ c .before .before .loop-test .taken))
+loop-less c =
+    let at-loop-test = c .before .before in
+    let at-loop = at-loop-test .before in
+    omega (arith, running-less _ _ _ _ (at-loop .loop .inv .0) (sym (at-loop .loop .inv .1) ∙ at-loop-test .loop-test .taken))
 
 loop-again : tie.Need-loop-again Inv-loop μ-loop
-loop-again c = (running-more _ _ _ _ (c .before .before .before .loop .inv .0) (sym (c .before .before .before .loop .inv .1) ∙ c .before .before .loop-test .taken) _ (c .round-of2 .ensures), refl)
+loop-again c =
+    let at-loop-test = c .before .before in
+    let at-loop = at-loop-test .before in
+    (running-more _ _ _ _ (at-loop .loop .inv .0) (sym (at-loop .loop .inv .1) ∙ at-loop-test .loop-test .taken) _ (c .round-of2 .ensures), refl)
 
 returns : tie.Need-returns Inv-loop μ-loop
 returns c = running-end _ _ _ _ (c .before .loop .inv .0) (c .before .before .before .pre .1) (sym (c .before .loop .inv .1) ∙ c .loop-test .left)

@@ -2,7 +2,7 @@
 use mathlib.Core.Path.{_≡_, _∙_}
 use native.Mathlib.Omega.{arith}
 use lib.ListN.{length}
-use Rattle.rounds.proofs.Searching.{length-is}
+use Rattle.rounds.proofs.Search.{length-is}
 use borrow.Author.Needs.{needs}
 use Rattle.rounds.proofs.length_of.Statement.{statement}
 use Rattle.rounds.proofs.length_of.Tie as tie

@@ -9,7 +9,8 @@ use Rattle.model.specs.Tree.{treeLength}
 use Rattle.model.proofs.Candidate.{map-in}
 use Rattle.plane.specs.Code.{pointOf}
 use Rattle.working.specs.InOrder.{stateOf}
-use Rattle.rounds.proofs.OneRound.{Joins, point-room, next-stays, added-stays, step-stays, found-at, next-joins, added-joins, step-joins, joins-free, joins-shorter}
+use Rattle.rounds.proofs.Round.{Joins, point-room, next-stays, added-stays, step-stays, found-at, next-joins, added-joins, step-joins}
+use Rattle.rounds.proofs.Round.{joins-free, joins-shorter}
 use borrow.Author.Needs.{needs}
 use Rattle.rounds.proofs.round_of.Statement.{statement}
 use Rattle.rounds.proofs.round_of.Tie as tie
@@ -40,7 +41,7 @@ with-steiner-requires c κs =
     let w = start c .args .w in
     let q = start c .pre in
     let j = joined c in
-    (q .0, (j .isPlace, (point-room w (q .0) (q .1), λ i. joins-free _ _ _ _ j (map-in pointOf _ _ .1 (_, i, refl)))))
+    (q .0, (j .isPoint, (point-room w (q .0) (q .1), λ i. joins-free _ _ _ _ j (map-in pointOf _ _ .1 (_, i, refl)))))
 
 length-of-requires : tie.Need-length-of-requires
 length-of-requires c κs = search needs

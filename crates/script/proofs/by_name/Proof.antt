@@ -1,7 +1,7 @@
 -- `script::by_name` meets its contract: the names are tried one after the other.
 use mathlib.Core.Path.{sym, _∙_}
 use borrow.Author.Needs.{needs}
-use Rattle.script.proofs.Naming.{alone-write, alone-round, alone-finish, alone-length, alone-counts, alone-list, alone-none}
+use Rattle.script.proofs.Names.{alone-write, alone-round, alone-finish, alone-length, alone-counts, alone-list, alone-none}
 use Rattle.script.proofs.by_name.Statement.{statement}
 use Rattle.script.proofs.by_name.Tie as tie
 

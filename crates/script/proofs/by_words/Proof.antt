@@ -1,7 +1,7 @@
 -- `script::by_words` meets its contract: by how many words the line has, up to the fourth.
 use mathlib.Core.Path.{refl}
 use borrow.Author.Needs.{needs}
-use Rattle.script.proofs.Asking.{asked-none, asked-one, asked-two, asked-three, asked-more}
+use Rattle.script.proofs.Lines.{words-none, words-one, words-two, words-three, words-more}
 use Rattle.script.proofs.by_words.Statement.{statement}
 use Rattle.script.proofs.by_words.Tie as tie
 
@@ -9,7 +9,7 @@ next-requires : tie.Need-next-requires
 next-requires c κs = search needs
 
 returns : tie.Need-returns
-returns c = asked-none _ _ _ (c .before .next .ensures) (c .if1 .taken)
+returns c = words-none _ _ _ (c .before .next .ensures) (c .if1 .taken)
 
 sub-name : tie.Need-sub-name
 sub-name c = search needs
@@ -29,7 +29,7 @@ by-name-requires c κs = search needs
 returns-2 : tie.Need-returns-2
 returns-2 c =
     let t1 = c .before .before .before .before in
-    asked-one _ _ _ (t1 .before .next .ensures) (t1 .if1 .left) _ _ (c .before .before .next2 .ensures) _ (c .before .if2 .taken)
+    words-one _ _ _ (t1 .before .next .ensures) (t1 .if1 .left) _ _ (c .before .before .next2 .ensures) _ (c .before .if2 .taken)
     (c .by-name .ensures)
 
 sub-first : tie.Need-sub-first
@@ -51,7 +51,7 @@ returns-3 : tie.Need-returns-3
 returns-3 c =
     let t2 = c .before .before .before .before in
     let t1 = t2 .before .before .before in
-    asked-two _ _ _ (t1 .before .next .ensures) (t1 .if1 .left) _ _ (t2 .before .next2 .ensures) _ (t2 .if2 .left)
+    words-two _ _ _ (t1 .before .next .ensures) (t1 .if1 .left) _ _ (t2 .before .next2 .ensures) _ (t2 .if2 .left)
     _ _ (c .before .before .next3 .ensures) (c .before .if3 .taken) (c .with-one .ensures)
 
 sub-second : tie.Need-sub-second
@@ -74,7 +74,7 @@ returns-4 c =
     let t3 = c .before .before .before .before in
     let t2 = t3 .before .before .before in
     let t1 = t2 .before .before .before in
-    asked-three _ _ _ (t1 .before .next .ensures) (t1 .if1 .left) _ _ (t2 .before .next2 .ensures) _ (t2 .if2 .left)
+    words-three _ _ _ (t1 .before .next .ensures) (t1 .if1 .left) _ _ (t2 .before .next2 .ensures) _ (t2 .if2 .left)
     _ _ (t3 .before .next3 .ensures) (t3 .if3 .left) _ _ (c .before .before .next4 .ensures) (c .before .if4 .taken) (c .with-two .ensures)
 
 returns-5 : tie.Need-returns-5
@@ -82,7 +82,7 @@ returns-5 c =
     let t3 = c .before .before .before in
     let t2 = t3 .before .before .before in
     let t1 = t2 .before .before .before in
-    asked-more _ _ _ (t1 .before .next .ensures) (t1 .if1 .left) _ _ (t2 .before .next2 .ensures) _ (t2 .if2 .left)
+    words-more _ _ _ (t1 .before .next .ensures) (t1 .if1 .left) _ _ (t2 .before .next2 .ensures) _ (t2 .if2 .left)
     _ _ (t3 .before .next3 .ensures) (t3 .if3 .left) _ _ (c .before .next4 .ensures) (c .if4 .left) refl
 
 pub by-words-spec : {M : Type 1} → statement M

@@ -2,7 +2,7 @@
 use mathlib.Core.Path.{sym, _∙_}
 use borrow.Author.Needs.{needs}
 use borrow.Author.Tests.{not-true, not-false}
-use Rattle.script.proofs.Asking.{file-none, file-some}
+use Rattle.script.proofs.Lines.{file-none, file-some}
 use Rattle.script.proofs.bytes_of.Statement.{statement}
 use Rattle.script.proofs.bytes_of.Tie as tie
 

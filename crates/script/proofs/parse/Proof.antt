@@ -1,6 +1,6 @@
 -- `script::parse` meets its contract: a line by its length and its first byte, and any other by its words.
 use borrow.Author.Needs.{needs}
-use Rattle.script.proofs.Asking.{too-long, blank-empty, blank-comment, by-words}
+use Rattle.script.proofs.Lines.{too-long, blank-empty, blank-comment, by-words}
 use Rattle.script.proofs.parse.Statement.{statement}
 use Rattle.script.proofs.parse.Tie as tie
 

@@ -1,7 +1,7 @@
 -- `script::with_size` meets its contract: the names are tried one after the other.
 use mathlib.Core.Path.{sym, _∙_}
 use borrow.Author.Needs.{needs}
-use Rattle.script.proofs.Naming.{sized-write, sized-run, sized-none}
+use Rattle.script.proofs.Names.{sized-write, sized-run, sized-none}
 use Rattle.script.proofs.with_size.Statement.{statement}
 use Rattle.script.proofs.with_size.Tie as tie
 

@@ -22,8 +22,8 @@ enum-told-2 c = search needs
 enum-known-j : tie.Need-enum-known-j
 enum-known-j c = search needs
 
-with-place-requires : tie.Need-with-place-requires
-with-place-requires c κs = search needs
+with-pair-requires : tie.Need-with-pair-requires
+with-pair-requires c κs = search needs
 
 returns : tie.Need-returns
 returns c = two-none _ _ _ _ (c .before .before .number-of .ensures) (c .enum-told .given .1)
@@ -41,7 +41,7 @@ returns-3 c =
     two-both _ _ _ _ (first .before .before .number-of .ensures) _ _ _ _ (first .i .given .1)
     (second .before .before .number-of2 .ensures) (second .j .given .1)
     (record { sfits = second .before .before .before .known-told .given .0 .1 }) (record { sfits = c .before .known-told2 .given .0 .1 })
-    (c .with-place .ensures)
+    (c .with-pair .ensures)
 
 pub with-two-spec : {M : Type 1} → statement M
 with-two-spec =
@@ -53,7 +53,7 @@ with-two-spec =
     number-of-requires-2
     enum-told-2
     enum-known-j
-    with-place-requires
+    with-pair-requires
     returns
     returns-2
     returns-3)

@@ -51,13 +51,14 @@ module _ (at : ℕ → Point) (c : Point) (n j v : ℕ) (is : octant (at j .x -�
   pub octants-same : 8 ≤ v → tab (λ (o : ℕ). leastKey at c n o j) 8 ≡ tab (λ (o : ℕ). leastKey at c n o (suc j)) 8
   octants-same h = tab-same _ _ 8 (λ i l. sym (least-other i (λ e. omega arith)))
 
--- One turn of the search: the point j is in octant v, with the key k, and the table b becomes b′.
+-- One step of the search: the point j is in octant v, with the key k, and the table b becomes b′.
 module _ (at : ℕ → Point) (c : Point) (n j v : ℕ) (is : v ≡ octant (at j .x -ℤ c .x) (at j .y -ℤ c .y))
     (b b′ : List ℕ) (inv : b ≡ tab (λ (o : ℕ). leastKey at c n o j) 8) where
-  pub turn-here : (k r : ℕ) → v < 8 → k ≡ key (dist (at j) c) j n → r ≡ min k (getD b v 0) → b′ ≡ set b v r → b′ ≡ tab (λ (o : ℕ). leastKey at c n o (j + 1)) 8
-  turn-here k r h ek er e =
+  pub point-in-octant : (k r : ℕ) → v < 8 → k ≡ key (dist (at j) c) j n → r ≡ min k (getD b v 0) → b′ ≡ set b v r
+      → b′ ≡ tab (λ (o : ℕ). leastKey at c n o (j + 1)) 8
+  point-in-octant k r h ek er e =
       e ∙ ap₂ (λ l x. set l v x) inv (er ∙ ap (min k) (ap (λ l. getD l v 0) inv ∙ tab-get (λ (o : ℕ). leastKey at c n o j) 8 v 0 h))
       ∙ octants-more at c n j v (sym is) h k (leastKey at c n v j) ek refl ∙ ap (λ (z : ℕ). tab (λ (o : ℕ). leastKey at c n o z) 8) (sym (add-one j))
 
-  pub turn-past : 8 ≤ v → b′ ≡ b → b′ ≡ tab (λ (o : ℕ). leastKey at c n o (j + 1)) 8
-  turn-past h e = e ∙ inv ∙ octants-same at c n j v (sym is) h ∙ ap (λ (z : ℕ). tab (λ (o : ℕ). leastKey at c n o z) 8) (sym (add-one j))
+  pub point-in-none : 8 ≤ v → b′ ≡ b → b′ ≡ tab (λ (o : ℕ). leastKey at c n o (j + 1)) 8
+  point-in-none h e = e ∙ inv ∙ octants-same at c n j v (sym is) h ∙ ap (λ (z : ℕ). tab (λ (o : ℕ). leastKey at c n o z) 8) (sym (add-one j))

@@ -2,7 +2,7 @@
 use mathlib.Core.Path.{sym, ap}
 use native.Mathlib.Omega.{arith}
 use Rattle.words.specs.Words.{isSpace}
-use Rattle.words.proofs.Splitting.{space-outside, space-between}
+use Rattle.words.proofs.Words.{space-outside, space-between}
 use Rattle.words.proofs.is_space.Statement.{statement}
 use Rattle.words.proofs.is_space.Tie as tie
 

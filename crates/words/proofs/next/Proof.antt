@@ -1,6 +1,6 @@
 -- `words::next` meets its contract: past white space, and then past a word.
 use borrow.Author.Needs.{needs}
-use Rattle.words.proofs.Splitting.{next-word}
+use Rattle.words.proofs.Words.{next-word}
 use Rattle.words.proofs.next.Statement.{statement}
 use Rattle.words.proofs.next.Tie as tie
 

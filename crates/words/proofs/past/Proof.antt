@@ -6,7 +6,7 @@ use native.Mathlib.Omega.{arith}
 use borrow.Author.Needs.{needs}
 use lib.ListN.{length, drop}
 use Rattle.words.specs.Words.{letters}
-use Rattle.words.proofs.Splitting.{letters-on, letters-stop, letters-end}
+use Rattle.words.proofs.Words.{letters-on, letters-stop, letters-end}
 use Rattle.words.proofs.past.Statement.{statement}
 use Rattle.words.proofs.past.Tie as tie
 

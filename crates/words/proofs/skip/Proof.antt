@@ -7,7 +7,7 @@ use borrow.Author.Needs.{needs}
 use borrow.Author.Tests.{not-true, not-false}
 use lib.ListN.{length, drop}
 use Rattle.words.specs.Words.{spaces}
-use Rattle.words.proofs.Splitting.{spaces-on, spaces-stop, spaces-end}
+use Rattle.words.proofs.Words.{spaces-on, spaces-stop, spaces-end}
 use Rattle.words.proofs.skip.Statement.{statement}
 use Rattle.words.proofs.skip.Tie as tie
 

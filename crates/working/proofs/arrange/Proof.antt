@@ -1,7 +1,7 @@
 -- `working::arrange` meets its contract: the codes merged, unpacked and built are the working form.
 use mathlib.Core.Path.{refl}
 use native.Mathlib.Omega.{arith}
-use Rattle.working.proofs.Arranging.{all-count, build-allowed, order-of}
+use Rattle.working.proofs.InOrder.{all-count, build-allowed, order-of}
 use Rattle.arrays.proofs.paste.Parts.{front-count}
 use borrow.Author.Needs.{needs}
 use Rattle.working.proofs.arrange.Statement.{statement}

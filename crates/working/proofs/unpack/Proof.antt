@@ -2,7 +2,7 @@
 use Prim.Native.Nat.{_-_}
 use native.Mathlib.Omega.{arith}
 use borrow.Author.Needs.{needs}
-use Rattle.working.proofs.HeldPoints.{Unpacked, unpacked-none, unpacked-more}
+use Rattle.working.proofs.Held.{Unpacked, unpacked-none, unpacked-more}
 use Rattle.working.proofs.unpack.Statement.{statement}
 use Rattle.working.proofs.unpack.Tie as tie
 

@@ -1,6 +1,6 @@
 -- `ascii::encode::body_length` meets its contract.
 use borrow.Author.Needs.{needs}
-use Rattle.ascii.proofs.Spelling.{body-empty, body-feed, body-other}
+use Rattle.ascii.proofs.encode.Text.{body-empty, body-feed, body-other}
 use Rattle.ascii.proofs.encode.body_length.Statement.{statement}
 use Rattle.ascii.proofs.encode.body_length.Tie as tie
 

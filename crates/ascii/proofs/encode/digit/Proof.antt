@@ -1,6 +1,6 @@
 -- `ascii::encode::digit` meets its contract.
 use borrow.Author.Needs.{needs}
-use Rattle.ascii.proofs.Spelling.{digit-low, digit-high}
+use Rattle.ascii.proofs.encode.Text.{digit-low, digit-high}
 use Rattle.ascii.proofs.encode.digit.Statement.{statement}
 use Rattle.ascii.proofs.encode.digit.Tie as tie
 

@@ -1,6 +1,6 @@
 -- `ascii::encode::file_line` meets its contract: the word, the length and the digits, one behind the other.
 use native.Mathlib.Omega.{arith}
-use Rattle.ascii.proofs.Spelling.{file-small, file-short, file-long}
+use Rattle.ascii.proofs.encode.Text.{file-small, file-short, file-long}
 use Rattle.arrays.proofs.paste.Parts.{pasted-then}
 use borrow.Author.Needs.{needs}
 use Rattle.ascii.proofs.encode.file_line.Statement.{statement}
@@ -35,8 +35,17 @@ same-length c = search needs
 
 returns-3 : tie.Need-returns-3
 returns-3 c =
-    file-long (c .before .before .before .before .before .before .before .before .before .before .before .before .before .before .before .before .before .before .before .before .before .args .file .now) _ (c .before .before .before .before .before .before .before .before .before .before .before .before .before .before .before .before .before .before .if1 .left) (c .before .before .before .before .before .before .before .before .before .before .before .before .before .before .before .before .before .if2 .left)
-    (pasted-then (c .before .before .before .before .before .before .before .before .before .before .before .before .before .before .put-bytes .ensures) (omega arith) (pasted-then (c .before .before .before .before .before .before .before .before .before .before .decimal-field .ensures .0) (omega arith) (pasted-then (c .before .before .before .before .before .before .put-byte .ensures) (omega arith) (c .before .before .pairs .ensures))))
+    let at-pairs = c .before .before in
+    let at-put-byte = at-pairs .before .before .before .before in
+    let at-decimal-field = at-put-byte .before .before .before .before in
+    let at-put-bytes = at-decimal-field .before .before .before .before in
+    let at-if2 = at-put-bytes .before .before .before in
+    let at-if1 = at-if2 .before in
+    let at-start = at-if1 .before .before .before in
+    file-long (at-start .args .file .now) _ (at-if1 .if1 .left) (at-if2 .if2 .left)
+    (pasted-then (at-put-bytes .put-bytes .ensures) (omega arith)
+    (pasted-then (at-decimal-field .decimal-field .ensures .0) (omega arith)
+    (pasted-then (at-put-byte .put-byte .ensures) (omega arith) (at-pairs .pairs .ensures))))
 
 pub file-line-spec : {M : Type 1} → statement M
 file-line-spec =

@@ -2,7 +2,7 @@
 use native.Mathlib.Omega.{arith}
 use borrow.Author.Needs.{needs}
 use Rattle.arrays.proofs.paste.Parts.{pasted-then, pasted-same}
-use Rattle.ascii.proofs.Spelling.{pair-is}
+use Rattle.ascii.proofs.encode.Text.{pair-is}
 use Rattle.ascii.proofs.encode.pair.Statement.{statement}
 use Rattle.ascii.proofs.encode.pair.Tie as tie
 
@@ -27,8 +27,11 @@ returns c =
     let at-digit2 = at-byte2 .before in
     let at-byte = at-digit2 .before .before .before .before in
     let at-digit = at-byte .before in
-    let at-start = at-digit .before .before .before in
-    (pasted-same (pair-is (at-start .args .b) _ _ (at-digit .digit .ensures) (at-digit2 .digit2 .ensures)) (pasted-then (at-byte .put-byte .ensures) (omega arith) (at-byte2 .put-byte2 .ensures)), omega arith)
+    let at-start = at-digit .before .before .before in (
+      pasted-same (pair-is (at-start .args .b) _ _ (at-digit .digit .ensures) (at-digit2 .digit2 .ensures))
+          (pasted-then (at-byte .put-byte .ensures) (omega arith) (at-byte2 .put-byte2 .ensures)),
+      omega arith,
+    )
 
 pub pair-spec : {M : Type 1} → statement M
 pair-spec =

@@ -49,7 +49,8 @@ returns : tie.Need-returns Inv-loop μ-loop
 returns c =
     let at-loop = c .before in
     let at-start = at-loop .before .before .before in
-    pasted-same (each-all hexPair (at-start .args .bytes .now)) (first-end (eachTo hexPair (at-start .args .bytes .now)) 2 _ _ _ _ _ _ (at-loop .loop .inv) (c .loop-test .left) .0)
+    pasted-same (each-all hexPair (at-start .args .bytes .now))
+    (first-end (eachTo hexPair (at-start .args .bytes .now)) 2 _ _ _ _ _ _ (at-loop .loop .inv) (c .loop-test .left) .0)
 
 pub pairs-spec : {M : Type 1} → statement M
 pairs-spec =

@@ -2,7 +2,7 @@
 use native.Mathlib.Omega.{arith}
 use borrow.Author.Needs.{needs}
 use Rattle.arrays.proofs.paste.Parts.{pasted-same}
-use Rattle.ascii.proofs.Spelling.{spread-feed, spread-other}
+use Rattle.ascii.proofs.encode.Text.{spread-feed, spread-other}
 use Rattle.ascii.proofs.encode.spread.Statement.{statement}
 use Rattle.ascii.proofs.encode.spread.Tie as tie
 

@@ -5,8 +5,8 @@ use Rattle.plane.specs.Point.{Point, point}
 use Rattle.working.specs.InOrder as work
 use Rattle.plane.proofs.Signed.{read-two}
 use Rattle.questions.specs.Answers.{degreeAnswer}
-use Rattle.deck.proofs.Calling.{checked-valid}
-use Rattle.deck.proofs.Asking.{refused-answer, asked-by}
+use Rattle.deck.proofs.Calls.{checked-valid}
+use Rattle.deck.proofs.Questions.{refused-answer, asked-by}
 use borrow.Author.Needs.{needs}
 use Rattle.deck.proofs.Deck.degree_at.Statement.{statement}
 use Rattle.deck.proofs.Deck.degree_at.Tie as tie

@@ -1,8 +1,8 @@
--- `deck::Deck::edge_at` meets its contract: the check, then the question on the working form and the ends of the deck.
+-- `deck::Deck::edge_at` meets its contract: the check, then the question on the working form.
 use borrow.Author.Tests.{not-true, not-false}
 use Rattle.questions.specs.Answers.{edgeAtAnswer}
-use Rattle.deck.proofs.Calling.{checked-sound}
-use Rattle.deck.proofs.Asking.{refused-answer, asked-by, ends-listed}
+use Rattle.deck.proofs.Calls.{checked-sound}
+use Rattle.deck.proofs.Questions.{refused-answer, asked-by}
 use borrow.Author.Needs.{needs}
 use Rattle.deck.proofs.Deck.edge_at.Statement.{statement}
 use Rattle.deck.proofs.Deck.edge_at.Tie as tie
@@ -17,14 +17,12 @@ returns c =
 
 edge-at-requires : tie.Need-edge-at-requires
 edge-at-requires c κs =
-    let at-if = c .before .before in
-    let at-check = at-if .before .before in
-    let t = not-false _ (at-if .if1 .left) in
-    (checked-sound _ _ (at-check .check .ensures) t .1, ends-listed _ _ (at-check .check .ensures) t)
+    let at-check = c .before .before in
+    checked-sound _ _ (at-check .check .ensures) (not-false _ (c .if1 .left)) .1
 
 returns-2 : tie.Need-returns-2
 returns-2 c =
-    let at-if = c .before .before .before in
+    let at-if = c .before in
     let at-check = at-if .before .before in
     let at-start = at-check .before in
     asked-by _ _ (at-check .check .ensures) (not-false _ (at-if .if1 .left)) (edgeAtAnswer (at-start .args .i)) _ (c .edge-at .ensures)

@@ -1,6 +1,6 @@
 -- `deck::Deck::run_to_end` meets its contract: the check, then the call on the working form.
 use borrow.Author.Tests.{not-true, not-false}
-use Rattle.deck.proofs.Calling.{checked-valid, refused-by, called-by}
+use Rattle.deck.proofs.Calls.{checked-valid, refused-by, called-by}
 use borrow.Author.Needs.{needs}
 use Rattle.deck.proofs.Deck.run_to_end.Statement.{statement}
 use Rattle.deck.proofs.Deck.run_to_end.Tie as tie

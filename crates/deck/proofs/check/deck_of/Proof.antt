@@ -1,29 +1,18 @@
--- `deck::check::deck_of` meets its contract: the listing of the keys completes the deck.
-use mathlib.Core.Path.{_≡_}
-use native.Mathlib.Omega.{arith}
-use lib.ListN.{length}
-use Rattle.deck.proofs.FromWorking.{working-deck}
+-- `deck::check::deck_of` meets its contract: arranged points are those of their state.
+use Rattle.points.proofs.Coded.{arranged-coded}
+use Rattle.deck.specs.Form.{deckOf}
 use borrow.Author.Needs.{needs}
 use Rattle.deck.proofs.check.deck_of.Statement.{statement}
 use Rattle.deck.proofs.check.deck_of.Tie as tie
 
-slice-aggregate-listing : tie.Need-slice-aggregate-listing
-slice-aggregate-listing c = search needs
-
-slice-aggregate-listing-2 : tie.Need-slice-aggregate-listing-2
-slice-aggregate-listing-2 c = search needs
-
-listing-requires : tie.Need-listing-requires
-listing-requires c κs =
-    let w = c .before .before .before .args .w in
-    let h : length (w .keys) ≡ 136 = search needs in
-    (omega (arith, c .before .before .before .pre .keysFew), omega (arith, c .before .before .before .pre .keysFew))
+edge-numbers-requires : tie.Need-edge-numbers-requires
+edge-numbers-requires c κs = search needs
 
 returns : tie.Need-returns
+unfolding deckOf
 returns c =
-    let listed = c .before .before in
-    working-deck _ (listed .before .before .before .before .pre) _ _ (listed .listing .ensures)
+    let made = c .before in
+    λ i. record { points = arranged-coded _ (made .before .pre .arranged) i; ends = made .edge-numbers .ensures i }
 
 pub deck-of-spec : {M : Type 1} → statement M
-deck-of-spec =
-    tie.close (tie.spec slice-aggregate-listing slice-aggregate-listing-2 listing-requires returns)
+deck-of-spec = tie.close (tie.spec edge-numbers-requires returns)

@@ -7,7 +7,7 @@ use Rattle.arrays.proofs.Test.{and-parts, of-true}
 use Rattle.model.specs.State.{valid}
 use Rattle.points.specs.Coded.{arranged, stateOf}
 use Rattle.points.proofs.check.Tests.{passes-arranged}
-use Rattle.deck.proofs.Checking.{refuted, refused, accepted, points-weak, points-pass}
+use Rattle.deck.proofs.check.Parts.{refuted, refused, accepted, points-weak, points-pass}
 use borrow.Author.Needs.{needs}
 use Rattle.deck.proofs.check.working_of.Statement.{statement}
 use Rattle.deck.proofs.check.working_of.Tie as tie

@@ -1,15 +1,14 @@
 -- `deckfile::writer::file_length` meets its contract.
 use mathlib.Core.Path.{_∙_}
-use Rattle.deck.proofs.Forms.{sound-few, sound-left}
-use Rattle.deckfile.proofs.Writing.{file-long}
+use Rattle.deckfile.proofs.writer.Parts.{few, file-long}
 use Rattle.deckfile.proofs.writer.file_length.Statement.{statement}
 use Rattle.deckfile.proofs.writer.file_length.Tie as tie
 
 length-for-requires : tie.Need-length-for-requires
-length-for-requires c κs = (sound-few _ (c .pre), sound-left _ (c .pre))
+length-for-requires c κs = few _ (c .pre .0) (c .pre .1)
 
 returns : tie.Need-returns
-returns c = c .length-for .ensures ∙ file-long _ (c .before .pre)
+returns c = let s = c .before in c .length-for .ensures ∙ file-long _ (s .pre .0) (s .pre .1)
 
 pub file-length-spec : {M : Type 1} → statement M
 file-length-spec = tie.close (tie.spec length-for-requires returns)

@@ -1,11 +1,15 @@
--- `deckfile::writer::put_file` meets its contract: the parts of a sound deck are those of its file.
+-- `deckfile::writer::put_file` meets its contract: the parts are those of the file.
 use mathlib.Core.Path.{_≡_, ap, _∙_}
 use lib.ListN.{length}
 use Rattle.sections.specs.Bytes.{over}
-use Rattle.deckfile.proofs.Writing.{file-parts, deck-kept}
+use Rattle.buffer.specs.Parts.{fileParts}
+use Rattle.deckfile.proofs.writer.Parts.{file-parts, parts-kept}
 use borrow.Author.Needs.{needs}
 use Rattle.deckfile.proofs.writer.put_file.Statement.{statement}
 use Rattle.deckfile.proofs.writer.put_file.Tie as tie
+
+edge-numbers-requires : tie.Need-edge-numbers-requires
+edge-numbers-requires c κs = search needs
 
 slice-aggregate-put-parts : tie.Need-slice-aggregate-put-parts
 slice-aggregate-put-parts c = search needs
@@ -18,23 +22,29 @@ slice-aggregate-put-parts-3 c = search needs
 
 put-parts-requires : tie.Need-put-parts-requires
 put-parts-requires c κs =
-    let d = c .before .before .before .before .before .before .before .before .args .d in
-    let h : length (d .points .pins) ≡ 64 = search needs in
-    let k : length (d .points .steiner) ≡ 128 = search needs in
-    let l : length (d .ends) ≡ 128 = search needs in
-    deck-kept d (c .before .before .before .before .before .before .before .before .pre .0) h k l _ (c .before .before .before .before .before .before .before .before .pre .1)
+    let at-ends = c .before .before .before .before in
+    let s = at-ends .before .before .before .before in
+    let long : length (at-ends .edge-numbers .result) ≡ 128 = search needs in
+    parts-kept _ (s .pre .0) (s .pre .1 .0) (at-ends .edge-numbers .ensures) long _ (s .pre .1 .1)
 
 same-length : tie.Need-same-length
 same-length c = search needs
 
 returns : tie.Need-returns
 returns c =
-    c .before .before .put-parts .ensures ∙ ap (λ b. over 0 b (c .before .before .before .before .before .before .before .before .before .before .before .args .out .now)) (file-parts (c .before .before .before .before .before .before .before .before .before .before .before .args .d) (c .before .before .before .before .before .before .before .before .before .before .before .pre .0))
+    let at-put = c .before .before in
+    let at-ends = at-put .before .before .before .before .before in
+    let s = at-ends .before .before .before .before in
+    let q = s .args .w .points in
+    at-put .put-parts .ensures
+    ∙ ap (λ row. over 0 (fileParts (q .pins) (q .npins) (q .steiner) (q .nsteiner) row) (s .args .out .now)) (at-ends .edge-numbers .ensures)
+    ∙ ap (λ file. over 0 file (s .args .out .now)) (file-parts _ (s .pre .0) (s .pre .1 .0))
 
 pub put-file-spec : {M : Type 1} → statement M
 put-file-spec =
     tie.close
     (tie.spec
+    edge-numbers-requires
     slice-aggregate-put-parts
     slice-aggregate-put-parts-2
     slice-aggregate-put-parts-3

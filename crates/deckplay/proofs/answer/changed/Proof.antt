@@ -2,7 +2,7 @@
 use mathlib.Core.Path.{_≡_, refl, sym, ap, _∙_}
 use native.Mathlib.Omega.{arith}
 use Rattle.deckplay.specs.Play.{changes}
-use Rattle.deckplay.proofs.Playing.{plays}
+use Rattle.deckplay.proofs.answer.Texts.{plays}
 use borrow.Author.Needs.{needs}
 use Rattle.deckplay.proofs.answer.changed.Statement.{statement}
 use Rattle.deckplay.proofs.answer.changed.Tie as tie
@@ -14,7 +14,10 @@ same-length : tie.Need-same-length
 same-length c = search needs
 
 returns : tie.Need-returns
-returns c = plays (changes (c .before .before .before .before .before .before .args .o)) 128 _ _ _ _ _ (omega arith) (c .before .before .before .before .before .before .pre) refl refl (c .before .before .reply-line .ensures)
+returns c =
+    let at-reply-line = c .before .before in
+    let at-start = at-reply-line .before .before .before .before in
+    plays (changes (at-start .args .o)) 128 _ _ _ _ _ (omega arith) (at-start .pre) refl refl (at-reply-line .reply-line .ensures)
 
 pub changed-spec : {M : Type 1} → statement M
 changed-spec =

@@ -2,7 +2,7 @@
 use mathlib.Core.Path.{_≡_, refl, sym, ap, _∙_}
 use native.Mathlib.Omega.{arith}
 use Rattle.deckplay.specs.Play.{stays}
-use Rattle.deckplay.proofs.Playing.{plays}
+use Rattle.deckplay.proofs.answer.Texts.{plays}
 use borrow.Author.Needs.{needs}
 use Rattle.deckplay.proofs.answer.failed.Statement.{statement}
 use Rattle.deckplay.proofs.answer.failed.Tie as tie
@@ -14,7 +14,10 @@ same-length : tie.Need-same-length
 same-length c = search needs
 
 returns : tie.Need-returns
-returns c = plays (stays (c .before .before .before .before .before .args .d) _) 128 _ _ _ _ _ (omega arith) (c .before .before .before .before .before .pre) refl refl (c .before .before .error-line .ensures)
+returns c =
+    let at-error-line = c .before .before in
+    let at-start = at-error-line .before .before .before in
+    plays (stays (at-start .args .d) _) 128 _ _ _ _ _ (omega arith) (at-start .pre) refl refl (at-error-line .error-line .ensures)
 
 pub failed-spec : {M : Type 1} → statement M
 failed-spec =

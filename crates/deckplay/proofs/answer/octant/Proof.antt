@@ -2,7 +2,7 @@
 use mathlib.Core.Path.{_≡_, refl, sym, ap, _∙_}
 use native.Mathlib.Omega.{arith}
 use Rattle.deckplay.specs.Play.{stays}
-use Rattle.deckplay.proofs.Playing.{plays, plays-same, octant-none, octant-some}
+use Rattle.deckplay.proofs.answer.Texts.{plays, plays-same, octant-none, octant-some}
 use borrow.Author.Needs.{needs}
 use Rattle.deckplay.proofs.answer.octant.Statement.{statement}
 use Rattle.deckplay.proofs.answer.octant.Tie as tie
@@ -18,8 +18,12 @@ same-length c = search needs
 
 returns : tie.Need-returns
 returns c =
-    let e = octant-none _ _ _ (c .before .before .before .before .before .octant .ensures) (c .before .before .before .before .before .before .before .fits .x) (c .before .before .before .before .before .before .before .fits .y) (c .before .before .before .before .if1 .taken) in
-    plays-same _ _ _ _ _ (ap (stays (c .before .before .before .before .before .before .before .args .d)) e) (c .before .before .failed .ensures)
+    let at-failed = c .before .before in
+    let at-if1 = at-failed .before .before in
+    let at-octant = at-if1 .before in
+    let at-start = at-octant .before .before in
+    let e = octant-none _ _ _ (at-octant .octant .ensures) (at-start .fits .x) (at-start .fits .y) (at-if1 .if1 .taken) in
+    plays-same _ _ _ _ _ (ap (stays (at-start .args .d)) e) (at-failed .failed .ensures)
 
 cast-octant-line : tie.Need-cast-octant-line
 cast-octant-line c = search needs
@@ -32,8 +36,12 @@ same-length-2 c = search needs
 
 returns-2 : tie.Need-returns-2
 returns-2 c =
-    let e = octant-some _ _ _ (c .before .before .before .before .before .octant .ensures) (c .before .before .before .before .before .before .before .fits .x) (c .before .before .before .before .before .before .before .fits .y) (c .before .before .before .before .if1 .left) in
-    plays (stays (c .before .before .before .before .before .before .before .args .d) _) 128 _ _ _ _ _ (omega arith) (c .before .before .before .before .before .before .before .pre) refl e (c .before .before .octant-line .ensures)
+    let at-octant-line = c .before .before in
+    let at-if1 = at-octant-line .before .before in
+    let at-octant = at-if1 .before in
+    let at-start = at-octant .before .before in
+    let e = octant-some _ _ _ (at-octant .octant .ensures) (at-start .fits .x) (at-start .fits .y) (at-if1 .if1 .left) in
+    plays (stays (at-start .args .d) _) 128 _ _ _ _ _ (omega arith) (at-start .pre) refl e (at-octant-line .octant-line .ensures)
 
 pub octant-spec : {M : Type 1} → statement M
 octant-spec =

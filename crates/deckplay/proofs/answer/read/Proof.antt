@@ -2,11 +2,11 @@
 use mathlib.Core.Path.{_≡_, refl, sym, ap, _∙_}
 use native.Mathlib.Omega.{arith}
 use lib.ListN.{length}
-use Rattle.script.proofs.Fitting.{read-fits}
+use Rattle.script.proofs.FileSize.{read-fits}
 use Rattle.deckfile.specs.Reading.{reading}
 use Rattle.deckplay.specs.Play.{changes}
 use Rattle.arrays.proofs.paste.Parts.{front-within}
-use Rattle.deckplay.proofs.Playing.{plays-same, filled-file}
+use Rattle.deckplay.proofs.answer.Texts.{plays-same, filled-file}
 use borrow.Author.Needs.{needs}
 use Rattle.deckplay.proofs.answer.read.Statement.{statement}
 use Rattle.deckplay.proofs.answer.read.Tie as tie
@@ -36,8 +36,12 @@ same-length c = search needs
 
 returns : tie.Need-returns
 returns c =
-    let f = filled-file _ _ _ (c .before .before .before .before .before .before .before .bytes-of .ensures) (read-fits _ (c .before .before .before .before .before .before .before .before .before .before .before .pre .0)) in
-    plays-same _ _ _ _ _ (ap changes (c .before .before .before .before .read .ensures ∙ ap reading f)) (c .before .before .changed .ensures)
+    let at-changed = c .before .before in
+    let at-read = at-changed .before .before in
+    let at-bytes-of = at-read .before .before .before in
+    let at-start = at-bytes-of .before .before .before .before in
+    let f = filled-file _ _ _ (at-bytes-of .bytes-of .ensures) (read-fits _ (at-start .pre .0)) in
+    plays-same _ _ _ _ _ (ap changes (at-read .read .ensures ∙ ap reading f)) (at-changed .changed .ensures)
 
 pub read-spec : {M : Type 1} → statement M
 read-spec =

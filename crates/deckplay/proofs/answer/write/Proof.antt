@@ -2,8 +2,8 @@
 use mathlib.Core.Path.{_≡_, refl, sym, ap, _∙_}
 use lib.Seq.{length-take-le}
 use Rattle.deckplay.specs.Play.{stays, writeText}
-use Rattle.deckplay.proofs.Playing.{plays, plays-same}
-use Rattle.deckplay.proofs.Storing.{lent-length, refused-text, stored-within, stored-room, stored-answer}
+use Rattle.deckplay.proofs.answer.Texts.{plays, plays-same}
+use Rattle.deckplay.proofs.answer.Written.{part-length, refused-text, stored-within, stored-room, stored-answer}
 use borrow.Author.Needs.{needs}
 use Rattle.deckplay.proofs.answer.write.Statement.{statement}
 use Rattle.deckplay.proofs.answer.write.Tie as tie
@@ -15,11 +15,11 @@ least-requires : tie.Need-least-requires
 least-requires c κs = tt
 
 array-borrow-prefix-file : tie.Need-array-borrow-prefix-file
-array-borrow-prefix-file c = lent-length (c .before .buffer .result) _ _ (c .before .buffer .ensures) (c .least .ensures) .0
+array-borrow-prefix-file c = part-length (c .before .buffer .result) _ _ (c .before .buffer .ensures) (c .least .ensures) .0
 
 slice-aggregate-write : tie.Need-slice-aggregate-write
 slice-aggregate-write c =
-    let k = lent-length (c .before .before .buffer .result) _ _ (c .before .before .buffer .ensures) (c .before .least .ensures) in
+    let k = part-length (c .before .before .buffer .result) _ _ (c .before .before .buffer .ensures) (c .before .least .ensures) in
     sym (length-take-le _ _ (k .0))
 
 write-requires : tie.Need-write-requires
@@ -28,17 +28,23 @@ write-requires c κs = tt
 enum-known-n : tie.Need-enum-known-n
 enum-known-n c = search needs
 
-told-requires : tie.Need-told-requires
-told-requires c κs = search needs
+answered-requires : tie.Need-answered-requires
+answered-requires c κs = search needs
 
 enum-known-n-2 : tie.Need-enum-known-n-2
 enum-known-n-2 c = search needs
 
 array-share-prefix-file : tie.Need-array-share-prefix-file
-array-share-prefix-file c = stored-within _ _ _ _ _ _ (c .before .before .before .before .write .ensures .0) (c .before .before .before .before .write .ensures .1) (c .before .n2 .given .1) .0
+array-share-prefix-file c =
+    let at-n2 = c .before in
+    let at-write = at-n2 .before .before .before in
+    stored-within _ _ _ _ _ _ (at-write .write .ensures .0) (at-write .write .ensures .1) (at-n2 .n2 .given .1) .0
 
 slice-aggregate-file-line : tie.Need-slice-aggregate-file-line
-slice-aggregate-file-line c = stored-within _ _ _ _ _ _ (c .before .before .before .before .before .write .ensures .0) (c .before .before .before .before .before .write .ensures .1) (c .before .before .n2 .given .1) .1
+slice-aggregate-file-line c =
+    let at-n2 = c .before .before in
+    let at-write = at-n2 .before .before .before in
+    stored-within _ _ _ _ _ _ (at-write .write .ensures .0) (at-write .write .ensures .1) (at-n2 .n2 .given .1) .1
 
 file-line-requires : tie.Need-file-line-requires
 file-line-requires c κs = tt
@@ -48,18 +54,34 @@ same-length c = search needs
 
 returns : tie.Need-returns
 returns c =
-    let k = lent-length (c .before .before .before .before .before .before .before .before .before .before .before .buffer .result) _ _ (c .before .before .before .before .before .before .before .before .before .before .before .buffer .ensures) (c .before .before .before .before .before .before .before .before .before .before .least .ensures) in
-    let d = c .before .before .before .before .before .before .before .before .before .before .before .before .before .args .d in
-    plays-same _ _ _ _ _ (ap (stays d) (refused-text d _ _ (sym (c .before .before .before .before .before .before .before .before .write .ensures .0) ∙ c .before .before .before .before .before .n .given .1) ∙ ap (writeText d) (k .1))) (c .before .before .told .ensures)
+    let at-answered = c .before .before in
+    let at-n = at-answered .before .before .before in
+    let at-write = at-n .before .before .before in
+    let at-least = at-write .before .before in
+    let at-buffer = at-least .before in
+    let at-start = at-buffer .before .before in
+    let k = part-length (at-buffer .buffer .result) _ _ (at-buffer .buffer .ensures) (at-least .least .ensures) in
+    let d = at-start .args .d in
+    plays-same _ _ _ _ _ (ap (stays d) (refused-text d _ _ (sym (at-write .write .ensures .0) ∙ at-n .n .given .1) ∙ ap (writeText d) (k .1)))
+    (at-answered .answered .ensures)
 
 same-length-2 : tie.Need-same-length-2
 same-length-2 c = search needs
 
 returns-2 : tie.Need-returns-2
 returns-2 c =
-    let k = lent-length (c .before .before .before .before .before .before .before .before .before .before .before .before .buffer .result) _ _ (c .before .before .before .before .before .before .before .before .before .before .before .before .buffer .ensures) (c .before .before .before .before .before .before .before .before .before .before .before .least .ensures) in
-    let d = c .before .before .before .before .before .before .before .before .before .before .before .before .before .before .args .d in
-    plays (stays d _) _ _ _ _ _ _ (stored-room _ _ _ _ _ _ (c .before .before .before .before .before .before .before .before .before .write .ensures .0) (c .before .before .before .before .before .before .before .before .before .write .ensures .1) (c .before .before .before .before .before .before .n2 .given .1)) (c .before .before .before .before .before .before .before .before .before .before .before .before .before .before .pre) refl (stored-answer _ _ _ _ _ _ (c .before .before .before .before .before .before .before .before .before .write .ensures .0) (c .before .before .before .before .before .before .before .before .before .write .ensures .1) (c .before .before .before .before .before .before .n2 .given .1) ∙ ap (writeText d) (k .1)) (c .before .before .file-line .ensures)
+    let at-file-line = c .before .before in
+    let at-n2 = at-file-line .before .before .before .before in
+    let at-write = at-n2 .before .before .before in
+    let at-least = at-write .before .before in
+    let at-buffer = at-least .before in
+    let at-start = at-buffer .before .before in
+    let k = part-length (at-buffer .buffer .result) _ _ (at-buffer .buffer .ensures) (at-least .least .ensures) in
+    let d = at-start .args .d in
+    plays (stays d _) _ _ _ _ _ _ (stored-room _ _ _ _ _ _ (at-write .write .ensures .0) (at-write .write .ensures .1) (at-n2 .n2 .given .1))
+    (at-start .pre) refl
+    (stored-answer _ _ _ _ _ _ (at-write .write .ensures .0) (at-write .write .ensures .1) (at-n2 .n2 .given .1) ∙ ap (writeText d) (k .1))
+    (at-file-line .file-line .ensures)
 
 pub write-spec : {M : Type 1} → statement M
 write-spec =
@@ -71,7 +93,7 @@ write-spec =
     slice-aggregate-write
     write-requires
     enum-known-n
-    told-requires
+    answered-requires
     enum-known-n-2
     array-share-prefix-file
     slice-aggregate-file-line

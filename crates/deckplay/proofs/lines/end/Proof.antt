@@ -4,7 +4,7 @@ use native.Mathlib.Omega.{arith}
 use lib.ListN.{length}
 use lib.Seq.{length-take-le}
 use borrow.Author.Needs.{needs}
-use Rattle.deckplay.proofs.Taking.{line-ends}
+use Rattle.deckplay.proofs.lines.Bytes.{line-ends}
 use Rattle.deckplay.proofs.lines.end.Statement.{statement}
 use Rattle.deckplay.proofs.lines.end.Tie as tie
 
@@ -15,8 +15,9 @@ array-share-prefix-line c =
 
 slice-aggregate-play : tie.Need-slice-aggregate-play
 slice-aggregate-play c =
-    let h : length (c .before .before .before .args .r .line) ≡ 2001 = search needs in
-    sym (length-take-le (c .before .before .before .args .r .length) (c .before .before .before .args .r .line) (omega (arith, c .before .before .before .pre, h)))
+    let at-start = c .before .before .before in
+    let h : length (at-start .args .r .line) ≡ 2001 = search needs in
+    sym (length-take-le (at-start .args .r .size) (at-start .args .r .line) (omega (arith, at-start .pre, h)))
 
 slice-aggregate-play-2 : tie.Need-slice-aggregate-play-2
 slice-aggregate-play-2 c = search needs

@@ -1,6 +1,6 @@
 -- `deckplay::lines::start` meets its contract.
 use borrow.Author.Needs.{needs}
-use Rattle.deckplay.proofs.Taking.{fresh}
+use Rattle.deckplay.proofs.lines.Bytes.{fresh}
 use Rattle.deckplay.proofs.lines.start.Statement.{statement}
 use Rattle.deckplay.proofs.lines.start.Tie as tie
 

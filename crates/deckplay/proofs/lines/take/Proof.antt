@@ -2,7 +2,7 @@
 use mathlib.Core.Path.{_≡_}
 use lib.ListN.{length}
 use borrow.Author.Needs.{needs}
-use Rattle.deckplay.proofs.Taking.{take-end, take-more, take-past}
+use Rattle.deckplay.proofs.lines.Bytes.{take-end, take-more, take-past}
 use Rattle.deckplay.proofs.lines.take.Statement.{statement}
 use Rattle.deckplay.proofs.lines.take.Tie as tie
 

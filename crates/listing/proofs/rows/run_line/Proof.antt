@@ -1,10 +1,7 @@
 -- `listing::rows::run_line` meets its contract.
-use mathlib.Core.Path.{ap}
-use Prim.Native.Nat.{ℕ}
 use native.Mathlib.Omega.{arith}
 use borrow.Author.Needs.{needs}
-use Rattle.model.specs.Listing.{field, decimal}
-use Rattle.arrays.proofs.paste.Parts.{pasted-then, pasted-same}
+use Rattle.arrays.proofs.paste.Parts.{pasted-then}
 use Rattle.listing.proofs.rows.run_line.Statement.{statement}
 use Rattle.listing.proofs.rows.run_line.Tie as tie
 
@@ -20,9 +17,6 @@ point-fields-requires c κs = search needs
 point-fields-requires-2 : tie.Need-point-fields-requires-2
 point-fields-requires-2 c κs = search needs
 
-distance-of-requires : tie.Need-distance-of-requires
-distance-of-requires c κs = search needs
-
 decimal-field-requires : tie.Need-decimal-field-requires
 decimal-field-requires c κs = search needs
 
@@ -36,14 +30,13 @@ returns : tie.Need-returns
 returns c =
     let at-byte = c .before .before in
     let at-decimal-field = at-byte .before .before .before .before in
-    let at-distance-of = at-decimal-field .before in
-    let at-point-fields2 = at-distance-of .before .before .before .before in
+    let at-point-fields2 = at-decimal-field .before .before .before .before in
     let at-point-fields = at-point-fields2 .before .before .before .before in
     let at-word = at-point-fields .before .before .before .before in (
       pasted-then (at-word .put-bytes .ensures) (omega arith)
           (pasted-then (at-point-fields .point-fields .ensures .0) (omega arith)
           (pasted-then (at-point-fields2 .point-fields2 .ensures .0) (omega arith)
-          (pasted-then (pasted-same (ap (λ (k : ℕ). field (decimal k)) (at-distance-of .distance-of .ensures)) (at-decimal-field .decimal-field .ensures .0)) (omega arith)
+          (pasted-then (at-decimal-field .decimal-field .ensures .0) (omega arith)
           (at-byte .put-byte .ensures)))),
       omega arith,
     )
@@ -56,7 +49,6 @@ run-line-spec =
     put-bytes-requires
     point-fields-requires
     point-fields-requires-2
-    distance-of-requires
     decimal-field-requires
     put-byte-requires
     same-length

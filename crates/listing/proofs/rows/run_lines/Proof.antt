@@ -1,59 +1,47 @@
 -- `listing::rows::run_lines` meets its contract. The invariant: the lines of the edges passed are written.
+use mathlib.Core.Path.{_≡_, ap}
 use Prim.Native.Nat.{_-_}
 use native.Mathlib.Omega.{arith}
 use borrow.Author.Needs.{needs}
+use Rattle.model.specs.Question.{listed}
+use Rattle.model.proofs.FileSize.{edges-few}
 use Rattle.arrays.proofs.paste.Lines.{PutFirst, first-none, first-more, first-end}
-use Rattle.listing.proofs.Lining.{runText, run-none, run-more}
+use Rattle.arrays.proofs.paste.Parts.{pasted-same}
+use Rattle.working.specs.InOrder.{stateOf}
+use Rattle.working.proofs.edges.Numbers.{edge-count, listed-length}
+use Rattle.listing.proofs.rows.Lines.{runText, run-none, run-more, run-all}
 use Rattle.listing.proofs.rows.run_lines.Statement.{statement}
 use Rattle.listing.proofs.rows.run_lines.Tie as tie
 
 abbrev Inv-loop : tie.InvT-loop
-Inv-loop out₀ at codes n ends m next₀ i₀ out next i = PutFirst (runText codes ends) 53 m out₀ out at next i
+Inv-loop out₀ at w ends next₀ i₀ out next i = PutFirst (runText (listed (stateOf w))) 53 (w .nkeys) out₀ out at next i
 
 abbrev μ-loop : tie.MeasureT-loop
-μ-loop out₀ at codes n ends m next₀ i₀ out next i = m - i
+μ-loop out₀ at w ends next₀ i₀ out next i = w .nkeys - i
+
+edge-numbers-requires : tie.Need-edge-numbers-requires Inv-loop μ-loop
+edge-numbers-requires c κs = search needs
 
 loop-holds : tie.Need-loop-holds Inv-loop μ-loop
 loop-holds c =
-    let at-start = c .before .before .before in
-    first-none (runText (at-start .args .codes .now) (at-start .args .ends .now)) 53 _ _ _ (run-none (at-start .args .codes .now) (at-start .args .ends .now))
+    let at-start = c .before .before in
+    let l = listed (stateOf (at-start .args .w)) in
+    first-none (runText l) 53 _ _ _ (run-none l)
 
-mul-e : tie.Need-mul-e Inv-loop μ-loop
-mul-e c = search needs
-
-shared-slice-read-e : tie.Need-shared-slice-read-e Inv-loop μ-loop
-shared-slice-read-e c = search needs
-
-mul-lo : tie.Need-mul-lo Inv-loop μ-loop
-mul-lo c =
-    let at-loop-test = c .before in
-    let at-loop = at-loop-test .before in
-    let at-start = at-loop .before .before .before .before in
-    omega (arith, at-start .pre .1 .1 .low (at-loop .loop .i) (at-loop-test .loop-test .taken), at-start .pre .1 .0)
-
-shared-slice-read-lo : tie.Need-shared-slice-read-lo Inv-loop μ-loop
-shared-slice-read-lo c =
-    let at-loop-test = c .before .before in
-    let at-loop = at-loop-test .before in
-    let at-start = at-loop .before .before .before .before in
-    omega (arith, at-start .pre .1 .1 .low (at-loop .loop .i) (at-loop-test .loop-test .taken), at-start .pre .1 .0)
-
-mul-hi : tie.Need-mul-hi Inv-loop μ-loop
-mul-hi c =
-    let at-loop-test = c .before .before in
-    let at-loop = at-loop-test .before in
-    let at-start = at-loop .before .before .before .before in
-    omega (arith, at-start .pre .1 .1 .high (at-loop .loop .i) (at-loop-test .loop-test .taken), at-start .pre .1 .0)
-
-shared-slice-read-hi : tie.Need-shared-slice-read-hi Inv-loop μ-loop
-shared-slice-read-hi c =
-    let at-loop-test = c .before .before .before in
-    let at-loop = at-loop-test .before in
-    let at-start = at-loop .before .before .before .before in
-    omega (arith, at-start .pre .1 .1 .high (at-loop .loop .i) (at-loop-test .loop-test .taken), at-start .pre .1 .0)
+edge-at-requires : tie.Need-edge-at-requires Inv-loop μ-loop
+edge-at-requires c κs =
+    let at-if = c .before .before in
+    let at-ends = at-if .before .before .before in
+    (at-ends .before .before .pre .1 .0, (at-ends .edge-numbers .ensures, at-if .if1 .taken))
 
 run-line-requires : tie.Need-run-line-requires Inv-loop μ-loop
-run-line-requires c κs = search needs
+run-line-requires c κs =
+    let at-if = c .before .before .before in
+    let at-loop = at-if .before .before in
+    let at-start = at-loop .before .before .before in
+    let few = edges-few _ (at-start .pre .1 .1) in
+    let inv = at-loop .loop .inv in
+    omega (arith, inv .most, inv .same, few, edge-count _ (at-start .pre .1 .0), at-if .if1 .taken)
 
 add-i : tie.Need-add-i Inv-loop μ-loop
 add-i c = search needs
@@ -63,22 +51,26 @@ loop-less c = search needs
 
 loop-again : tie.Need-loop-again Inv-loop μ-loop
 loop-again c =
-    let at-run-line = c .before .before in
-    let at-loop-test = at-run-line .before .before .before .before .before in
-    let at-loop = at-loop-test .before in
-    let at-start = at-loop .before .before .before .before in
-    first-more (runText (at-start .args .codes .now) (at-start .args .ends .now)) 53 _ _ _ _ _ _ _ _ _ (at-loop .loop .inv) (at-loop-test .loop-test .taken)
-    (run-more (at-start .args .codes .now) (at-start .args .ends .now) (at-loop .loop .i) (omega (arith, at-start .pre .1 .1 .within, at-loop-test .loop-test .taken))) (omega arith)
-    (at-run-line .run-line .ensures .0) (at-run-line .run-line .ensures .1) (at-run-line .run-line .kept .0)
+    let at-line = c .before .before in
+    let at-if = at-line .before .before .before .before in
+    let at-loop = at-if .before .before in
+    let at-start = at-loop .before .before .before in
+    let s = stateOf (at-start .args .w) in
+    let few = edges-few _ (at-start .pre .1 .1) in
+    let inv = at-loop .loop .inv in
+    first-more (runText (listed s)) 53 _ _ _ _ _ _ _ _ _ inv (at-if .if1 .taken) (run-more s _ _ (at-line .before .edge-at .ensures))
+    (omega (arith, inv .most, inv .same, few, edge-count _ (at-start .pre .1 .0), at-if .if1 .taken)) (at-line .run-line .ensures .0) (at-line .run-line .ensures .1) (at-line .run-line .kept .0)
 
 same-length : tie.Need-same-length Inv-loop μ-loop
-same-length c = c .before .loop .inv .same
+same-length c = c .before .before .loop .inv .same
 
 returns : tie.Need-returns Inv-loop μ-loop
 returns c =
-    let at-loop = c .before in
-    let at-start = at-loop .before .before .before .before in
-    first-end (runText (at-start .args .codes .now) (at-start .args .ends .now)) 53 _ _ _ _ _ _ (at-loop .loop .inv) (c .loop-test .left)
+    let at-loop = c .before .before in
+    let at-start = at-loop .before .before .before in
+    let w = at-start .args .w in
+    let all = first-end (runText (listed (stateOf w))) 53 _ _ _ _ _ _ (at-loop .loop .inv) (c .if1 .left) in
+    pasted-same (run-all (stateOf w) (w .nkeys) (omega (arith, listed-length w (at-start .pre .1 .0)))) (all .0)
 
 pub run-lines-spec : {M : Type 1} → statement M
 run-lines-spec =
@@ -86,13 +78,9 @@ run-lines-spec =
     (tie.spec
     Inv-loop
     μ-loop
+    edge-numbers-requires
     loop-holds
-    mul-e
-    shared-slice-read-e
-    mul-lo
-    shared-slice-read-lo
-    mul-hi
-    shared-slice-read-hi
+    edge-at-requires
     run-line-requires
     add-i
     loop-less

@@ -3,7 +3,7 @@ use Prim.Native.Nat.{_-_}
 use native.Mathlib.Omega.{arith}
 use borrow.Author.Needs.{needs}
 use Rattle.arrays.proofs.paste.Lines.{PutFirst, first-none, first-more, first-end}
-use Rattle.listing.proofs.Lining.{tapText, tap-none, tap-more}
+use Rattle.listing.proofs.rows.Lines.{tapText, tap-none, tap-more}
 use Rattle.listing.proofs.rows.tap_lines.Statement.{statement}
 use Rattle.listing.proofs.rows.tap_lines.Tie as tie
 

@@ -4,7 +4,7 @@ use mathlib.Core.Path.{sym, ap, _∙_}
 use Prim.Native.Nat.{ℕ, _+_}
 use native.Mathlib.Omega.{arith}
 use borrow.Author.Needs.{needs}
-use Rattle.plane.proofs.Between.{between-upper, between-under, between-none}
+use Rattle.plane.proofs.octants.Between.{between-upper, between-under, between-none}
 use Rattle.plane.proofs.octants.octant_between.Statement.{statement}
 use Rattle.plane.proofs.octants.octant_between.Tie as tie
 
@@ -37,15 +37,22 @@ add-result c = omega (arith, c .before .before .before .before .passes2 .ensures
 
 returns : tie.Need-returns
 returns c =
-    let at-passes = c .before .before .before in
-    let s = at-passes .before .args in
-    (at-passes .passes .ensures .0 ∙ between-upper (s .ax) (s .ay) (s .bx) (s .by) (sym (c .before .is-lower .ensures) ∙ c .if1 .taken), omega (arith, at-passes .passes .ensures .1))
+    let at-is-lower = c .before in
+    let at-passes = at-is-lower .before .before in
+    let s = at-passes .before .args in (
+      at-passes .passes .ensures .0 ∙ between-upper (s .ax) (s .ay) (s .bx) (s .by) (sym (at-is-lower .is-lower .ensures) ∙ c .if1 .taken),
+      omega (arith, at-passes .passes .ensures .1),
+    )
 
 returns-2 : tie.Need-returns-2
 returns-2 c =
-    let at-passes2 = c .before .before .before .before in
-    let s = at-passes2 .before .before .args in
-    (ap (λ (n : ℕ). n + 4) (at-passes2 .passes2 .ensures .0) ∙ between-under (s .ax) (s .ay) (s .bx) (s .by) (sym (c .before .is-lower2 .ensures) ∙ c .if2 .taken), omega (arith, at-passes2 .passes2 .ensures .1))
+    let at-is-lower2 = c .before in
+    let at-passes2 = at-is-lower2 .before .before .before in
+    let s = at-passes2 .before .before .args in (
+      ap (λ (n : ℕ). n + 4) (at-passes2 .passes2 .ensures .0)
+          ∙ between-under (s .ax) (s .ay) (s .bx) (s .by) (sym (at-is-lower2 .is-lower2 .ensures) ∙ c .if2 .taken),
+      omega (arith, at-passes2 .passes2 .ensures .1),
+    )
 
 returns-3 : tie.Need-returns-3
 returns-3 c =

@@ -1,7 +1,7 @@
 -- `plane::octants::passes` meets its contract: a test counts for at most one.
 use native.Mathlib.Omega.{arith}
 use borrow.Author.Needs.{needs}
-use Rattle.plane.proofs.Between.{at-most-one}
+use Rattle.plane.proofs.octants.Between.{at-most-one}
 use Rattle.plane.proofs.octants.passes.Statement.{statement}
 use Rattle.plane.proofs.octants.passes.Tie as tie
 

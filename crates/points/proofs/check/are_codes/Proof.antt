@@ -28,7 +28,10 @@ is-code-requires c κs = search needs
 
 returns : tie.Need-returns Inv-loop μ-loop
 returns c =
-    passed-fail _ _ _ _ _ (c .before .before .before .before .loop .inv) (omega arith) (c .before .before .before .before .before .before .pre) (c .before .is-code .ensures) (not-true _ (c .if1 .taken))
+    let at-is-code = c .before in
+    let at-loop = at-is-code .before .before .before in
+    let at-start = at-loop .before .before in
+    passed-fail _ _ _ _ _ (at-loop .loop .inv) (omega arith) (at-start .pre) (at-is-code .is-code .ensures) (not-true _ (c .if1 .taken))
 
 add-i : tie.Need-add-i Inv-loop μ-loop
 add-i c = search needs
@@ -38,7 +41,10 @@ loop-less c = search needs
 
 loop-again : tie.Need-loop-again Inv-loop μ-loop
 loop-again c =
-    passed-more _ _ _ _ _ (c .before .before .before .before .loop .inv) (omega arith) (c .before .before .before .before .before .before .pre) (c .before .is-code .ensures) (not-false _ (c .if1 .left))
+    let at-is-code = c .before in
+    let at-loop = at-is-code .before .before .before in
+    let at-start = at-loop .before .before in
+    passed-more _ _ _ _ _ (at-loop .loop .inv) (omega arith) (at-start .pre) (at-is-code .is-code .ensures) (not-false _ (c .if1 .left))
 
 returns-2 : tie.Need-returns-2 Inv-loop μ-loop
 returns-2 c = passed-end _ _ _ _ (c .before .loop .inv) (c .loop-test .left) (c .before .before .before .pre)

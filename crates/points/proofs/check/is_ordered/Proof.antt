@@ -16,7 +16,12 @@ rises-requires : tie.Need-rises-requires
 rises-requires c κs = search needs
 
 returns-2 : tie.Need-returns-2
-returns-2 c = and-yes _ _ _ (sym (c .before .before .before .are-codes .ensures) ∙ not-false _ (c .before .before .if1 .left)) (and-no _ _ (sym (c .before .rises .ensures) ∙ not-true _ (c .if2 .taken)))
+returns-2 c =
+    let at-rises = c .before in
+    let at-if1 = at-rises .before in
+    let at-are-codes = at-if1 .before in
+    and-yes _ _ _ (sym (at-are-codes .are-codes .ensures) ∙ not-false _ (at-if1 .if1 .left))
+    (and-no _ _ (sym (at-rises .rises .ensures) ∙ not-true _ (c .if2 .taken)))
 
 zeros-from-requires : tie.Need-zeros-from-requires
 zeros-from-requires c κs = search needs

@@ -9,7 +9,7 @@ use Rattle.tree.specs.Build.{lengthWith}
 use Rattle.regions.specs.Rays.{far}
 use Rattle.score.specs.Prepared.{Prepared}
 use Rattle.score.proofs.Geometry.{column-given}
-use Rattle.score.proofs.length.Place.{one-row, whole-short, place-prepared, length-is}
+use Rattle.score.proofs.length.Point.{one-row, whole-short, point-prepared, length-is}
 use Rattle.score.proofs.length.length_with.Statement.{statement}
 use Rattle.score.proofs.length.length_with.Tie as tie
 
@@ -25,7 +25,7 @@ prepared c =
     let ys = c .before .before .before .before .before .before .before in
     let p = start c .pre in
     let kept = c .locate .kept .1 .1 .1 .1 in
-    place-prepared (p .0) (λ i. ys .before .shared-slice-known .given i .fits) (λ i. ys .shared-slice-known2 .given i .fits) (p .1 .0) (omega arith)
+    point-prepared (p .0) (λ i. ys .before .shared-slice-known .given i .fits) (λ i. ys .shared-slice-known2 .given i .fits) (p .1 .0) (omega arith)
     (kept .0 ∙ p .1 .1) (omega (arith, kept .1 .0)) (c .locate .ensures)
 
 abbrev located : tie.After-gain-at → tie.After-locate

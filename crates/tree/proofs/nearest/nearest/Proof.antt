@@ -7,7 +7,7 @@ use borrow.Author.Needs.{needs}
 use Rattle.plane.specs.Stored.{pointAt}
 use Rattle.tree.specs.Held.{held}
 use Rattle.tree.specs.Keys.{key, tab, leastKey, octantKeys}
-use Rattle.tree.proofs.nearest.OctantKeys.{turn-here, turn-past}
+use Rattle.tree.proofs.nearest.OctantKeys.{point-in-octant, point-in-none}
 use Rattle.tree.proofs.nearest.nearest.Statement.{statement}
 use Rattle.tree.proofs.nearest.nearest.Tie as tie
 
@@ -29,10 +29,10 @@ loop-again c =
     let o = c .before .before .before .before .before .octant-between in (
       search needs,
       ⊎-elim
-          (λ w. turn-here h (pointAt (a .x) (a .y)) (a .n) (at .loop .j) (o .result) (o .ensures .0) (at .loop .best) (c .if1 .best) (at .loop .inv .1)
+          (λ w. point-in-octant h (pointAt (a .x) (a .y)) (a .n) (at .loop .j) (o .result) (o .ensures .0) (at .loop .best) (c .if1 .best) (at .loop .inv .1)
           (c .before .key .result) (w .1 .result) (search needs)
           (c .before .key .ensures ∙ ap (λ (d : ℕ). key d (at .loop .j) (a .n)) (c .before .before .distance .ensures .0)) (w .1 .ensures) (w .2))
-          (λ w. turn-past h (pointAt (a .x) (a .y)) (a .n) (at .loop .j) (o .result) (o .ensures .0) (at .loop .best) (c .if1 .best) (at .loop .inv .1)
+          (λ w. point-in-none h (pointAt (a .x) (a .y)) (a .n) (at .loop .j) (o .result) (o .ensures .0) (at .loop .best) (c .if1 .best) (at .loop .inv .1)
           (search needs) (w .1))
           (c .if1 .came),
     )

@@ -4,8 +4,8 @@ use Prim.Native.Nat.{_-_}
 use native.Mathlib.Omega.{arith}
 use borrow.Author.Needs.{needs}
 use lib.ListN.{length}
-use Rattle.words.proofs.Decoding as decoding
-use Rattle.words.proofs.Decoding.{Decoded, step-at, decoded-none, decoded-more, decoded-all, decoded-full}
+use Rattle.words.proofs.hex.Bytes as decoding
+use Rattle.words.proofs.hex.Bytes.{Decoded, step-at, decoded-none, decoded-more, decoded-all, decoded-full}
 use Rattle.words.proofs.hex.decode.Statement.{statement}
 use Rattle.words.proofs.hex.decode.Tie as tie
 

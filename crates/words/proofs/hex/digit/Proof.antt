@@ -1,7 +1,7 @@
 -- `words::hex::digit` meets its contract: each answer is the digit's value in the row that its byte is in.
 use native.Mathlib.Omega.{arith}
 use borrow.Author.Needs.{needs}
-use Rattle.words.proofs.Pairs.{digit-decimal, digit-upper, digit-lower, digit-none}
+use Rattle.words.proofs.hex.Pairs.{digit-decimal, digit-upper, digit-lower, digit-none}
 use Rattle.words.proofs.hex.digit.Statement.{statement}
 use Rattle.words.proofs.hex.digit.Tie as tie
 

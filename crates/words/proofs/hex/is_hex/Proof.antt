@@ -6,7 +6,7 @@ use native.Mathlib.Omega.{arith}
 use borrow.Author.Needs.{needs}
 use lib.ListN.{length, drop}
 use Rattle.words.specs.Hex.{isHex}
-use Rattle.words.proofs.Pairs.{below16, hex-odd, hex-first, hex-second, hex-on, hex-end}
+use Rattle.words.proofs.hex.Pairs.{below16, hex-odd, hex-first, hex-second, hex-on, hex-end}
 use Rattle.words.proofs.hex.is_hex.Statement.{statement}
 use Rattle.words.proofs.hex.is_hex.Tie as tie
 

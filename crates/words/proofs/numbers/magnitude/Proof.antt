@@ -6,7 +6,7 @@ use native.Mathlib.Omega.{arith}
 use borrow.Author.Needs.{needs}
 use lib.ListN.{length, drop}
 use Rattle.words.specs.Numbers.{magnitudeOf}
-use Rattle.words.proofs.Digits.{read, read-all, read-none, read-low, read-high, read-large, read-on, read-end}
+use Rattle.words.proofs.numbers.Digits.{read, read-all, read-none, read-low, read-high, read-large, read-on, read-end}
 use Rattle.words.proofs.numbers.magnitude.Statement.{statement}
 use Rattle.words.proofs.numbers.magnitude.Tie as tie
 

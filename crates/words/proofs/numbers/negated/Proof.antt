@@ -6,7 +6,7 @@ use lib.IntN.{ℤ, pos, negℤ, _-ℤ_}
 use mir.Syntax.{w32, w64}
 use mir.Val.{SFits, toZ, ofZ}
 use mir.ValLaws.{toZ-pos, toZ-ofZ}
-use Rattle.words.proofs.Digits.{minus-is, minus-fits}
+use Rattle.words.proofs.numbers.Digits.{minus-is, minus-fits}
 use Rattle.words.proofs.numbers.negated.Statement.{statement}
 use Rattle.words.proofs.numbers.negated.Tie as tie
 

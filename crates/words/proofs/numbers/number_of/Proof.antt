@@ -1,7 +1,7 @@
 -- `words::numbers::number_of` meets its contract: by the first byte, and by the magnitude of what follows or of the whole word.
 use mathlib.Core.Path.{_∙_}
 use borrow.Author.Needs.{needs}
-use Rattle.words.proofs.Digits.{minus-fits, number-empty, minus-none, minus-some, plus-none, plus-some, read-back, plus-fits}
+use Rattle.words.proofs.numbers.Digits.{minus-fits, number-empty, minus-none, minus-some, plus-none, plus-some, read-back, plus-fits}
 use Rattle.words.proofs.numbers.number_of.Statement.{statement}
 use Rattle.words.proofs.numbers.number_of.Tie as tie
 

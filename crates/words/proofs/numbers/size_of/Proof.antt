@@ -1,6 +1,6 @@
 -- `words::numbers::size_of` meets its contract: by the number's sign, which is that of what is read back from its bits.
 use borrow.Author.Needs.{needs}
-use Rattle.words.proofs.Digits.{size-none, size-negative, size-some, size-cast}
+use Rattle.words.proofs.numbers.Digits.{size-none, size-negative, size-some, size-cast}
 use Rattle.words.proofs.numbers.size_of.Statement.{statement}
 use Rattle.words.proofs.numbers.size_of.Tie as tie
 

@@ -3,7 +3,7 @@ use Prim.Native.Nat.{_-_}
 use native.Mathlib.Omega.{arith}
 use borrow.Author.Needs.{needs}
 use lib.ListN.{take}
-use Rattle.working.proofs.Weakness.{Strong, strong-none, strong-more, strong-found, strong-end}
+use Rattle.working.proofs.prune.Weak.{Strong, strong-none, strong-more, strong-found, strong-end}
 use Rattle.working.proofs.prune.first_weak.Statement.{statement}
 use Rattle.working.proofs.prune.first_weak.Tie as tie
 

@@ -6,7 +6,7 @@ use borrow.Author.Needs.{needs}
 use Rattle.model.specs.State.{prune}
 use Rattle.points.specs.declared.Points.{Points}
 use Rattle.points.specs.Coded.{stateOf}
-use Rattle.working.proofs.Sweeping.{Sweeping, sweeping-start, sweeping-code, sweeping-less, sweeping-more, sweeping-end}
+use Rattle.working.proofs.prune.Sweep.{Sweeping, sweeping-start, sweeping-code, sweeping-less, sweeping-more, sweeping-end}
 use Rattle.working.proofs.prune.prune.Statement.{statement}
 use Rattle.working.proofs.prune.prune.Tie as tie
 

@@ -1,0 +1,2 @@
+-- What the proofs of a file in hexadecimal and of joined lines use.
+pub mod Text

@@ -1,0 +1,57 @@
+-- A call on a deck, from that on its working form: refused by 11 where the deck is not sound, else the outcome on the working form.
+use mathlib.Core.Path.{_≡_, sym, ap, _∙_, subst⁻¹}
+use mathlib.Core.Bool.{Bool, true, false}
+use lib.Dec.{T}
+use Rattle.arrays.specs.Test.{if}
+use Rattle.model.specs.State.{State, Valid}
+use Rattle.model.specs.Call as call
+use Rattle.points.specs.Coded as coded
+use Rattle.working.specs.InOrder as work
+use Rattle.calls.specs.declared.Changed.{Changed}
+use Rattle.calls.specs.Changes.{replyOf, ChangedBy}
+use Rattle.deck.specs.declared.Deck.{Deck}
+use Rattle.deck.specs.declared.Outcome.{Outcome}
+use Rattle.deck.specs.declared.check.Checked.{Checked}
+use Rattle.deck.specs.Check.{Checks}
+use Rattle.deck.specs.Form.{deckOf, stateOf, Sound, sound}
+use Rattle.deck.specs.Calls.{answer, refusal, called, outcomeOf}
+use Rattle.arrays.proofs.Test.{of-true}
+use Rattle.deck.proofs.Form.{sound-is}
+
+-- What the check of a deck gives where it passed: the deck is sound, and its working form stands for its state.
+pub checked-sound : (d : Deck) (r : Checked) → Checks (sound d) (d .points) r → r .ok ≡ true → Sound d × work.InOrder (r .working) × (work.stateOf (r .working) ≡ stateOf d)
+checked-sound d r c e =
+    (sound-is d .0 t, c .inOrder t, ap coded.stateOf (c .same t))
+  where
+    t : T (sound d)
+    t = of-true (sym (c .ok) ∙ e)
+
+pub checked-valid : (d : Deck) (r : Checked) → Checks (sound d) (d .points) r → r .ok ≡ true → work.InOrder (r .working) × Valid (work.stateOf (r .working))
+checked-valid d r c e = let k = checked-sound d r c e in (k .1, subst⁻¹ Valid (k .2) (k .0 .valid))
+
+-- A call by whether the deck is sound.
+pub called-unsound : (d : Deck) (c : call.Call) → sound d ≡ false → refusal d 11 ≡ called d c
+unfolding called
+called-unsound d c e = ap (λ (b : Bool). if b (λ _. answer (call.step (stateOf d) c)) (λ _. refusal d 11)) (sym e)
+
+pub called-sound : (d : Deck) (c : call.Call) → sound d ≡ true → answer (call.step (stateOf d) c) ≡ called d c
+unfolding called
+called-sound d c e = ap (λ (b : Bool). if b (λ _. answer (call.step (stateOf d) c)) (λ _. refusal d 11)) (sym e)
+
+-- Every method that changes a deck: the check failed, or the call was made on the working form.
+module _ (d : Deck) (r : Checked) (k : Checks (sound d) (d .points) r) (c : call.Call) (o : Outcome) where
+  pub refused-by : r .ok ≡ false → o ≡ refusal d 11 → o ≡ called d c
+  refused-by e is = is ∙ called-unsound d c (sym (k .ok) ∙ e)
+
+  pub called-by : r .ok ≡ true → (t : Changed) → ChangedBy (r .working) c t → o ≡ outcomeOf t → o ≡ called d c
+  unfolding answer
+  called-by e t by is =
+      is
+      ∙ (λ i. record {
+        next = deckOf ((by .next ∙ ap (λ (z : State). call.step z c .next) same) i);
+        reply = (by .reply ∙ ap (λ (z : State). replyOf (call.step z c .reply)) same) i;
+      })
+      ∙ called-sound d c (sym (k .ok) ∙ e)
+    where
+      same : work.stateOf (r .working) ≡ stateOf d
+      same = checked-sound d r k e .2

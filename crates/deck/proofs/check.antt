@@ -1,0 +1,2 @@
+-- Check 11.
+pub mod Parts

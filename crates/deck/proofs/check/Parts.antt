@@ -1,0 +1,149 @@
+-- The parts of check 11 say together that a deck is sound, and each fails only where it is not: a search for a weak Steiner point in
+-- the working form of arranged points tells whether they are those of a valid state; with the same edges the deck is sound.
+use mathlib.Core.Path.{_≡_, refl, sym, ap, _∙_, subst, subst⁻¹}
+use mathlib.Core.Bool.{Bool, true, false}
+use mathlib.Core.Option.{Option, none}
+use mathlib.Core.List.{List, List·Memᴰ}
+use Prim.Native.Nat.{ℕ, _≤_, _<_}
+use native.Mathlib.Omega.{arith}
+use lib.Dec.{T}
+use lib.ListN.{length, take}
+use Rattle.arrays.specs.Same.{sameList}
+use Rattle.arrays.proofs.Test.{and-parts, and-both, true-of, of-true, false-of}
+use Rattle.arrays.proofs.same.Alike.{same-refl, same-eq}
+use Rattle.plane.specs.Point.{Point}
+use Rattle.model.specs.Tree.{mst, edgesAt}
+use Rattle.model.specs.State.{State, points, Valid, valid, lowestWeak}
+use Rattle.model.proofs.Prune.{LowestWeakView, all-strong, weak, lowest-weak-view}
+use Rattle.model.proofs.Validity.{valid-is}
+use Rattle.points.specs.declared.Points.{Points}
+use Rattle.points.specs.Coded as coded
+use Rattle.points.proofs.Codes.{codes-full}
+use Rattle.points.proofs.Coded.{pins-count, arranged-coded}
+use Rattle.points.proofs.check.Tests.{arranged-passes}
+use Rattle.working.specs.Weak.{weakAt}
+use Rattle.working.specs.declared.Working.{Working}
+use Rattle.working.specs.InOrder as work
+use Rattle.working.proofs.InOrder.{arranged-placed}
+use Rattle.working.proofs.prune.Sweep.{Found, none-weak, at, found, order-degree}
+use Rattle.deck.specs.declared.Deck.{Deck}
+use Rattle.deck.specs.declared.check.Checked.{Checked}
+use Rattle.deck.specs.Form.{deckOf, stateOf, Sound, sound}
+use Rattle.deck.specs.Check.{pointed, Checks}
+use Rattle.deck.proofs.Form.{sound-is, sound-arranged}
+
+-- The search in a working form for a Steiner point of at most two edges.
+module _ (w : Working) (p : work.InOrder w) (j : ℕ) (is : j ≡ weakAt w) where
+  abbrev tree : State → List Point → Option Point
+  tree s l = lowestWeak (mst (points s)) l
+
+  steiner : List ℕ
+  steiner = take (w .points .nsteiner) (w .points .steiner)
+
+  search : Found steiner (tree (work.stateOf w) (work.stateOf w .steiner)) j
+  unfolding steiner
+  search =
+      subst⁻¹ (Found steiner (tree (work.stateOf w) (work.stateOf w .steiner))) is
+      (found (take (w .npoints) (w .codes)) (take (w .nkeys) (w .keys)) (mst (points (work.stateOf w))) steiner (order-degree w p))
+
+  full : length steiner ≡ w .points .nsteiner
+  unfolding steiner
+  full = codes-full (p .arranged .steinerCodes)
+
+  -- None was found: the state is valid.
+  pub none-found : w .points .nsteiner ≤ j → Valid (work.stateOf w)
+  none-found h =
+      record {
+        few = omega (arith, pins-count (w .points) (p .arranged), p .arranged .pinCodes .few);
+        placed = arranged-placed (w .points) (p .arranged);
+        branching = go refl search (lowest-weak-view (mst (points (work.stateOf w))) (work.stateOf w .steiner));
+      }
+    where
+      Strong : Type 0
+      Strong = (q : Point) → List·Memᴰ q (work.stateOf w .steiner) → 3 ≤ edgesAt q (mst (points (work.stateOf w)))
+
+      all : {o : Option Point} → o ≡ none → LowestWeakView (mst (points (work.stateOf w))) (work.stateOf w .steiner) o → Strong
+      all e (all-strong f) = f
+      all e (weak q i k) = absurd (let z : _≡_ {A = ℕ} 0 1 = cc in omega arith)
+
+      go : {o : Option Point} {i : ℕ} → i ≡ j → Found steiner o i → LowestWeakView (mst (points (work.stateOf w))) (work.stateOf w .steiner) o → Strong
+      go q none-weak v = all refl v
+      go q (at r l) v = absurd (omega (arith, full))
+
+  -- One was found: it is not.
+  pub one-found : j < w .points .nsteiner → ¬ Valid (work.stateOf w)
+  one-found h v = go refl search (lowest-weak-view (mst (points (work.stateOf w))) (work.stateOf w .steiner))
+    where
+      few : {o : Option Point} → ¬ (o ≡ none) → LowestWeakView (mst (points (work.stateOf w))) (work.stateOf w .steiner) o → ⊥
+      few n (all-strong f) = n refl
+      few n (weak q i k) = omega (arith, v .branching q i, k)
+
+      go : {o : Option Point} {i : ℕ} → i ≡ j → Found steiner o i → LowestWeakView (mst (points (work.stateOf w))) (work.stateOf w .steiner) o → ⊥
+      go q none-weak v = omega (arith, full)
+      go q (at r l) v = few (λ e. let z : _≡_ {A = ℕ} 0 1 = cc in omega arith) v
+
+-- A test that answered no is no proof.
+pub refuted : {a b : Bool} → a ≡ b → a ≡ false → ¬ T b
+refuted e n t = subst T (sym e ∙ n) t
+
+-- The answer where a test does not hold, and where it does.
+pub refused : (test : Bool) (q : Points) (r : Checked) → r .ok ≡ false → ¬ T test → Checks test q r
+refused test q r e never =
+    record { ok = e ∙ sym (false-of test never); inOrder = λ t. absurd (never t); same = λ t. absurd (never t) }
+
+pub accepted : (test : Bool) (q : Points) (r : Checked) → r .ok ≡ true → T test → work.InOrder (r .working) → r .working .points ≡ q → Checks test q r
+accepted test q r e s p f = record { ok = e ∙ sym (true-of test s); inOrder = λ t. p; same = λ t. f }
+
+-- The points of a deck, by the working form of points that are arranged.
+module _ (q : Points) (w : Working) (a : work.InOrder w × (w .points ≡ q)) (j : ℕ) (is : j ≡ weakAt w) where
+  pub points-weak : j < w .points .nsteiner → ¬ T (pointed q)
+  points-weak h t =
+      one-found w (a .0) j is h
+      (subst⁻¹ (λ (z : Points). Valid (coded.stateOf z)) (a .1) (valid-is (coded.stateOf q) .0 (and-parts (coded.arranged q) (valid (coded.stateOf q)) t .1)))
+
+  pub points-pass : w .points .nsteiner ≤ j → T (coded.arranged q) → T (pointed q)
+  points-pass h t =
+      and-both (coded.arranged q) (valid (coded.stateOf q)) t
+      (valid-is (coded.stateOf q) .1 (subst (λ (z : Points). Valid (coded.stateOf z)) (a .1) (none-found w (a .0) j is h)))
+
+-- From the points to the whole deck.
+module _ (d : Deck) (r : Checked) (c : Checks (pointed (d .points)) (d .points) r) where
+  pub points-fail : r .ok ≡ false → Checks (sound d) (d .points) r
+  points-fail e = refused (sound d) (d .points) r e (λ t. refuted (c .ok) e (passed (sound-is d .0 t)))
+    where
+      passed : Sound d → T (pointed (d .points))
+      passed s =
+          and-both (coded.arranged (d .points)) (valid (stateOf d)) (arranged-passes (d .points) (sound-arranged d s)) (valid-is (stateOf d) .1 (s .valid))
+
+  module _ (e : r .ok ≡ true) where
+    test : T (pointed (d .points))
+    test = of-true (sym (c .ok) ∙ e)
+
+    pub points-order : work.InOrder (r .working)
+    points-order = c .inOrder test
+
+    pub points-state : work.stateOf (r .working) ≡ stateOf d
+    points-state = ap coded.stateOf (c .same test)
+
+    pub edges-fail : (a : Deck) → a ≡ deckOf (work.stateOf (r .working)) → ¬ T (sameList (d .ends) (a .ends)) → ¬ T (sound d)
+    edges-fail a is n t =
+        n (subst (λ (l : List ℕ). T (sameList (d .ends) l))
+        ((λ i. sound-is d .0 t .same i .ends) ∙ sym (λ i. deckOf (points-state i) .ends) ∙ sym (λ i. is i .ends)) (same-refl (d .ends)))
+
+    pub edges-pass : (a : Deck) → a ≡ deckOf (work.stateOf (r .working)) → T (sameList (d .ends) (a .ends)) → Checks (sound d) (d .points) r
+    edges-pass a is t = accepted (sound d) (d .points) r e (sound-is d .1 whole) points-order (c .same test)
+      where
+        arranged : coded.Arranged (d .points)
+        arranged = subst coded.Arranged (c .same test) (points-order .arranged)
+
+        whole : Sound d
+        whole =
+            record {
+              valid = valid-is (stateOf d) .0 (and-parts (coded.arranged (d .points)) (valid (stateOf d)) test .1);
+              same =
+                  unfold deckOf in
+                  (λ i. record {
+                    points = arranged-coded (d .points) arranged i;
+                    ends = (same-eq (d .ends) (a .ends) t ∙ (λ k. is k .ends) ∙ (λ k. deckOf (points-state k) .ends)) i;
+                  });
+            }

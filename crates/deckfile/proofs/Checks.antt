@@ -1,0 +1,111 @@
+-- Reading, one check after the other: what the checks passed say of the file, and what is answered where one fails.
+use mathlib.Core.Path.{_≡_, refl, sym, _∙_, subst⁻¹}
+use mathlib.Core.Bool.{Bool, true, false, not}
+use mathlib.Core.List.{List, [], _∷_}
+use Prim.Native.Nat.{ℕ, _+_, _/_, _%_, _≤_, _<_}
+use native.Mathlib.Omega.{arith}
+use lib.Dec.{T, leb, leb→le, eqb, eqb→eq}
+use lib.ListN.{length}
+use borrow.Author.Tests.{le-leb, lt-leb, not-true, not-false}
+use Rattle.arrays.specs.Test.{if}
+use Rattle.arrays.proofs.Test.{and-parts}
+use Rattle.model.specs.Refusal.{check, firstFailed}
+use Rattle.model.specs.State.{maxPins, placed}
+use Rattle.model.specs.File.{Read, deck, refusal, readBy, readFile, offset, size, headed, laidOut, whole, shown, showsDeck}
+use Rattle.sections.specs.Layout.{Sections}
+use Rattle.deckfile.specs.Reading.{showing}
+use Rattle.sections.proofs.codes.Placed.{pins-count}
+
+-- What a test answered, by its definition.
+pub failed : {a b : Bool} → a ≡ b → not a ≡ true → b ≡ false
+failed {a} e f = sym e ∙ not-true a f
+
+pub passed : {a b : Bool} → a ≡ b → not a ≡ false → b ≡ true
+passed {a} e f = sym e ∙ not-false a f
+
+module _ (b : List ℕ) where
+  -- What the header says once its checks passed.
+  pub long-enough : headed b ≡ true → 30 ≤ length b
+  long-enough h = leb→le 30 (length b) (and-parts (leb 30 (length b)) _ (subst⁻¹ T h tt) .0)
+
+  pub sections-of : headed b ≡ true → laidOut b ≡ true → whole b ≡ true → Sections b
+  sections-of h l w =
+      let h₁ = and-parts (leb 30 (length b)) _ (subst⁻¹ T h tt) in
+      let h₂ = and-parts (leb (length b) 784) _ (h₁ .1) in
+      let l₁ = and-parts (eqb (offset b 0) 30) _ (subst⁻¹ T l tt) in
+      let l₂ = and-parts (eqb (offset b 1) (offset b 0 + size b 0)) _ (l₁ .1) in
+      let l₃ = and-parts (eqb (offset b 2) (offset b 1 + size b 1)) _ (l₂ .1) in
+      let w₁ = and-parts (eqb (size b 0 % 4) 0) _ (subst⁻¹ T w tt) in
+      let w₂ = and-parts (eqb (size b 1 % 4) 0) _ (w₁ .1) in
+      let o₀ : offset b 0 ≡ 30 = eqb→eq (offset b 0) 30 (l₁ .0) in
+      let o₁ : offset b 1 ≡ offset b 0 + size b 0 = eqb→eq (offset b 1) (offset b 0 + size b 0) (l₂ .0) in
+      let o₂ : offset b 2 ≡ offset b 1 + size b 1 = eqb→eq (offset b 2) (offset b 1 + size b 1) (l₃ .0) in
+      let o₃ : length b ≡ offset b 2 + size b 2 = eqb→eq (length b) (offset b 2 + size b 2) (l₃ .1) in
+      record {
+        long = leb→le 30 (length b) (h₁ .0);
+        short = leb→le (length b) 784 (h₂ .0);
+        offset₀ = o₀;
+        offset₁ = omega arith;
+        offset₂ = omega arith;
+        total = omega arith;
+        whole₀ = eqb→eq (size b 0 % 4) 0 (w₁ .0);
+        whole₁ = eqb→eq (size b 1 % 4) 0 (w₂ .0);
+        whole₂ = eqb→eq (size b 2 % 2) 0 (w₂ .1);
+      }
+
+  -- The six checks, as tests in turn.
+  answer : Bool → Bool → Bool → Bool → Bool → Bool → Read
+  answer head layout wholes few points shows =
+      readBy (shown b)
+      (firstFailed
+      (check 1 (λ _. head)
+      ∷ check 2 (λ _. layout)
+      ∷ check 3 (λ _. wholes)
+      ∷ check 4 (λ _. few)
+      ∷ check 5 (λ _. points)
+      ∷ check 6 (λ _. shows)
+      ∷ []))
+
+  by-checks : {x₁ x₂ x₃ x₄ x₅ : Bool} → headed b ≡ x₁ → laidOut b ≡ x₂ → whole b ≡ x₃ → leb (length (shown b .pins)) maxPins ≡ x₄ → placed (shown b) ≡ x₅
+      → answer x₁ x₂ x₃ x₄ x₅ (showsDeck b (shown b)) ≡ readFile b
+  unfolding answer readFile
+  by-checks e₁ e₂ e₃ e₄ e₅ = sym (λ i. answer (e₁ i) (e₂ i) (e₃ i) (e₄ i) (e₅ i) (showsDeck b (shown b)))
+
+  pub refused-1 : headed b ≡ false → refusal 1 ≡ readFile b
+  unfolding answer readBy firstFailed
+  refused-1 e = by-checks e refl refl refl refl
+
+  pub refused-2 : headed b ≡ true → laidOut b ≡ false → refusal 2 ≡ readFile b
+  unfolding answer readBy firstFailed
+  refused-2 h e = by-checks h e refl refl refl
+
+  pub refused-3 : headed b ≡ true → laidOut b ≡ true → whole b ≡ false → refusal 3 ≡ readFile b
+  unfolding answer readBy firstFailed
+  refused-3 h l e = by-checks h l e refl refl
+
+  module _ (h : headed b ≡ true) (l : laidOut b ≡ true) (w : whole b ≡ true) where
+    counted : length (shown b .pins) ≡ size b 0 / 4
+    counted = pins-count b (sections-of h l w)
+
+    pub refused-4 : (u : ℕ) → u ≡ size b 0 → 64 < u / 4 → refusal 4 ≡ readFile b
+    unfolding answer readBy firstFailed
+    refused-4 u e k = by-checks h l w (lt-leb (length (shown b .pins)) 64 (omega (arith, counted))) refl
+
+    module _ (u : ℕ) (e : u ≡ size b 0) (k : u / 4 ≤ 64) where
+      few : leb (length (shown b .pins)) 64 ≡ true
+      few = le-leb (length (shown b .pins)) 64 (omega (arith, counted))
+
+      pub few-pins : size b 0 ≤ 256
+      few-pins = omega (arith, sections-of h l w .whole₀)
+
+      pub refused-5 : placed (shown b) ≡ false → refusal 5 ≡ readFile b
+      unfolding answer readBy firstFailed
+      refused-5 f = by-checks h l w few f
+
+      pub all-passed : placed (shown b) ≡ true → showing b ≡ readFile b
+      unfolding answer readBy firstFailed showing
+      all-passed f = last (showsDeck b (shown b)) ∙ by-checks h l w few f
+        where
+          last : (t : Bool) → if t (λ _. deck (shown b)) (λ _. refusal 6) ≡ answer true true true true true t
+          last true = refl
+          last false = refl

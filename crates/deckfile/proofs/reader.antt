@@ -1,0 +1,2 @@
+-- Check 6.
+pub mod Shown

@@ -1,0 +1,2 @@
+-- The file of a working form.
+pub mod Parts

@@ -1,0 +1,80 @@
+-- The parts of a working form, one behind the other, are the file of its state.
+use mathlib.Core.Path.{_≡_, refl, sym, ap, _∙_}
+use mathlib.Core.List.{List, [], _∷_, _++_, map}
+use Prim.Native.Nat.{ℕ, _+_, _-_, _*_, _≤_}
+use native.Mathlib.Omega.{arith}
+use lib.ListN.{length, take}
+use Rattle.plane.specs.Code.{pointOf}
+use Rattle.model.specs.State.{State, Valid}
+use Rattle.model.specs.File.{sectionOf, runSection, header, fileOf}
+use Rattle.model.proofs.Bytes.{section-length}
+use Rattle.model.proofs.FileSize.{file-length, steiner-few}
+use Rattle.points.proofs.Coded.{pins-count, steiner-count}
+use Rattle.working.specs.declared.Working.{Working}
+use Rattle.working.specs.InOrder.{InOrder, stateOf}
+use Rattle.working.specs.Edges.{edgeRow}
+use Rattle.working.proofs.edges.Numbers.{edge-count}
+use Rattle.sections.specs.Bytes.{each, pointFour, edgeBytes}
+use Rattle.buffer.specs.Parts.{fileParts, Kept}
+use Rattle.deckfile.proofs.Runs.{count-is, edges-are, edges-long}
+
+-- The points of codes, in bytes.
+section-is : (l : List ℕ) → each pointFour l ≡ sectionOf (map pointOf l)
+unfolding each sectionOf
+section-is [] = refl
+section-is (k ∷ l) = ap (λ (bs : List ℕ). pointFour k ++ bs) (section-is l)
+
+module _ (w : Working) (p : InOrder w) (v : Valid (stateOf w)) where
+  abbrev s : State
+  s = stateOf w
+
+  abbrev n : ℕ
+  n = w .points .npins
+
+  abbrev m : ℕ
+  m = w .points .nsteiner
+
+  pub file-parts : fileParts (w .points .pins) n (w .points .steiner) m (edgeRow s) ≡ fileOf s
+  unfolding fileOf
+  file-parts =
+      λ i. header (pins-long i) (steiner-long i) (runs-long i)
+      ++ (section-is (take n (w .points .pins)) i ++ (section-is (take m (w .points .steiner)) i ++ runs i))
+    where
+      pins-long : 4 * n ≡ length (sectionOf (s .pins))
+      pins-long = ap (λ (z : ℕ). 4 * z) (sym (pins-count (w .points) (p .arranged))) ∙ sym (section-length (s .pins))
+
+      steiner-long : 4 * m ≡ length (sectionOf (s .steiner))
+      steiner-long = ap (λ (z : ℕ). 4 * z) (sym (steiner-count (w .points) (p .arranged))) ∙ sym (section-length (s .steiner))
+
+      runs-long : 2 * (n + m - 1) ≡ length (runSection s)
+      runs-long = ap (λ (z : ℕ). 2 * z) (sym (count-is w p v)) ∙ sym (edges-long w p v)
+
+      runs : edgeBytes (take (n + m - 1) (edgeRow s)) ≡ runSection s
+      runs = ap (λ (z : ℕ). edgeBytes (take z (edgeRow s))) (sym (count-is w p v)) ∙ edges-are w p v
+
+  pub file-long : 30 + 4 * n + 4 * m + 2 * (n + m - 1) ≡ length (fileOf s)
+  file-long =
+      omega (
+        arith,
+        file-length s (v .placed),
+        edge-count w p,
+        count-is w p v,
+        pins-count (w .points) (p .arranged),
+        steiner-count (w .points) (p .arranged),
+      )
+
+  pub few : (n ≤ 64) × (m ≤ 62)
+  few = (p .arranged .pinCodes .few, omega (arith, steiner-few s v, steiner-count (w .points) (p .arranged)))
+
+  -- The arrays, and room for the file.
+  pub parts-kept : {row : List ℕ} → row ≡ edgeRow s → length row ≡ 128 → (out : List ℕ) → length (fileOf s) ≤ length out
+      → Kept (w .points .pins) n (w .points .steiner) m row out
+  parts-kept e l out fits =
+      record {
+        pinsFew = few .0;
+        steinerFew = few .1;
+        inPins = omega (arith, few .0, p .arranged .pinCodes .size);
+        inSteiner = omega (arith, few .1, p .arranged .steinerCodes .size);
+        inEnds = omega (arith, few, l);
+        room = omega (arith, file-long);
+      }

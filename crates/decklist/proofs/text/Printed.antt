@@ -1,0 +1,52 @@
+-- What the program prints for a file: the line of its refusal, or the listing of its deck after a run to the end.
+use mathlib.Core.Path.{_≡_, refl, sym, ap, _∙_, subst}
+use mathlib.Core.Bool.{Bool}
+use mathlib.Core.List.{List, []}
+use Prim.Native.Nat.{ℕ, _≤_}
+use native.Mathlib.Omega.{arith}
+use lib.ListN.{length}
+use borrow.Author.Tests.{le-leb}
+use Rattle.io.specs.Counts.{Counts}
+use Rattle.arrays.specs.Test.{if}
+use Rattle.model.specs.State.{State}
+use Rattle.model.specs.Call as call
+use Rattle.model.specs.Round.{finish}
+use Rattle.model.specs.File.{Read, deck, refusal, readFile}
+use Rattle.model.specs.Listing.{listing, refusedLine, listingOfFile}
+use Rattle.arrays.specs.Paste.{Pasted}
+use Rattle.calls.specs.Changes.{refusalNumber}
+use Rattle.calls.specs.declared.Changed.{Changed}
+use Rattle.deckfile.specs.Reading.{replyRead, ReadTo}
+use Rattle.ascii.specs.Text.{fitting}
+
+-- Nothing is within a slice.
+pub none-counted : (l : List ℕ) → Counts 0 l
+none-counted l = (omega arith, refl)
+
+-- A text that has room for less has room.
+pub roomy : (m : ℕ) (before after t u : List ℕ) (r : ℕ) → m ≤ 8192 → 8192 ≤ length before → t ≡ u → Pasted (fitting m before t) before after 0 r
+    → Pasted (fitting 8192 before u) before after 0 r
+roomy m before after t u r h k e f =
+    subst (λ (l : List ℕ). Pasted l before after 0 r)
+    (ap (λ (b : Bool). if b (λ _. t) (λ _. [])) (le-leb m (length before) (omega arith) ∙ sym (le-leb 8192 (length before) k)) ∙ ap (fitting 8192 before) e) f
+
+-- The text of a file, by what reading it gives.
+text-refused : (b : List ℕ) (n : ℕ) → readFile b ≡ refusal n → refusedLine n ≡ listingOfFile b
+unfolding listingOfFile
+text-refused b n e = rw e refl
+
+text-deck : (b : List ℕ) (s : State) → readFile b ≡ deck s → listing (finish s .final) ≡ listingOfFile b
+unfolding listingOfFile
+text-deck b s e = rw e refl
+
+pub printed-refusal : (b : List ℕ) {c : Changed} (n : ℕ) → ReadTo (readFile b) c → n ≡ refusalNumber (c .reply) → ¬ (n ≡ 0) → refusedLine n ≡ listingOfFile b
+unfolding refusalNumber replyRead
+printed-refusal b n r e h = go (readFile b) refl (e ∙ ap refusalNumber (r .reply))
+  where
+    go : (r : Read) → readFile b ≡ r → n ≡ refusalNumber (replyRead r) → refusedLine n ≡ listingOfFile b
+    go (deck s) f q = absurd (h q)
+    go (refusal k) f q = ap refusedLine q ∙ text-refused b k f
+
+pub printed-deck : (b : List ℕ) (s t : State) → readFile b ≡ deck s → t ≡ call.step s call.runToEnd .next → listing t ≡ listingOfFile b
+unfolding call.step
+printed-deck b s t f e = ap listing e ∙ text-deck b s f

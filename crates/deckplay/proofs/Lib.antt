@@ -1,4 +1,0 @@
-pub mod Commands
-pub mod Playing
-pub mod Storing
-pub mod Taking

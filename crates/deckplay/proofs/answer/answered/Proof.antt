@@ -1,0 +1,28 @@
+-- `deckplay::answer::answered` meets its contract.
+use mathlib.Core.Path.{_≡_, refl, sym, ap, _∙_}
+use native.Mathlib.Omega.{arith}
+use Rattle.deckplay.specs.Play.{stays}
+use Rattle.deckplay.proofs.answer.Texts.{plays}
+use borrow.Author.Needs.{needs}
+use Rattle.deckplay.proofs.answer.answered.Statement.{statement}
+use Rattle.deckplay.proofs.answer.answered.Tie as tie
+
+answer-line-requires : tie.Need-answer-line-requires
+answer-line-requires c κs = tt
+
+same-length : tie.Need-same-length
+same-length c = search needs
+
+returns : tie.Need-returns
+returns c =
+    let at-answer-line = c .before .before in
+    let at-start = at-answer-line .before .before .before in
+    plays (stays (at-start .args .d) _) 128 _ _ _ _ _ (omega arith) (at-start .pre) refl refl (at-answer-line .answer-line .ensures)
+
+pub answered-spec : {M : Type 1} → statement M
+answered-spec =
+    tie.close
+    (tie.spec
+    answer-line-requires
+    same-length
+    returns)

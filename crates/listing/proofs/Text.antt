@@ -1,0 +1,34 @@
+-- The text of a deck by whether it is sound, and the listing of a working form from its three parts.
+use mathlib.Core.Path.{_≡_, sym, ap}
+use mathlib.Core.Bool.{Bool, true, false}
+use mathlib.Core.List.{List, _++_}
+use Prim.Native.Nat.{ℕ}
+use Rattle.arrays.specs.Test.{if}
+use Rattle.arrays.specs.Paste.{Pasted}
+use Rattle.arrays.proofs.paste.Parts.{pasted-same}
+use Rattle.model.specs.Question as question
+use Rattle.model.specs.Listing.{listing, tapLines, runLines, refusedLine}
+use Rattle.points.proofs.Coded.{pins-count, steiner-count}
+use Rattle.working.specs.declared.Working.{Working}
+use Rattle.working.specs.InOrder as work
+use Rattle.deck.specs.declared.Deck.{Deck}
+use Rattle.deck.specs.Form.{stateOf, sound}
+use Rattle.listing.specs.Line.{headText}
+use Rattle.listing.specs.Whole.{deckText}
+
+pub text-sound : (d : Deck) → sound d ≡ true → listing (stateOf d) ≡ deckText d
+text-sound d e = ap (λ (b : Bool). if b (λ _. listing (stateOf d)) (λ _. refusedLine 11)) (sym e)
+
+pub text-unsound : (d : Deck) → sound d ≡ false → refusedLine 11 ≡ deckText d
+text-unsound d e = ap (λ (b : Bool). if b (λ _. listing (stateOf d)) (λ _. refusedLine 11)) (sym e)
+
+pub listing-put : (w : Working) (p : work.InOrder w) (n : ℕ) → n ≡ question.lengthOfState (work.stateOf w) → {old new : List ℕ} {at r : ℕ}
+    → Pasted
+    (headText (w .points .npins) (w .points .nsteiner) n ++ (tapLines (work.stateOf w .steiner) ++ runLines (question.listed (work.stateOf w))))
+    old new at r
+    → Pasted (listing (work.stateOf w)) old new at r
+unfolding listing
+listing-put w p n e =
+    pasted-same
+    (λ i. headText (sym (pins-count (w .points) (p .arranged)) i) (sym (steiner-count (w .points) (p .arranged)) i) (e i)
+    ++ (tapLines (work.stateOf w .steiner) ++ runLines (question.listed (work.stateOf w))))

@@ -1,0 +1,79 @@
+-- The tap lines and the run lines of the first items, then a line more.
+use mathlib.Core.Path.{_≡_, refl, sym, ap, _∙_}
+use mathlib.Core.List.{List, [], _∷_, _++_, map, append-assoc}
+use mathlib.Core.Option.{some}
+use Prim.Native.Nat.{ℕ, zero, suc, _+_, _≤_, _<_}
+use native.Mathlib.Omega.{arith}
+use native.Mathlib.Numerals.{add-one}
+use lib.ListN.{length, take, getD, getElem?}
+use lib.Seq.{take-suc, take-all}
+use Rattle.plane.specs.Point.{Point}
+use Rattle.plane.specs.Edge.{Edge, edgeLength}
+use Rattle.model.specs.Listing.{tapLines, runLines, tapWord, runWord, pointFields, field, decimal, lineFeed}
+use Rattle.plane.specs.Code.{pointOf}
+use Rattle.model.specs.State.{State}
+use Rattle.model.specs.Question.{listed}
+use Rattle.working.specs.declared.edges.CodedEdge.{CodedEdge}
+use Rattle.working.specs.Edges.{edgeOf, EdgeAt}
+use Rattle.listing.specs.Line.{tapLine, runLine}
+
+-- The text of one item more.
+taps-more : (l : List Point) (q : Point) → tapLines (l ++ (q ∷ [])) ≡ tapLines l ++ tapLine q
+unfolding tapLines
+taps-more [] q = refl
+taps-more (p ∷ l) q =
+    ap (λ (t : List ℕ). tapWord ++ (pointFields p ++ (lineFeed ∷ t))) (taps-more l q)
+    ∙ ap (λ (t : List ℕ). tapWord ++ t) (sym (append-assoc (pointFields p) (lineFeed ∷ tapLines l) (tapLine q)))
+    ∙ sym (append-assoc tapWord (pointFields p ++ (lineFeed ∷ tapLines l)) (tapLine q))
+
+runs-more : (l : List Edge) (e : Edge) → runLines (l ++ (e ∷ [])) ≡ runLines l ++ runLine e (edgeLength e)
+unfolding runLines
+runs-more [] e = refl
+runs-more (d ∷ l) e =
+    let size = field (decimal (edgeLength d)) in
+    let line = runLine e (edgeLength e) in
+    ap (λ (t : List ℕ). runWord ++ (pointFields (d .lo) ++ (pointFields (d .hi) ++ (size ++ (lineFeed ∷ t))))) (runs-more l e)
+    ∙ ap (λ (t : List ℕ). runWord ++ (pointFields (d .lo) ++ (pointFields (d .hi) ++ t))) (sym (append-assoc size (lineFeed ∷ runLines l) line))
+    ∙ ap (λ (t : List ℕ). runWord ++ (pointFields (d .lo) ++ t)) (sym (append-assoc (pointFields (d .hi)) (size ++ (lineFeed ∷ runLines l)) line))
+    ∙ ap (λ (t : List ℕ). runWord ++ t) (sym (append-assoc (pointFields (d .lo)) (pointFields (d .hi) ++ (size ++ (lineFeed ∷ runLines l))) line))
+    ∙ sym (append-assoc runWord (pointFields (d .lo) ++ (pointFields (d .hi) ++ (size ++ (lineFeed ∷ runLines l)))) line)
+
+map-more : {A : Type 0} (f : ℕ → A) (l : List ℕ) (k : ℕ) → map f (l ++ (k ∷ [])) ≡ map f l ++ (f k ∷ [])
+map-more f [] k = refl
+map-more f (a ∷ l) k = ap (λ t. f a ∷ t) (map-more f l k)
+
+one-more : (a : List ℕ) (i : ℕ) → i < length a → take (i + 1) a ≡ take i a ++ (getD a i 0 ∷ [])
+one-more a i h = ap (λ (k : ℕ). take k a) (add-one i) ∙ take-suc a i 0 h
+
+next-item : {A : Type 0} (l : List A) (i : ℕ) (a : A) → getElem? l i ≡ some a → take (suc i) l ≡ take i l ++ (a ∷ [])
+next-item [] i a e = absurd (let z : _≡_ {A = ℕ} 0 1 = cc in omega arith)
+next-item (b ∷ l) zero a e = let q : b ≡ a = cc in ap (λ z. z ∷ []) q
+next-item (b ∷ l) (suc i) a e = ap (λ t. b ∷ t) (next-item l i a e)
+
+-- The lines of the first i Steiner points and of the first i edges.
+abbrev pub tapText : List ℕ → ℕ → List ℕ
+tapText codes i = tapLines (map pointOf (take i codes))
+
+abbrev pub runText : List Edge → ℕ → List ℕ
+runText l i = runLines (take i l)
+
+pub tap-none : (codes : List ℕ) → tapText codes 0 ≡ []
+unfolding tapLines
+tap-none codes = refl
+
+pub run-none : (l : List Edge) → runText l 0 ≡ []
+unfolding runLines
+run-none l = refl
+
+pub tap-more : (codes : List ℕ) (i : ℕ) → i < length codes → tapText codes (i + 1) ≡ tapText codes i ++ tapLine (pointOf (getD codes i 0))
+tap-more codes i h =
+    ap (λ (l : List ℕ). tapLines (map pointOf l)) (one-more codes i h) ∙ ap tapLines (map-more pointOf (take i codes) (getD codes i 0))
+    ∙ taps-more (map pointOf (take i codes)) (pointOf (getD codes i 0))
+
+pub run-more : (s : State) (i : ℕ) (e : CodedEdge) → EdgeAt s i e → runText (listed s) (i + 1) ≡ runText (listed s) i ++ runLine (edgeOf e) (e .distance)
+run-more s i e f =
+    ap (λ (k : ℕ). runText (listed s) k) (add-one i) ∙ ap runLines (next-item (listed s) i (edgeOf e) (f .there))
+    ∙ runs-more (take i (listed s)) (edgeOf e) ∙ ap (λ (n : ℕ). runText (listed s) i ++ runLine (edgeOf e) n) (sym (f .measured))
+
+pub run-all : (s : State) (m : ℕ) → length (listed s) ≤ m → runText (listed s) m ≡ runLines (listed s)
+run-all s m h = ap runLines (take-all m (listed s) h)

@@ -1,0 +1,2 @@
+-- What the proofs of the octant between two stored points use.
+pub mod Between

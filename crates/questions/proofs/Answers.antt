@@ -1,0 +1,86 @@
+-- What each question answers: the working form and its edges in the listing order give what the model's questions give.
+use mathlib.Core.Path.{_≡_, refl, sym, ap, _∙_, subst, subst⁻¹}
+use mathlib.Core.Logic.{⊎-elim}
+use mathlib.Core.Bool.{false}
+use mathlib.Core.Option.{none}
+use mathlib.Core.List.{List, [], _∷_, List·Memᴰ}
+use Prim.Native.Nat.{ℕ, zero, suc, _-_, _≤_}
+use native.Mathlib.Omega.{arith}
+use lib.Dec.{T, ltb}
+use lib.ListN.{length, take, getElem?}
+use Rattle.arrays.specs.Order.{Sorted}
+use Rattle.spanning.specs.Graph.{degree}
+use Rattle.spanning.proofs.Degree.{degree-zero}
+use Rattle.plane.specs.Point.{Point, inRange, lower, Lower}
+use Rattle.plane.specs.Edge.{Edge as PlaneEdge, planar}
+use Rattle.plane.proofs.Order.{lower-order}
+use Rattle.arrays.specs.Set.{has}
+use Rattle.model.specs.Tree.{mst, edgesAt}
+use Rattle.model.specs.State.{State, points, Valid}
+use Rattle.model.specs.Question as question
+use Rattle.arrays.proofs.Set.{has-in}
+use Rattle.model.proofs.Tree.{mst-run-tree}
+use Rattle.model.proofs.Prune.{points-in, points-rise}
+use Rattle.tree.specs.Keys.{keyGraph}
+use Rattle.arrays.specs.Array.{indexOf}
+use Rattle.plane.specs.Code.{pointOf, isCode}
+use Rattle.working.specs.declared.Working.{Working}
+use Rattle.working.specs.InOrder.{InOrder, stateOf}
+use Rattle.plane.proofs.codes.Sets.{points-has}
+use Rattle.working.proofs.InOrder.{all-codes, all-points, arranged-placed}
+use Rattle.points.proofs.Coded.{pins-count, steiner-count}
+use Rattle.working.proofs.prune.Sweep.{held-degree}
+use Rattle.working.proofs.edges.Numbers.{edge-count, listed-length}
+use Rattle.working.specs.declared.edges.CodedEdge.{CodedEdge}
+use Rattle.working.specs.Edges.{edgeOf, EdgeAt}
+use Rattle.questions.specs.declared.Answer.the-variants.{Counts, Edge, NoEdge}
+use Rattle.questions.specs.Answers.{countsAnswer, codedAnswer, edgeOrNone}
+
+-- No edge is at a point that is not held.
+pub none-at : (s : State) → Sorted Lower (s .steiner) → (p : Point) → ¬ List·Memᴰ p (points s) → edgesAt p (mst (points s)) ≡ 0
+unfolding planar
+none-at s rise p n =
+    degree-zero planar p (mst (points s))
+    (λ e i. ⊎-elim (λ q. n (subst⁻¹ (λ (z : Point). List·Memᴰ z (points s)) q (ends e i .0))) (λ q. n (subst⁻¹ (λ (z : Point). List·Memᴰ z (points s)) q (ends e i .1))))
+  where
+    ends : (e : PlaneEdge) → List·Memᴰ e (mst (points s)) → List·Memᴰ (e .lo) (points s) × List·Memᴰ (e .hi) (points s)
+    ends e i = unfold planar in mst-run-tree (points s) (points-rise s rise) .tree .ends e i
+
+pub none-beyond : (s : State) → Valid s → (p : Point) → inRange p ≡ false → 0 ≡ question.edgeCountAt p s
+none-beyond s v p e =
+    sym (none-at s (v .placed .steinerRise) p (λ i. subst T e (⊎-elim (v .placed .pinsRange p) (v .placed .steinerRange p) (points-in s p .0 i))))
+
+-- A working form: its counts, and the edges at a code.
+module _ (w : Working) (p : InOrder w) where
+  held-has : (k : ℕ) → T (isCode k) → has ltb k (take (w .npoints) (w .codes)) ≡ has lower (pointOf k) (points (stateOf w))
+  held-has k t =
+      ap (has ltb k) (p .codes) ∙ points-has k t _ (all-codes (w .points) (p .arranged))
+      ∙ ap (has lower (pointOf k)) (all-points (w .points) (p .arranged))
+
+  pub counts-answer : Counts (w .points .npins) (w .points .nsteiner) (w .nkeys) ≡ countsAnswer (stateOf w)
+  counts-answer = λ i. Counts (sym (pins-count (w .points) (p .arranged)) i) (sym (steiner-count (w .points) (p .arranged)) i) (edge-count w p i)
+
+  pub degree-none : (k : ℕ) → T (isCode k) → has ltb k (take (w .npoints) (w .codes)) ≡ false → 0 ≡ question.edgeCountAt (pointOf k) (stateOf w)
+  degree-none k t e =
+      sym (none-at (stateOf w) (arranged-placed (w .points) (p .arranged) .steinerRise) (pointOf k)
+      (λ i. subst T (sym (held-has k t) ∙ e) (has-in lower lower-order (pointOf k) (points (stateOf w)) .1 i)))
+
+  pub degree-there : (k i n : ℕ) → T (has ltb k (take (w .npoints) (w .codes))) → i ≡ indexOf k (take (w .npoints) (w .codes)) → n ≡ degree keyGraph i (take (w .nkeys) (w .keys))
+      → n ≡ question.edgeCountAt (pointOf k) (stateOf w)
+  degree-there k i n h e f = f ∙ ap (λ (z : ℕ). degree keyGraph z (take (w .nkeys) (w .keys))) e ∙ held-degree w p k h
+
+-- The edge at a place of the listing order, or none beyond the last.
+beyond : {A : Type 0} (l : List A) (i : ℕ) → length l ≤ i → getElem? l i ≡ none
+beyond [] i h = refl
+beyond (a ∷ l) zero h = absurd (omega arith)
+beyond (a ∷ l) (suc i) h = beyond l i (omega arith)
+
+pub no-edge : (w : Working) → InOrder w → (i : ℕ) → w .nkeys ≤ i → NoEdge ≡ edgeOrNone (question.edgeAtPlace i (stateOf w))
+unfolding edgeOrNone
+no-edge w p i h = ap edgeOrNone (sym (beyond (question.listed (stateOf w)) i (omega (arith, listed-length w p, h))))
+
+pub edge-there : (s : State) (i : ℕ) (e : CodedEdge) → EdgeAt s i e → codedAnswer e ≡ edgeOrNone (question.edgeAtPlace i s)
+unfolding edgeOrNone
+edge-there s i e f =
+    let p = edgeOf e in
+    ap (Edge (p .lo .x) (p .lo .y) (p .hi .x) (p .hi .y)) (f .measured) ∙ ap edgeOrNone (sym (f .there))

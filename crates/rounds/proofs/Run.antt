@@ -1,0 +1,88 @@
+-- A run to the end on a working form is the model's: its rounds lead where the model's rounds lead, and there is one such place.
+use mathlib.Core.Path.{_≡_, refl, sym, ap, _∙_, subst, subst⁻¹}
+use mathlib.Core.Bool.{true, false}
+use Prim.Native.Nat.{ℕ, suc, _+_, _≤_, _<_}
+use native.Mathlib.Omega.{arith}
+use Rattle.model.specs.State.{State, Valid}
+use Rattle.model.specs.Round.{RoundAnswer, finished, tap, round}
+use Rattle.model.specs.Question.{lengthOfState}
+use Rattle.model.specs.Session.{RoundsTo, ended, added}
+use Rattle.model.proofs.Round.{round-valid, round-falls, finish-rounds}
+use Rattle.model.proofs.Session.{valid-session}
+use Rattle.working.specs.declared.Working.{Working}
+use Rattle.working.specs.InOrder as work
+use Rattle.rounds.specs.declared.Rounded.{Rounded}
+use Rattle.rounds.specs.Rounds.{adds, RoundOf, FinishOf}
+
+-- Rounds alone lead to one state, by one number of them.
+same-end : {s r r′ : State} {k k′ : ℕ} → RoundsTo s k r → RoundsTo s k′ r′ → (k ≡ k′) × (r ≡ r′)
+same-end (ended e) (ended f) = (refl, refl)
+same-end (ended e) (added f b) = let z : _≡_ {A = ℕ} 0 1 = cc in absurd (omega arith)
+same-end (added e a) (ended f) = let z : _≡_ {A = ℕ} 0 1 = cc in absurd (omega arith)
+same-end (added e a) (added f b) = let h = same-end a b in (ap suc (h .0), h .1)
+
+is-finished : (a : RoundAnswer) → adds a ≡ false → a ≡ finished
+is-finished finished e = refl
+is-finished (tap c fall) e = let z : _≡_ {A = ℕ} 0 1 = cc in absurd (omega arith)
+
+-- While rounds go on: after `count` rounds that added a Steiner point the working form is `at`, and `t` is the round on it.
+pub record Running (w at : Working) (t : Rounded) (count : ℕ) : Type 0 where
+  pub inOrder : work.InOrder at
+  pub valid : Valid (work.stateOf at)
+  pub rounded : RoundOf at t
+  pub rest : (k : ℕ) (r : State) → RoundsTo (work.stateOf at) k r → RoundsTo (work.stateOf w) (count + k) r
+  pub left : lengthOfState (work.stateOf at) + count ≤ lengthOfState (work.stateOf w)
+  pub fits : lengthOfState (work.stateOf w) ≤ 15120000
+
+pub running-start : (w : Working) (t : Rounded) → work.InOrder w → Valid (work.stateOf w) → RoundOf w t → Running w w t 0
+running-start w t p v r =
+    record {
+      inOrder = p;
+      valid = v;
+      rounded = r;
+      rest = λ k e x. subst (λ (n : ℕ). RoundsTo (work.stateOf w) n e) (omega arith) x;
+      left = omega arith;
+      fits = valid-session (work.stateOf w) v .length-fits;
+    }
+
+module _ (w at : Working) (t : Rounded) (count : ℕ) (run : Running w at t count) where
+  abbrev s : State
+  s = work.stateOf at
+
+  -- The round added a Steiner point: the tree was shortened.
+  module _ (more : t .added ≡ true) where
+    falls : (a : RoundAnswer) → round s .answer ≡ a → adds a ≡ true
+        → (lengthOfState (round s .next) < lengthOfState s) × ((k : ℕ) (r : State) → RoundsTo (round s .next) k r → RoundsTo s (suc k) r)
+    falls finished e m = let z : _≡_ {A = ℕ} 0 1 = cc in absurd (omega arith)
+    falls (tap c fall) e m = let f = round-falls s (run .valid) c fall e in (omega (arith, f .0, f .1), λ k r x. added e x)
+
+    fell : (lengthOfState (round s .next) < lengthOfState s) × ((k : ℕ) (r : State) → RoundsTo (round s .next) k r → RoundsTo s (suc k) r)
+    fell = falls (round s .answer) refl (sym (run .rounded .added) ∙ more)
+
+    pub running-less : count < lengthOfState (work.stateOf w)
+    running-less = omega (arith, fell .0, run .left)
+
+    pub running-fits : count < 15120000
+    running-fits = omega (arith, running-less, run .fits)
+
+    pub running-next : work.InOrder (t .working) × Valid (work.stateOf (t .working))
+    running-next = (run .rounded .inOrder, subst⁻¹ Valid (run .rounded .next) (round-valid s (run .valid)))
+
+    pub running-more : (u : Rounded) → RoundOf (t .working) u → Running w (t .working) u (count + 1)
+    running-more u r =
+        record {
+          inOrder = running-next .0;
+          valid = running-next .1;
+          rounded = r;
+          rest =
+              λ k e x. subst (λ (n : ℕ). RoundsTo (work.stateOf w) n e) (omega arith)
+              (run .rest (suc k) e (fell .1 k e (subst (λ (z : State). RoundsTo z k e) (run .rounded .next) x)));
+          left = omega (arith, fell .0, run .left, ap lengthOfState (run .rounded .next));
+          fits = run .fits;
+        }
+
+  pub running-end : Valid (work.stateOf w) → t .added ≡ false → FinishOf w (record { working = at; count = count })
+  running-end v stop =
+      let f = is-finished (round s .answer) (sym (run .rounded .added) ∙ stop) in
+      let h = same-end (run .rest 0 s (ended f)) (finish-rounds (work.stateOf w) v .0) in
+      record { inOrder = run .inOrder; final = h .1; count = omega (arith, h .0) }

@@ -1,0 +1,94 @@
+-- A command by its name: the names are tried one after the other.
+use mathlib.Core.Path.{_≡_, refl}
+use mathlib.Core.Bool.{true, false}
+use mathlib.Core.List.{List}
+use Prim.Native.Nat.{ℕ}
+use lib.IntN.{ℤ}
+use mir.Syntax.{w32}
+use mir.Val.{SFits, toZ, ofZ}
+use mir.ValLaws.{toZ-ofZ}
+use Rattle.script.specs.declared.Command.{Command}
+use Rattle.script.specs.declared.Command.the-variants.{Error, Write, Add, Withdraw, Round, Finish, Length, Counts, Run, Degree, Octant}
+use Rattle.script.specs.declared.Command.the-variants as command
+use Rattle.arrays.specs.Text.{bytes}
+use Rattle.arrays.specs.Same.{sameList}
+use Rattle.script.specs.Commands.{alone, sized, withPair}
+
+-- The names of one word.
+module _ (w : List ℕ) where
+  pub alone-write : sameList w (bytes "write") ≡ true → Write 784 ≡ alone w
+  unfolding alone
+  alone-write a = rw a refl
+
+  module _ (a : sameList w (bytes "write") ≡ false) where
+    pub alone-round : sameList w (bytes "round") ≡ true → Round ≡ alone w
+    unfolding alone
+    alone-round b = rw (a, b) refl
+
+    module _ (b : sameList w (bytes "round") ≡ false) where
+      pub alone-finish : sameList w (bytes "finish") ≡ true → Finish ≡ alone w
+      unfolding alone
+      alone-finish c = rw (a, b, c) refl
+
+      module _ (c : sameList w (bytes "finish") ≡ false) where
+        pub alone-length : sameList w (bytes "length") ≡ true → Length ≡ alone w
+        unfolding alone
+        alone-length d = rw (a, b, c, d) refl
+
+        module _ (d : sameList w (bytes "length") ≡ false) where
+          pub alone-counts : sameList w (bytes "counts") ≡ true → Counts ≡ alone w
+          unfolding alone
+          alone-counts e = rw (a, b, c, d, e) refl
+
+          module _ (e : sameList w (bytes "counts") ≡ false) where
+            pub alone-list : sameList w (bytes "list") ≡ true → command.List ≡ alone w
+            unfolding alone
+            alone-list f = rw (a, b, c, d, e, f) refl
+
+            pub alone-none : sameList w (bytes "list") ≡ false → Error ≡ alone w
+            unfolding alone
+            alone-none f = rw (a, b, c, d, e, f) refl
+
+-- Those with a size.
+module _ (w : List ℕ) (n : ℕ) where
+  pub sized-write : sameList w (bytes "write") ≡ true → Write n ≡ sized w n
+  unfolding sized
+  sized-write a = rw a refl
+
+  module _ (a : sameList w (bytes "write") ≡ false) where
+    pub sized-run : sameList w (bytes "run") ≡ true → Run n ≡ sized w n
+    unfolding sized
+    sized-run b = rw (a, b) refl
+
+    pub sized-none : sameList w (bytes "run") ≡ false → Error ≡ sized w n
+    unfolding sized
+    sized-none b = rw (a, b) refl
+
+-- Those with two numbers.
+module _ (w : List ℕ) (i j : ℤ) where
+  pub pair-add : sameList w (bytes "add") ≡ true → Add i j ≡ withPair w i j
+  unfolding withPair
+  pair-add a = rw a refl
+
+  module _ (a : sameList w (bytes "add") ≡ false) where
+    pub pair-withdraw : sameList w (bytes "withdraw") ≡ true → Withdraw i j ≡ withPair w i j
+    unfolding withPair
+    pair-withdraw b = rw (a, b) refl
+
+    module _ (b : sameList w (bytes "withdraw") ≡ false) where
+      pub pair-degree : sameList w (bytes "degree") ≡ true → Degree i j ≡ withPair w i j
+      unfolding withPair
+      pair-degree c = rw (a, b, c) refl
+
+      module _ (c : sameList w (bytes "degree") ≡ false) where
+        pub pair-octant : sameList w (bytes "octant") ≡ true → Octant i j ≡ withPair w i j
+        unfolding withPair
+        pair-octant d = rw (a, b, c, d) refl
+
+        pub pair-none : sameList w (bytes "octant") ≡ false → Error ≡ withPair w i j
+        unfolding withPair
+        pair-none d = rw (a, b, c, d) refl
+
+-- Two numbers handed on are read back from their bits.
+pub read-two : (f : ℤ → ℤ → Command) (i j : ℤ) → SFits w32 i → SFits w32 j → f (toZ w32 (ofZ w32 i)) (toZ w32 (ofZ w32 j)) ≡ f i j
+read-two f i j h k = λ t. f (toZ-ofZ w32 i h t) (toZ-ofZ w32 j k t)

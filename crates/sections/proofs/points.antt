@@ -1,3 +1,0 @@
--- What the proofs of the sections of points and of their callers share.
-pub mod Codes
-pub mod Placed

@@ -1,0 +1,15 @@
+-- `test_deck::call_entries::entry_run_to_end` meets its contract: the outcome is that of the call on the deck in the words.
+use mathlib.Core.Path.{refl}
+use Rattle.test_deck.proofs.Entries.{of-call}
+use borrow.Author.Needs.{needs}
+use Rattle.test_deck.proofs.call_entries.entry_run_to_end.Statement.{statement}
+use Rattle.test_deck.proofs.call_entries.entry_run_to_end.Tie as tie
+
+returns : tie.Need-returns
+returns c =
+    let k = c .before .before .before .before in
+    of-call (k .before .deck-in .ensures) refl (k .run-to-end .ensures) (c .put-outcome .ensures)
+
+pub entry-run-to-end-spec : {M : Type 1} → statement M
+entry-run-to-end-spec =
+    tie.close (tie.spec (λ c κs. search needs) (λ c κs. search needs) (λ c κs. search needs) returns)

@@ -1,0 +1,16 @@
+-- `test_deck::question_entries::entry_counts` meets its contract: the answer is that of the deck in the words.
+use mathlib.Core.Path.{refl}
+use Rattle.test_deck.proofs.Entries.{of-question}
+use borrow.Author.Needs.{needs}
+use Rattle.test_deck.proofs.question_entries.entry_counts.Statement.{statement}
+use Rattle.test_deck.proofs.question_entries.entry_counts.Tie as tie
+
+returns : tie.Need-returns
+returns c =
+    let a = c .before .before .before in
+    let q = a .before in
+    of-question (q .before .deck-in .ensures) refl (q .counts .ensures) (a .parts-of-answer .ensures) (c .put-parts .ensures)
+
+pub entry-counts-spec : {M : Type 1} → statement M
+entry-counts-spec =
+    tie.close (tie.spec (λ c κs. search needs) (λ c κs. search needs) (λ c κs. search needs) (λ c κs. search needs) returns)

@@ -1,0 +1,22 @@
+-- `test_deck::question_entries::entry_degree_at` meets its contract: the answer is that of the deck in the words.
+use mathlib.Core.Path.{ap}
+use Rattle.questions.specs.Answers.{degreeAnswer}
+use Rattle.plane.specs.Point.{point}
+use Rattle.plane.proofs.Signed.{read-two}
+use Rattle.test_deck.proofs.Entries.{of-question}
+use borrow.Author.Needs.{needs}
+use Rattle.test_deck.proofs.question_entries.entry_degree_at.Statement.{statement}
+use Rattle.test_deck.proofs.question_entries.entry_degree_at.Tie as tie
+
+returns : tie.Need-returns
+returns c =
+    let a = c .before .before .before in
+    let q = a .before in
+    let f = q .before .before .before .fits in
+    of-question (q .before .deck-in .ensures) (ap degreeAnswer (read-two point _ _ (f .x) (f .y))) (q .degree-at .ensures)
+    (a .parts-of-answer .ensures)
+    (c .put-parts .ensures)
+
+pub entry-degree-at-spec : {M : Type 1} → statement M
+entry-degree-at-spec =
+    tie.close (tie.spec (λ c κs. search needs) (λ c κs. search needs) (λ c κs. search needs) (λ c κs. search needs) returns)

@@ -1,0 +1,93 @@
+-- A deck put into the words, part behind part, stands there: read back it is the same deck. By the seams of the lists.
+use mathlib.Core.Path.{_≡_, sym, ap, _∙_, subst}
+use mathlib.Core.List.{List, [], _∷_, _++_, append-assoc, append-nil}
+use Prim.Native.Nat.{ℕ, _+_, _≤_}
+use native.Mathlib.Omega.{arith}
+use lib.ListN.{length, take, drop, getD, set, length-append, length-drop}
+use lib.Seq.{length-take-le, take-at, take-all, getD-at, drop-length, drop-append-add, getD-append-add}
+use Rattle.arrays.specs.Paste.{Pasted}
+use Rattle.arrays.proofs.paste.Parts.{pasted-one, pasted-then, pasted-length, front-is}
+use Rattle.deck.specs.declared.Deck.{Deck}
+use Rattle.test_deck.specs.Words.{deckIn, wordsOf}
+
+-- Items put over a whole array are the array.
+whole : {items before after : List ℕ} {r : ℕ} → Pasted items before after 0 r → length before ≡ length items → after ≡ items
+whole {items} {before} p h =
+    front-is p ∙ ap (λ (k : ℕ). items ++ drop k before) (sym h) ∙ ap (λ (t : List ℕ). items ++ t) (drop-length before) ∙ append-nil items
+
+-- A part of the words copied over a whole array.
+pub part-copied : {before after : List ℕ} {r : ℕ} (w : List ℕ) (at n : ℕ) → Pasted (take n (drop at w)) before after 0 r → at + n ≤ length w
+    → length before ≡ n → after ≡ take n (drop at w)
+part-copied w at n p h k = whole p (k ∙ sym (length-take-le n (drop at w) (omega (arith, length-drop at w))))
+
+-- One number behind what stands in the array.
+then-one : {items before after : List ℕ} {r : ℕ} (at n : ℕ) → Pasted items before after 0 r → length items ≡ at → at + 1 ≤ length before
+    → Pasted (items ++ n ∷ []) before (set after at n) 0 (at + 1)
+then-one {items} {before} {after} {r} at n p h b =
+    let e : r ≡ at = omega (arith, p .next) in
+    let q : Pasted items before after 0 at = subst (λ (k : ℕ). Pasted items before after 0 k) e p in
+    pasted-then q (omega arith) (pasted-one after at n (omega (arith, pasted-length q (omega arith))))
+
+-- The arrays of a deck are as long as their types say.
+pub record Sized (d : Deck) : Type 0 where
+  pub pins : length (d .points .pins) ≡ 64
+  pub steiner : length (d .points .steiner) ≡ 128
+  pub ends : length (d .ends) ≡ 128
+
+module _ (d : Deck) (sized : Sized d) where
+  abbrev p : List ℕ
+  p = d .points .pins
+
+  abbrev s : List ℕ
+  s = d .points .steiner
+
+  abbrev n : ℕ
+  n = d .points .npins
+
+  abbrev m : ℕ
+  m = d .points .nsteiner
+
+  abbrev rest : List ℕ
+  rest = s ++ m ∷ d .ends
+
+  drop-pins : (k : ℕ) → drop (64 + k) (wordsOf d) ≡ drop k (n ∷ rest)
+  drop-pins k = ap (λ (z : ℕ). drop (z + k) (wordsOf d)) (sym (sized .pins)) ∙ drop-append-add p (n ∷ rest) k
+
+  behind-pins : (k : ℕ) → getD (wordsOf d) (64 + k) 0 ≡ getD (n ∷ rest) k 0
+  behind-pins k = ap (λ (z : ℕ). getD (wordsOf d) (z + k) 0) (sym (sized .pins)) ∙ getD-append-add p (n ∷ rest) k 0
+
+  drop-steiner : drop 129 rest ≡ d .ends
+  drop-steiner = ap (λ (z : ℕ). drop (z + 1) rest) (sym (sized .steiner)) ∙ drop-append-add s (m ∷ d .ends) 1
+
+  -- The words of a deck hold that deck: each part is read from its place.
+  pub deck-in-words : deckIn (wordsOf d) ≡ d
+  deck-in-words i =
+      record {
+        points = record {
+          pins = take-at p (n ∷ rest) 64 (sized .pins) i;
+          npins = getD-at p n rest 0 64 (sized .pins) i;
+          steiner = (ap (take 128) (drop-pins 1) ∙ take-at s (m ∷ d .ends) 128 (sized .steiner)) i;
+          nsteiner = (behind-pins 129 ∙ getD-at s m (d .ends) 0 128 (sized .steiner)) i;
+        };
+        ends = (ap (take 128) (drop-pins 130 ∙ drop-steiner) ∙ take-all 128 (d .ends) (omega (arith, sized .ends))) i;
+      }
+
+  -- The parts put one behind the other into an array of 322 words are the words of the deck.
+  pub laid-out : {before a b after : List ℕ} {i j k : ℕ} → length before ≡ 322 → Pasted p before a 0 i → Pasted s (set a 64 n) b 65 j
+      → Pasted (d .ends) (set b 193 m) after 194 k → after ≡ wordsOf d
+  laid-out {before} {a} {b} size x y z =
+      whole (pasted-then second (omega arith) z)
+      (omega (arith, short, sized .ends, length-append (p₁ ++ s) (m ∷ []), length-append (p₁ ++ s ++ m ∷ []) (d .ends)))
+      ∙ append-assoc (p₁ ++ s) (m ∷ []) (d .ends) ∙ append-assoc p₁ s (m ∷ d .ends) ∙ append-assoc p (n ∷ []) rest
+    where
+      p₁ : List ℕ
+      p₁ = p ++ n ∷ []
+
+      first : Pasted p₁ before (set a 64 n) 0 65
+      first = then-one 64 n x (sized .pins) (omega arith)
+
+      short : length (p₁ ++ s) ≡ 193
+      short = length-append p₁ s ∙ omega (arith, sized .pins, sized .steiner, length-append p (n ∷ []))
+
+      second : Pasted (p₁ ++ s ++ m ∷ []) before (set b 193 m) 0 194
+      second = then-one 193 m (pasted-then first (omega arith) y) short (omega arith)

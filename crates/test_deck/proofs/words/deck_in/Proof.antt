@@ -1,0 +1,48 @@
+-- `test_deck::words::deck_in` meets its contract: each part is copied from its place over an array as long.
+use mathlib.Core.Path.{_≡_, refl}
+use native.Mathlib.Omega.{arith}
+use lib.ListN.{length, getD}
+use Rattle.test_deck.proofs.words.Places.{part-copied}
+use borrow.Author.Needs.{needs}
+use Rattle.test_deck.proofs.words.deck_in.Statement.{statement}
+use Rattle.test_deck.proofs.words.deck_in.Tie as tie
+
+size : (s : tie.Start) → length (s .args .t1) ≡ 322
+size s = search needs
+
+returns : tie.Need-returns
+returns c =
+    let b = c .before .before .before .before .before .before in
+    let a = b .before .before .before .before .before in
+    let s = a .before .before .before .before in
+    let w = s .args .t1 in
+    let pins = part-copied w 0 64 (a .put-numbers .ensures) (omega (arith, size s)) refl in
+    let steiner = part-copied w 65 128 (b .put-numbers2 .ensures) (omega (arith, size s)) refl in
+    let ends = part-copied w 194 128 (c .before .put-numbers3 .ensures) (omega (arith, size s)) refl in
+    λ i. record {
+      points = record { pins = pins i; npins = getD w 64 0; steiner = steiner i; nsteiner = getD w 193 0 };
+      ends = ends i;
+    }
+
+pub deck-in-spec : {M : Type 1} → statement M
+deck-in-spec =
+    tie.close
+    (tie.spec
+    (λ c. search needs)
+    (λ c. search needs)
+    (λ c. search needs)
+    (λ c. search needs)
+    (λ c κs. search needs)
+    (λ c. search needs)
+    (λ c. search needs)
+    (λ c. search needs)
+    (λ c. search needs)
+    (λ c κs. search needs)
+    (λ c. search needs)
+    (λ c. search needs)
+    (λ c. search needs)
+    (λ c. search needs)
+    (λ c κs. search needs)
+    (λ c. search needs)
+    (λ c. search needs)
+    returns)

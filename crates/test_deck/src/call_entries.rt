@@ -1,0 +1,98 @@
+// The calls. The deck handed back stands in the words where the one handed in stood; the answer is the kind of the reply.
+use super::parts::parts_of_reply;
+use super::parts::put_parts;
+use super::words::WORDS;
+use super::words::deck_in;
+use super::words::put_deck;
+use deck::Deck;
+use deck::Outcome;
+ghost use mathlib.Core.Path.{_≡_};
+ghost use Rattle.model.specs.State as state;
+ghost use Rattle.model.specs.Call as call;
+ghost use Rattle.deck.specs.Form.{deckOf};
+ghost use Rattle.deck.specs.Calls.{called};
+ghost use Rattle.test_deck.specs.Words.{deckIn};
+ghost use Rattle.test_deck.specs.Parts.{partsIn, Holds};
+
+// The empty deck.
+#[no_mangle]
+pub extern "C" fn entry_empty(words: &mut [u64; WORDS])
+    ensures { λ _. ⌜ deckIn (now (words .exit)) ≡ deckOf state.empty ⌝ }
+{
+    put_deck(Deck::empty(), words);
+}
+
+// Puts an outcome where it is lent. The result is the kind of the reply.
+fn put_outcome<'a>(
+    o: Outcome,
+    words: &'a mut [u64; WORDS],
+    numbers: &'a mut [u64; 3],
+    places: &'a mut [i32; 4],
+) -> u8
+    ensures { λ r. ⌜ Holds o (now (words .exit)) (partsIn r (now (numbers .exit)) (now (places .exit))) ⌝ }
+{
+    let next = o.next;
+    let reply = o.reply;
+    put_deck(next, words);
+    put_parts(parts_of_reply(reply), numbers, places)
+}
+
+// Adds a pin.
+#[no_mangle]
+pub extern "C" fn entry_add(
+    x: i32,
+    y: i32,
+    words: &mut [u64; WORDS],
+    numbers: &mut [u64; 3],
+    places: &mut [i32; 4],
+) -> u8
+    ensures { λ r. ⌜ Holds (called (deckIn (now (words .entry))) (call.add (record { x = x; y = y })))
+        (now (words .exit)) (partsIn r (now (numbers .exit)) (now (places .exit))) ⌝ }
+{
+    let d = deck_in(*words);
+    put_outcome(d.add(x, y), words, numbers, places)
+}
+
+// Withdraws a pin.
+#[no_mangle]
+pub extern "C" fn entry_withdraw(
+    x: i32,
+    y: i32,
+    words: &mut [u64; WORDS],
+    numbers: &mut [u64; 3],
+    places: &mut [i32; 4],
+) -> u8
+    ensures { λ r. ⌜ Holds (called (deckIn (now (words .entry))) (call.withdraw (record { x = x; y = y })))
+        (now (words .exit)) (partsIn r (now (numbers .exit)) (now (places .exit))) ⌝ }
+{
+    let d = deck_in(*words);
+    put_outcome(d.withdraw(x, y), words, numbers, places)
+}
+
+// One round.
+#[no_mangle]
+pub extern "C" fn entry_round(
+    words: &mut [u64; WORDS],
+    numbers: &mut [u64; 3],
+    places: &mut [i32; 4],
+) -> u8
+    ensures { λ r. ⌜ Holds (called (deckIn (now (words .entry))) call.oneRound)
+        (now (words .exit)) (partsIn r (now (numbers .exit)) (now (places .exit))) ⌝ }
+{
+    let d = deck_in(*words);
+    put_outcome(d.round(), words, numbers, places)
+}
+
+// Rounds until finished.
+#[no_mangle]
+pub extern "C" fn entry_run_to_end(
+    words: &mut [u64; WORDS],
+    numbers: &mut [u64; 3],
+    places: &mut [i32; 4],
+) -> u8
+    ensures { λ r. ⌜ Holds (called (deckIn (now (words .entry))) call.runToEnd)
+        (now (words .exit)) (partsIn r (now (numbers .exit)) (now (places .exit))) ⌝ }
+{
+    let d = deck_in(*words);
+    put_outcome(d.run_to_end(), words, numbers, places)
+}

@@ -1,0 +1,79 @@
+// The questions. The deck asked stands in the words and stays as it is; the answer is its kind.
+use super::parts::parts_of_answer;
+use super::parts::put_parts;
+use super::words::WORDS;
+use super::words::deck_in;
+ghost use mathlib.Core.Path.{_≡_};
+ghost use Rattle.deck.specs.Form.{sound};
+ghost use Rattle.deck.specs.Questions.{asked};
+ghost use Rattle.questions.specs.Answers.{lengthAnswer, countsAnswer, edgeAtAnswer, degreeAnswer};
+ghost use Rattle.test_deck.specs.Words.{deckIn};
+ghost use Rattle.test_deck.specs.Parts.{partsIn, partsOfAnswer};
+
+// Whether the deck is sound.
+#[no_mangle]
+pub extern "C" fn entry_is_valid(words: &[u64; WORDS]) -> bool
+    ensures { λ r. ⌜ r ≡ sound (deckIn (now (words .entry))) ⌝ }
+{
+    let d = deck_in(*words);
+    d.is_valid()
+}
+
+// The length of the deck.
+#[no_mangle]
+pub extern "C" fn entry_length(
+    words: &[u64; WORDS],
+    numbers: &mut [u64; 3],
+    places: &mut [i32; 4],
+) -> u8
+    ensures { λ r. ⌜ partsIn r (now (numbers .exit)) (now (places .exit))
+        ≡ partsOfAnswer (asked (deckIn (now (words .entry))) lengthAnswer) ⌝ }
+{
+    let d = deck_in(*words);
+    put_parts(parts_of_answer(d.length()), numbers, places)
+}
+
+// The counts of pins, Steiner points and edges.
+#[no_mangle]
+pub extern "C" fn entry_counts(
+    words: &[u64; WORDS],
+    numbers: &mut [u64; 3],
+    places: &mut [i32; 4],
+) -> u8
+    ensures { λ r. ⌜ partsIn r (now (numbers .exit)) (now (places .exit))
+        ≡ partsOfAnswer (asked (deckIn (now (words .entry))) countsAnswer) ⌝ }
+{
+    let d = deck_in(*words);
+    put_parts(parts_of_answer(d.counts()), numbers, places)
+}
+
+// The edge at a place in the listing order.
+#[no_mangle]
+pub extern "C" fn entry_edge_at(
+    i: usize,
+    words: &[u64; WORDS],
+    numbers: &mut [u64; 3],
+    places: &mut [i32; 4],
+) -> u8
+    ensures { λ r. ⌜ partsIn r (now (numbers .exit)) (now (places .exit))
+        ≡ partsOfAnswer (asked (deckIn (now (words .entry))) (edgeAtAnswer i)) ⌝ }
+{
+    let d = deck_in(*words);
+    put_parts(parts_of_answer(d.edge_at(i)), numbers, places)
+}
+
+// The number of edges at a point.
+#[no_mangle]
+pub extern "C" fn entry_degree_at(
+    x: i32,
+    y: i32,
+    words: &[u64; WORDS],
+    numbers: &mut [u64; 3],
+    places: &mut [i32; 4],
+) -> u8
+    ensures { λ r. ⌜ partsIn r (now (numbers .exit)) (now (places .exit))
+        ≡ partsOfAnswer (asked (deckIn (now (words .entry))) (degreeAnswer (record { x = x; y = y }))) ⌝ }
+{
+    let d = deck_in(*words);
+    put_parts(parts_of_answer(d.degree_at(x, y)), numbers, places)
+}

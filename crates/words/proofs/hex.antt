@@ -1,0 +1,3 @@
+-- What the proofs of hexadecimal digits use.
+pub mod Bytes
+pub mod Pairs

@@ -1,0 +1,2 @@
+-- What the proofs of numbers in base ten use.
+pub mod Digits

@@ -1,0 +1,2 @@
+-- The edges of a working form.
+pub mod Numbers

@@ -1,0 +1,43 @@
+-- `working::edges::distance_of` meets its contract: the coordinates are those of the two points.
+use mathlib.Core.Path.{_∙_}
+use Rattle.plane.specs.Point.{dist}
+use Rattle.plane.specs.Stored.{pointAt}
+use borrow.Author.Needs.{needs}
+use Rattle.working.proofs.edges.distance_of.Statement.{statement}
+use Rattle.working.proofs.edges.distance_of.Tie as tie
+
+x-of-requires : tie.Need-x-of-requires
+x-of-requires c κs = search needs
+
+y-of-requires : tie.Need-y-of-requires
+y-of-requires c κs = search needs
+
+x-of-requires-2 : tie.Need-x-of-requires-2
+x-of-requires-2 c κs = search needs
+
+y-of-requires-2 : tie.Need-y-of-requires-2
+y-of-requires-2 c κs = search needs
+
+distance-requires : tie.Need-distance-requires
+distance-requires c κs = search needs
+
+cast-result : tie.Need-cast-result
+cast-result c = search needs
+
+returns : tie.Need-returns
+returns c =
+    let at-y = c .before .before .before in
+    c .distance .ensures .0
+    ∙ (λ i. dist (pointAt (at-y .before .x-of .ensures i) (at-y .y-of .ensures i)) (pointAt (c .before .before .x-of2 .ensures i) (c .before .y-of2 .ensures i)))
+
+pub distance-of-spec : {M : Type 1} → statement M
+distance-of-spec =
+    tie.close
+    (tie.spec
+    x-of-requires
+    y-of-requires
+    x-of-requires-2
+    y-of-requires-2
+    distance-requires
+    cast-result
+    returns)

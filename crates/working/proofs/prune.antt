@@ -1,0 +1,3 @@
+-- The sweep.
+pub mod Sweep
+pub mod Weak

@@ -1,0 +1,56 @@
+// The edges of a working form in the listing order. Whoever needs the edges of a deck asks for them here.
+use super::Working;
+use plane::codes::x_of;
+use plane::codes::y_of;
+use points::PLACES;
+ghost use mathlib.Core.Path.{_≡_};
+ghost use Prim.Native.Nat.{_<_};
+ghost use Rattle.plane.specs.Point.{dist};
+ghost use Rattle.plane.specs.Code.{pointOf};
+ghost use Rattle.working.specs.InOrder.{InOrder, stateOf};
+ghost use Rattle.working.specs.Edges.{edgeRow, EdgeAt};
+
+// An edge by the codes of its ends, the lower first, and their distance.
+pub struct CodedEdge {
+    pub low: u64,
+    pub high: u64,
+    pub distance: u64,
+}
+
+// The edges of the tree in the listing order, each by the numbers of its two ends in one: 128 times the lower and the higher.
+// Zeros behind them.
+pub fn edge_numbers(w: Working) -> [u64; PLACES]
+    requires { ⌜ InOrder w ⌝ }
+    ensures { λ r. ⌜ r ≡ edgeRow (stateOf w) ⌝ }
+{
+    let keys = w.keys;
+    let mut ends = [0u64; PLACES];
+    tree::list::listing(&keys, w.nkeys, &mut ends);
+    ends
+}
+
+// The distance of two points, given by their codes.
+fn distance_of(a: u64, b: u64) -> u64
+    ensures { λ r. ⌜ r ≡ dist (pointOf a) (pointOf b) ⌝ }
+{
+    plane::distance(x_of(a), y_of(a), x_of(b), y_of(b)) as u64
+}
+
+// The edge at a place of the listing order, from the numbers of all edges.
+pub fn edge_at(w: Working, ends: &[u64; PLACES], i: usize) -> CodedEdge
+    requires { ⌜ InOrder w ⌝ }
+    requires { ⌜ now ends ≡ edgeRow (stateOf w) ⌝ }
+    requires { ⌜ i < w .nkeys ⌝ }
+    ensures { λ r. ⌜ EdgeAt (stateOf w) i r ⌝ }
+{
+    let codes = w.codes;
+    let both = ends[i];
+    let low = codes[(both / 128) as usize];
+    let high = codes[(both % 128) as usize];
+    let distance = distance_of(low, high);
+    CodedEdge {
+        low,
+        high,
+        distance,
+    }
+}
