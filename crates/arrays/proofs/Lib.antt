@@ -2,4 +2,5 @@ pub mod Members
 pub mod Order
 pub mod Set
 pub mod SetMap
+pub mod Signed
 pub mod Test

@@ -1,51 +1,42 @@
--- The parts of a file put one behind the other are the file.
+-- The header and the sections of a file, put one behind the other, are the file: by the length of each part.
 use mathlib.Core.Path.{_≡_, refl, ap, _∙_}
 use mathlib.Core.List.{List, _++_, append-assoc}
 use Prim.Native.Nat.{ℕ, _+_, _-_, _*_}
 use native.Mathlib.Omega.{arith}
-use lib.ListN.{length, take, length-append}
-use lib.Seq.{length-take-le}
+use lib.ListN.{take}
+use Rattle.arrays.specs.Paste.{Pasted, each}
+use Rattle.arrays.proofs.paste.Lines.{each-next}
+use Rattle.arrays.proofs.paste.Parts.{pasted-same, pasted-then}
 use Rattle.model.specs.File.{header}
-use Rattle.sections.specs.Bytes.{each, edgeTwo, pointFour, over}
-use Rattle.buffer.specs.Parts.{fileParts, Kept}
-use Rattle.buffer.proofs.Putting.{each-length, over-next}
+use Rattle.sections.specs.Bytes.{edgeTwo, pointFour}
+use Rattle.buffer.specs.Parts.{fileParts, PartsFit}
 
--- The header and the three sections, one behind the other.
-pub parts-put : (pins : List ℕ) (n : ℕ) (steiner : List ℕ) (m : ℕ) (ends old : List ℕ) → Kept pins n steiner m ends old
-    → (e : ℕ) → e ≡ n + m - 1 → (o₁ o₂ o₃ o₄ : List ℕ) → o₁ ≡ over 0 (header (4 * n) (4 * m) (2 * e)) old
-    → o₂ ≡ over 30 (each pointFour (take n pins)) o₁ → o₃ ≡ over (30 + 4 * n) (each pointFour (take m steiner)) o₂
-    → o₄ ≡ over (30 + 4 * n + 4 * m) (each edgeTwo (take e ends)) o₃ → o₄ ≡ over 0 (fileParts pins n steiner m ends) old
-parts-put pins n steiner m ends old k e is o₁ o₂ o₃ o₄ e₁ e₂ e₃ e₄ =
-    e₄ ∙ ap (over (30 + 4 * n + 4 * m) R) f₃
-    ∙ over-next 0 old ((H ++ P) ++ Q) R (30 + 4 * n + 4 * m) (omega (arith, length-append (H ++ P) Q, length-append H P, long-p, long-q)) (omega (arith, long-r, k .room))
-    ∙ ap (λ (b : List ℕ). over 0 b old) (append-assoc (H ++ P) Q R ∙ append-assoc H P (Q ++ R))
-    ∙ ap (λ (z : ℕ). over 0 (header (4 * n) (4 * m) (2 * z) ++ (P ++ (Q ++ each edgeTwo (take z ends)))) old) is
-  where
-    H : List ℕ
-    H = header (4 * n) (4 * m) (2 * e)
+module _ {pins : List ℕ} {n : ℕ} {steiner : List ℕ} {m : ℕ} {ends old : List ℕ} (k : PartsFit pins n steiner m ends old) where
+  -- The place behind the pins, and behind the Steiner points.
+  pub pins-end : {l o : List ℕ} {at r : ℕ} → Pasted (each pointFour (take n pins)) l o at r → r ≡ at + 4 * n
+  pins-end p = each-next pointFour 4 (λ _. refl) pins n (k .inPins) p
 
-    P : List ℕ
-    P = each pointFour (take n pins)
+  pub steiner-end : {l o : List ℕ} {at r : ℕ} → Pasted (each pointFour (take m steiner)) l o at r → r ≡ at + 4 * m
+  steiner-end p = each-next pointFour 4 (λ _. refl) steiner m (k .inSteiner) p
 
-    Q : List ℕ
-    Q = each pointFour (take m steiner)
+  pub parts-put : {e : ℕ} → e ≡ n + m - 1 → {o₁ o₂ o₃ o₄ : List ℕ} {a b c r : ℕ} → Pasted (header (4 * n) (4 * m) (2 * e)) old o₁ 0 a
+      → Pasted (each pointFour (take n pins)) o₁ o₂ a b → Pasted (each pointFour (take m steiner)) o₂ o₃ b c → Pasted (each edgeTwo (take e ends)) o₃ o₄ c r
+      → Pasted (fileParts pins n steiner m ends) old o₄ 0 r
+  parts-put {e} is p q s t =
+      pasted-same
+      (append-assoc (H ++ P) Q R ∙ append-assoc H P (Q ++ R)
+      ∙ ap (λ (z : ℕ). header (4 * n) (4 * m) (2 * z) ++ (P ++ (Q ++ each edgeTwo (take z ends)))) is)
+      (pasted-then (pasted-then (pasted-then p (omega (arith, p .next, k .room)) q) (omega (arith, p .next, pins-end q, k .room)) s)
+      (omega (arith, p .next, pins-end q, steiner-end s, k .room)) t)
+    where
+      H : List ℕ
+      H = header (4 * n) (4 * m) (2 * e)
 
-    R : List ℕ
-    R = each edgeTwo (take e ends)
+      P : List ℕ
+      P = each pointFour (take n pins)
 
-    long-p : length P ≡ 4 * n
-    long-p = each-length pointFour 4 (λ _. refl) (take n pins) ∙ ap (λ (z : ℕ). 4 * z) (length-take-le n pins (k .inPins))
+      Q : List ℕ
+      Q = each pointFour (take m steiner)
 
-    long-q : length Q ≡ 4 * m
-    long-q = each-length pointFour 4 (λ _. refl) (take m steiner) ∙ ap (λ (z : ℕ). 4 * z) (length-take-le m steiner (k .inSteiner))
-
-    long-r : length R ≡ 2 * e
-    long-r = each-length edgeTwo 2 (λ _. refl) (take e ends) ∙ ap (λ (z : ℕ). 2 * z) (length-take-le e ends (omega (arith, k .inEnds)))
-
-    f₂ : o₂ ≡ over 0 (H ++ P) old
-    f₂ = e₂ ∙ ap (over 30 P) e₁ ∙ over-next 0 old H P 30 refl (omega (arith, long-p, k .room))
-
-    f₃ : o₃ ≡ over 0 ((H ++ P) ++ Q) old
-    f₃ =
-        e₃ ∙ ap (over (30 + 4 * n) Q) f₂
-        ∙ over-next 0 old (H ++ P) Q (30 + 4 * n) (omega (arith, length-append H P, long-p)) (omega (arith, long-q, k .room))
+      R : List ℕ
+      R = each edgeTwo (take e ends)

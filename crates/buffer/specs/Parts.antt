@@ -2,8 +2,11 @@
 use mathlib.Core.List.{List, _++_}
 use Prim.Native.Nat.{ℕ, _+_, _*_, _-_, _≤_}
 use lib.ListN.{length, take}
-use Rattle.model.specs.File.{header}
-use Rattle.sections.specs.Bytes.{each, edgeTwo, pointFour}
+use Rattle.model.specs.State.{maxPins}
+use Rattle.model.specs.File.{headerSize, header}
+use Rattle.points.specs.Coded.{maxSteiner}
+use Rattle.arrays.specs.Paste.{each}
+use Rattle.sections.specs.Bytes.{edgeTwo, pointFour}
 
 -- The file of n pins and m Steiner points kept as codes, and of the edges of their tree kept as numbers.
 abbrev pub fileParts : List ℕ → ℕ → List ℕ → ℕ → List ℕ → List ℕ
@@ -12,10 +15,10 @@ fileParts pins n steiner m ends =
     ++ (each pointFour (take n pins) ++ (each pointFour (take m steiner) ++ each edgeTwo (take (n + m - 1) ends)))
 
 -- What is to be written stands in arrays, and there is room for it.
-pub record Kept (pins : List ℕ) (n : ℕ) (steiner : List ℕ) (m : ℕ) (ends out : List ℕ) : Type 0 where
-  pub pinsFew : n ≤ 64
-  pub steinerFew : m ≤ 62
+pub record PartsFit (pins : List ℕ) (n : ℕ) (steiner : List ℕ) (m : ℕ) (ends out : List ℕ) : Type 0 where
+  pub pinsFew : n ≤ maxPins
+  pub steinerFew : m ≤ maxSteiner
   pub inPins : n ≤ length pins
   pub inSteiner : m ≤ length steiner
   pub inEnds : n + m - 1 ≤ length ends
-  pub room : 30 + 4 * n + 4 * m + 2 * (n + m - 1) ≤ length out
+  pub room : headerSize + 4 * n + 4 * m + 2 * (n + m - 1) ≤ length out

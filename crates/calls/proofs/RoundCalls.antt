@@ -1,10 +1,5 @@
 -- The round and the run to the end as calls.
 use mathlib.Core.Path.{_≡_, refl, ap, _∙_}
-use Prim.Native.Nat.{ℕ}
-use lib.IntN.{ℤ}
-use mir.Syntax.{w32}
-use mir.Val.{SFits, toZ, ofZ}
-use mir.ValLaws.{toZ-ofZ}
 use Rattle.model.specs.Round.{RoundAnswer, finished, tap, round}
 use Rattle.model.specs.Call as call
 use Rattle.working.specs.declared.Working.{Working}
@@ -13,12 +8,8 @@ use Rattle.rounds.specs.declared.Rounded.{Rounded}
 use Rattle.rounds.specs.declared.Ended.{Ended}
 use Rattle.rounds.specs.Rounds.{stepOf, RoundOf, FinishOf}
 use Rattle.calls.specs.declared.Reply.{Reply}
-use Rattle.calls.specs.declared.Reply.the-variants.{Tap, Rounds}
+use Rattle.calls.specs.declared.Reply.the-variants.{Rounds}
 use Rattle.calls.specs.Changes.{replyOf, stepReply, ChangedBy}
-
--- A new Steiner point, read back from its bits.
-pub read-tap : (x y : ℤ) (fall : ℕ) → SFits w32 x → SFits w32 y → Tap (toZ w32 (ofZ w32 x)) (toZ w32 (ofZ w32 y)) fall ≡ Tap x y fall
-read-tap x y fall f g i = Tap (toZ-ofZ w32 x f i) (toZ-ofZ w32 y g i) fall
 
 -- The reply to what a round did is the model's.
 step-reply : (a : RoundAnswer) → stepReply (stepOf a) ≡ replyOf (call.answered a)

@@ -14,7 +14,7 @@ use Rattle.deck.specs.declared.Outcome.{Outcome}
 use Rattle.deck.specs.declared.check.Checked.{Checked}
 use Rattle.deck.specs.Check.{Checks}
 use Rattle.deck.specs.Form.{deckOf, stateOf, Sound, sound}
-use Rattle.deck.specs.Calls.{answer, refusal, called, outcomeOf}
+use Rattle.deck.specs.Calls.{answer, refusedOutcome, called, outcomeOf}
 use Rattle.arrays.proofs.Test.{of-true}
 use Rattle.deck.proofs.Form.{sound-is}
 
@@ -30,17 +30,17 @@ pub checked-valid : (d : Deck) (r : Checked) → Checks (sound d) (d .points) r 
 checked-valid d r c e = let k = checked-sound d r c e in (k .1, subst⁻¹ Valid (k .2) (k .0 .valid))
 
 -- A call by whether the deck is sound.
-pub called-unsound : (d : Deck) (c : call.Call) → sound d ≡ false → refusal d 11 ≡ called d c
+pub called-unsound : (d : Deck) (c : call.Call) → sound d ≡ false → refusedOutcome d 11 ≡ called d c
 unfolding called
-called-unsound d c e = ap (λ (b : Bool). if b (λ _. answer (call.step (stateOf d) c)) (λ _. refusal d 11)) (sym e)
+called-unsound d c e = ap (λ (b : Bool). if b (λ _. answer (call.step (stateOf d) c)) (λ _. refusedOutcome d 11)) (sym e)
 
 pub called-sound : (d : Deck) (c : call.Call) → sound d ≡ true → answer (call.step (stateOf d) c) ≡ called d c
 unfolding called
-called-sound d c e = ap (λ (b : Bool). if b (λ _. answer (call.step (stateOf d) c)) (λ _. refusal d 11)) (sym e)
+called-sound d c e = ap (λ (b : Bool). if b (λ _. answer (call.step (stateOf d) c)) (λ _. refusedOutcome d 11)) (sym e)
 
 -- Every method that changes a deck: the check failed, or the call was made on the working form.
 module _ (d : Deck) (r : Checked) (k : Checks (sound d) (d .points) r) (c : call.Call) (o : Outcome) where
-  pub refused-by : r .ok ≡ false → o ≡ refusal d 11 → o ≡ called d c
+  pub refused-by : r .ok ≡ false → o ≡ refusedOutcome d 11 → o ≡ called d c
   refused-by e is = is ∙ called-unsound d c (sym (k .ok) ∙ e)
 
   pub called-by : r .ok ≡ true → (t : Changed) → ChangedBy (r .working) c t → o ≡ outcomeOf t → o ≡ called d c

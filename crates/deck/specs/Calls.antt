@@ -19,9 +19,9 @@ abbrev pub outcomeOf : Changed → Outcome
 outcomeOf c = record { next = deckOf (work.stateOf (c .working)); reply = c .reply }
 
 -- A refusal hands back the deck unchanged.
-abbrev pub refusal : Deck → ℕ → Outcome
-refusal d n = record { next = d; reply = Refused n }
+abbrev pub refusedOutcome : Deck → ℕ → Outcome
+refusedOutcome d n = record { next = d; reply = Refused n }
 
 -- A call on any deck at all: refused by 11 where it is not sound, else what the model says of its state.
 unfoldable pub called : Deck → call.Call → Outcome
-called d c = if (sound d) (λ _. answer (call.step (stateOf d) c)) (λ _. refusal d 11)
+called d c = if (sound d) (λ _. answer (call.step (stateOf d) c)) (λ _. refusedOutcome d 11)

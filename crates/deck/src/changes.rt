@@ -8,11 +8,11 @@ use calls::Reply;
 ghost use mathlib.Core.Path.{_≡_};
 ghost use Rattle.model.specs.Call as call;
 ghost use Rattle.working.specs.InOrder as work;
-ghost use Rattle.deck.specs.Calls.{outcomeOf, refusal, called};
+ghost use Rattle.deck.specs.Calls.{outcomeOf, refusedOutcome, called};
 
 // Refusal 11: the deck is handed back unchanged.
 fn refuse(d: Deck) -> Outcome
-    ensures { λ r. ⌜ r ≡ refusal d 11 ⌝ }
+    ensures { λ r. ⌜ r ≡ refusedOutcome d 11 ⌝ }
 {
     Outcome {
         next: d,

@@ -11,9 +11,9 @@ use Rattle.arrays.specs.Test.{if}
 use Rattle.arrays.proofs.Test.{and-parts}
 use Rattle.model.specs.Refusal.{check, firstFailed}
 use Rattle.model.specs.State.{maxPins, placed}
-use Rattle.model.specs.File.{Read, deck, refusal, readBy, readFile, offset, size, headed, laidOut, whole, shown, showsDeck}
+use Rattle.model.specs.File.{Read, deck, refusal, readBy, readFile, offset, size, headed, laidOut, whole, fileState, holdsDeck}
 use Rattle.sections.specs.Layout.{Sections}
-use Rattle.deckfile.specs.Reading.{showing}
+use Rattle.deckfile.specs.Reading.{lastAnswer}
 use Rattle.sections.proofs.codes.Placed.{pins-count}
 
 -- What a test answered, by its definition.
@@ -56,7 +56,7 @@ module _ (b : List ℕ) where
   -- The six checks, as tests in turn.
   answer : Bool → Bool → Bool → Bool → Bool → Bool → Read
   answer head layout wholes few points shows =
-      readBy (shown b)
+      readBy (fileState b)
       (firstFailed
       (check 1 (λ _. head)
       ∷ check 2 (λ _. layout)
@@ -66,10 +66,10 @@ module _ (b : List ℕ) where
       ∷ check 6 (λ _. shows)
       ∷ []))
 
-  by-checks : {x₁ x₂ x₃ x₄ x₅ : Bool} → headed b ≡ x₁ → laidOut b ≡ x₂ → whole b ≡ x₃ → leb (length (shown b .pins)) maxPins ≡ x₄ → placed (shown b) ≡ x₅
-      → answer x₁ x₂ x₃ x₄ x₅ (showsDeck b (shown b)) ≡ readFile b
+  by-checks : {x₁ x₂ x₃ x₄ x₅ : Bool} → headed b ≡ x₁ → laidOut b ≡ x₂ → whole b ≡ x₃ → leb (length (fileState b .pins)) maxPins ≡ x₄ → placed (fileState b) ≡ x₅
+      → answer x₁ x₂ x₃ x₄ x₅ (holdsDeck b (fileState b)) ≡ readFile b
   unfolding answer readFile
-  by-checks e₁ e₂ e₃ e₄ e₅ = sym (λ i. answer (e₁ i) (e₂ i) (e₃ i) (e₄ i) (e₅ i) (showsDeck b (shown b)))
+  by-checks e₁ e₂ e₃ e₄ e₅ = sym (λ i. answer (e₁ i) (e₂ i) (e₃ i) (e₄ i) (e₅ i) (holdsDeck b (fileState b)))
 
   pub refused-1 : headed b ≡ false → refusal 1 ≡ readFile b
   unfolding answer readBy firstFailed
@@ -84,28 +84,28 @@ module _ (b : List ℕ) where
   refused-3 h l e = by-checks h l e refl refl
 
   module _ (h : headed b ≡ true) (l : laidOut b ≡ true) (w : whole b ≡ true) where
-    counted : length (shown b .pins) ≡ size b 0 / 4
+    counted : length (fileState b .pins) ≡ size b 0 / 4
     counted = pins-count b (sections-of h l w)
 
     pub refused-4 : (u : ℕ) → u ≡ size b 0 → 64 < u / 4 → refusal 4 ≡ readFile b
     unfolding answer readBy firstFailed
-    refused-4 u e k = by-checks h l w (lt-leb (length (shown b .pins)) 64 (omega (arith, counted))) refl
+    refused-4 u e k = by-checks h l w (lt-leb (length (fileState b .pins)) 64 (omega (arith, counted))) refl
 
     module _ (u : ℕ) (e : u ≡ size b 0) (k : u / 4 ≤ 64) where
-      few : leb (length (shown b .pins)) 64 ≡ true
-      few = le-leb (length (shown b .pins)) 64 (omega (arith, counted))
+      few : leb (length (fileState b .pins)) 64 ≡ true
+      few = le-leb (length (fileState b .pins)) 64 (omega (arith, counted))
 
       pub few-pins : size b 0 ≤ 256
       few-pins = omega (arith, sections-of h l w .whole₀)
 
-      pub refused-5 : placed (shown b) ≡ false → refusal 5 ≡ readFile b
+      pub refused-5 : placed (fileState b) ≡ false → refusal 5 ≡ readFile b
       unfolding answer readBy firstFailed
       refused-5 f = by-checks h l w few f
 
-      pub all-passed : placed (shown b) ≡ true → showing b ≡ readFile b
-      unfolding answer readBy firstFailed showing
-      all-passed f = last (showsDeck b (shown b)) ∙ by-checks h l w few f
+      pub all-passed : placed (fileState b) ≡ true → lastAnswer b ≡ readFile b
+      unfolding answer readBy firstFailed lastAnswer
+      all-passed f = last (holdsDeck b (fileState b)) ∙ by-checks h l w few f
         where
-          last : (t : Bool) → if t (λ _. deck (shown b)) (λ _. refusal 6) ≡ answer true true true true true t
+          last : (t : Bool) → if t (λ _. deck (fileState b)) (λ _. refusal 6) ≡ answer true true true true true t
           last true = refl
           last false = refl

@@ -26,51 +26,51 @@ use Rattle.calls.specs.declared.Reply.the-variants as reply
 use Rattle.deck.specs.Form.{deckOf, stateOf, Sound, sound}
 use Rattle.deck.proofs.Form.{state-deck, deck-sound, sound-is, sound-arranged}
 use Rattle.deckfile.specs.declared.Written.the-variants.{Refused, Length}
-use Rattle.deckfile.specs.Reading.{outcomeOf, reading, accepting}
-use Rattle.deckfile.specs.Writing.{written, left}
+use Rattle.deckfile.specs.Reading.{readOutcome, reading, acceptedDeck}
+use Rattle.deckfile.specs.Writing.{written, bufferAfter}
 use Rattle.deckfile.specs.RoundTrip.{ReadSound, SoundFits, WrittenRead, FullWrittenBack, PlainWrittenFull}
 use Rattle.deckfile.proofs.Runs.{edge-count}
 use Rattle.deckfile.proofs.Stored.{write-fits}
 
 pub read-sound : ReadSound
-unfolding outcomeOf
+unfolding readOutcome
 read-sound b = go (readFile b) refl
   where
-    go : (r : Read) → readFile b ≡ r → Sound (outcomeOf r .next)
+    go : (r : Read) → readFile b ≡ r → Sound (readOutcome r .next)
     go (deck s) e = deck-sound s (file-valid b s e)
     go (refusal n) e = deck-sound empty empty-valid
 
 -- A deck read is that of the state read.
-pub record Shown (b : List ℕ) (d : Deck) : Type 0 where
+pub record ReadFrom (b : List ℕ) (d : Deck) : Type 0 where
   pub state : State
   pub read : readFile b ≡ deck state
   pub is : d ≡ deckOf state
 
-pub shown-of : (b : List ℕ) (d : Deck) → reading b ≡ accepting d → Shown b d
-unfolding outcomeOf
-shown-of b d e = go (readFile b) refl e
+pub read-from : (b : List ℕ) (d : Deck) → reading b ≡ acceptedDeck d → ReadFrom b d
+unfolding readOutcome
+read-from b d e = go (readFile b) refl e
   where
-    go : (r : Read) → readFile b ≡ r → outcomeOf r ≡ accepting d → Shown b d
+    go : (r : Read) → readFile b ≡ r → readOutcome r ≡ acceptedDeck d → ReadFrom b d
     go (deck s) f g = record { state = s; read = f; is = sym (ap (λ (o : Outcome). o .next) g) }
     go (refusal n) f g =
         let q : reply.Refused n ≡ reply.Done = ap (λ (o : Outcome). o .reply) g in
         let z : _≡_ {A = ℕ} 0 1 = cc in
         absurd (omega arith)
 
-shown-sound : (b : List ℕ) (d : Deck) → Shown b d → Sound d
-shown-sound b d h = subst⁻¹ Sound (h .is) (deck-sound (h .state) (file-valid b (h .state) (h .read)))
+from-sound : (b : List ℕ) (d : Deck) → ReadFrom b d → Sound d
+from-sound b d h = subst⁻¹ Sound (h .is) (deck-sound (h .state) (file-valid b (h .state) (h .read)))
 
-shown-state : (b : List ℕ) (d : Deck) (h : Shown b d) → stateOf d ≡ h .state
-shown-state b d h = ap stateOf (h .is) ∙ state-deck (h .state) (file-valid b (h .state) (h .read) .placed)
+from-state : (b : List ℕ) (d : Deck) (h : ReadFrom b d) → stateOf d ≡ h .state
+from-state b d h = ap stateOf (h .is) ∙ state-deck (h .state) (file-valid b (h .state) (h .read) .placed)
 
 -- A deck that was written is sound, and its file stands at the front of the buffer.
 pub record Wrote (d : Deck) (l : List ℕ) (n : ℕ) : Type 0 where
   pub sound : Sound d
   pub count : n ≡ length (fileOf (stateOf d))
-  pub front : left d l ≡ fileOf (stateOf d) ++ drop (length (fileOf (stateOf d))) l
+  pub front : bufferAfter d l ≡ fileOf (stateOf d) ++ drop (length (fileOf (stateOf d))) l
 
 pub wrote : (d : Deck) (l : List ℕ) (n : ℕ) → written d l ≡ Length n → Wrote d l n
-unfolding written left
+unfolding written bufferAfter
 wrote d l n e = go (sound d) refl (leb (length (fileOf (stateOf d))) (length l)) refl e
   where
     go : (x : Bool) → sound d ≡ x → (y : Bool) → leb (length (fileOf (stateOf d))) (length l) ≡ y
@@ -81,7 +81,7 @@ wrote d l n e = go (sound d) refl (leb (length (fileOf (stateOf d))) (length l))
     go true p false q r = absurd (let z : _≡_ {A = ℕ} 0 1 = cc in omega arith)
     go false p y q r = absurd (let z : _≡_ {A = ℕ} 0 1 = cc in omega arith)
 
-pub wrote-file : (d : Deck) (l : List ℕ) (n : ℕ) → Wrote d l n → take n (left d l) ≡ fileOf (stateOf d)
+pub wrote-file : (d : Deck) (l : List ℕ) (n : ℕ) → Wrote d l n → take n (bufferAfter d l) ≡ fileOf (stateOf d)
 wrote-file d l n w =
     ap (take n) (w .front) ∙ take-at (fileOf (stateOf d)) (drop (length (fileOf (stateOf d))) l) n (sym (w .count))
 
@@ -96,18 +96,18 @@ sound-fits d l s h =
     }
 
 pub written-then-read : WrittenRead
-unfolding outcomeOf
+unfolding readOutcome
 written-then-read d l n e =
     let w = wrote d l n e in
-    ap reading (wrote-file d l n w) ∙ ap outcomeOf (written-read (stateOf d) (w .sound .valid)) ∙ ap accepting (sym (w .sound .same))
+    ap reading (wrote-file d l n w) ∙ ap readOutcome (written-read (stateOf d) (w .sound .valid)) ∙ ap acceptedDeck (sym (w .sound .same))
 
 pub full-back : FullWrittenBack
 full-back b d l h e full k =
-    let v = shown-of b d e in
-    let s = shown-sound b d v in
+    let v = read-from b d e in
+    let s = from-sound b d v in
     let same : fileOf (stateOf d) ≡ b =
-    ap fileOf (shown-state b d v)
-    ∙ full-written-back b (v .state) h (v .read) (⊎-elim inl (λ m. inr (subst (λ (z : State). length (z .pins) ≤ 1) (shown-state b d v) (subst (λ (z : ℕ). z ≤ 1) (sym (pins-count (d .points) (sound-arranged d s))) m))) full) in
+    ap fileOf (from-state b d v)
+    ∙ full-written-back b (v .state) h (v .read) (⊎-elim inl (λ m. inr (subst (λ (z : State). length (z .pins) ≤ 1) (from-state b d v) (subst (λ (z : ℕ). z ≤ 1) (sym (pins-count (d .points) (sound-arranged d s))) m))) full) in
     let w = write-fits d l s (subst⁻¹ (λ (f : List ℕ). length f ≤ length l) same k) in
     (w .0 ∙ ap (λ (f : List ℕ). Length (length f)) same, w .1 ∙ ap (λ (f : List ℕ). f ++ drop (length f) l) same)
 

@@ -24,7 +24,8 @@ use Rattle.working.specs.declared.Working.{Working}
 use Rattle.working.specs.InOrder.{InOrder, stateOf}
 use Rattle.working.specs.Edges.{edgeNumbers, edgeRow}
 use Rattle.working.proofs.edges.Numbers.{listed-length}
-use Rattle.sections.specs.Bytes.{each, edgeBytes}
+use Rattle.arrays.specs.Paste.{each}
+use Rattle.sections.specs.Bytes.{edgeBytes}
 
 pub edge-count : (s : State) → Valid s → length (listed s) ≡ length (s .pins) + length (s .steiner) - 1
 edge-count s v =

@@ -16,8 +16,9 @@ use Rattle.deck.specs.Form.{stateOf, Sound, sound}
 use Rattle.deck.proofs.Form.{sound-is}
 use Rattle.deckfile.specs.declared.Written.{Written}
 use Rattle.deckfile.specs.declared.Written.the-variants.{Refused, Length}
-use Rattle.sections.specs.Bytes.{over}
-use Rattle.deckfile.specs.Writing.{storedAnswer, storedBuffer, written, left}
+use Rattle.arrays.specs.Paste.{Pasted}
+use Rattle.arrays.proofs.paste.Parts.{front-is}
+use Rattle.deckfile.specs.Writing.{storedAnswer, storedBuffer, written, bufferAfter}
 
 -- The file of a state, and a buffer that is too short or not.
 module _ (s : State) (l : List ℕ) where
@@ -36,38 +37,34 @@ module _ (s : State) (l : List ℕ) where
       → (Length (length (fileOf s)) ≡ storedAnswer s l) × (fileOf s ++ drop (length (fileOf s)) l ≡ storedBuffer s l)
   stored-fits h = by-room (le-leb (length (fileOf s)) (length l) h)
 
-  pub stored-done : (n : ℕ) → n ≡ length (fileOf s) → n ≤ length l → (out : List ℕ) → out ≡ over 0 (fileOf s) l
+  pub stored-done : (n : ℕ) → n ≡ length (fileOf s) → n ≤ length l → {out : List ℕ} {r : ℕ} → Pasted (fileOf s) l out 0 r
       → (Length n ≡ storedAnswer s l) × (out ≡ storedBuffer s l)
-  unfolding over
-  stored-done n f h out g =
-      let r = stored-fits (omega arith) in
-      let z : 0 + length (fileOf s) ≡ length (fileOf s) = omega arith in
-      (ap Length f ∙ r .0, g ∙ ap (λ (k : ℕ). fileOf s ++ drop k l) z ∙ r .1)
+  stored-done n f h g = let r = stored-fits (omega arith) in (ap Length f ∙ r .0, front-is g ∙ r .1)
 
 -- A deck: refused where it is not sound, else stored.
 module _ (d : Deck) (l : List ℕ) where
   by-sound : {t : Bool} → sound d ≡ t
-      → (if t (λ _. storedAnswer (stateOf d) l) (λ _. Refused 11) ≡ written d l) × (if t (λ _. storedBuffer (stateOf d) l) (λ _. l) ≡ left d l)
-  unfolding written left
+      → (if t (λ _. storedAnswer (stateOf d) l) (λ _. Refused 11) ≡ written d l) × (if t (λ _. storedBuffer (stateOf d) l) (λ _. l) ≡ bufferAfter d l)
+  unfolding written bufferAfter
   by-sound e = (
     ap (λ (t : Bool). if t (λ _. storedAnswer (stateOf d) l) (λ _. Refused 11)) (sym e),
     ap (λ (t : Bool). if t (λ _. storedBuffer (stateOf d) l) (λ _. l)) (sym e),
   )
 
-  pub write-unsound : sound d ≡ false → (Refused 11 ≡ written d l) × (l ≡ left d l)
+  pub write-unsound : sound d ≡ false → (Refused 11 ≡ written d l) × (l ≡ bufferAfter d l)
   write-unsound e = by-sound e
 
   pub write-stored : sound d ≡ true → {s : State} → s ≡ stateOf d → {r : Written} {out : List ℕ}
-      → (r ≡ storedAnswer s l) × (out ≡ storedBuffer s l) → (r ≡ written d l) × (out ≡ left d l)
+      → (r ≡ storedAnswer s l) × (out ≡ storedBuffer s l) → (r ≡ written d l) × (out ≡ bufferAfter d l)
   write-stored e q h =
       (h .0 ∙ ap (λ (z : State). storedAnswer z l) q ∙ by-sound e .0, h .1 ∙ ap (λ (z : State). storedBuffer z l) q ∙ by-sound e .1)
 
-  pub write-short : sound d ≡ true → length l < length (fileOf (stateOf d)) → (Refused 12 ≡ written d l) × (l ≡ left d l)
+  pub write-short : sound d ≡ true → length l < length (fileOf (stateOf d)) → (Refused 12 ≡ written d l) × (l ≡ bufferAfter d l)
   write-short e h = let r = stored-short (stateOf d) l (length (fileOf (stateOf d))) refl h in (r .0 ∙ by-sound e .0, r .1 ∙ by-sound e .1)
 
 -- A sound deck and a buffer that has room for its file.
 pub write-fits : (d : Deck) (l : List ℕ) → Sound d → length (fileOf (stateOf d)) ≤ length l
-    → (written d l ≡ Length (length (fileOf (stateOf d)))) × (left d l ≡ fileOf (stateOf d) ++ drop (length (fileOf (stateOf d))) l)
+    → (written d l ≡ Length (length (fileOf (stateOf d)))) × (bufferAfter d l ≡ fileOf (stateOf d) ++ drop (length (fileOf (stateOf d))) l)
 write-fits d l s h =
     let e = true-of (sound d) (sound-is d .1 s) in
     let r = stored-fits (stateOf d) l h in

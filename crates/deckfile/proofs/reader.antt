@@ -1,2 +1,2 @@
 -- Check 6.
-pub mod Shown
+pub mod LastCheck

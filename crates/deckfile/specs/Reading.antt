@@ -5,7 +5,7 @@ use Prim.Native.Nat.{ℕ}
 use lib.Dec.{T}
 use Rattle.arrays.specs.Test.{if}
 use Rattle.model.specs.State.{State, empty, valid}
-use Rattle.model.specs.File.{Read, deck, refusal, readFile, shown, showsDeck}
+use Rattle.model.specs.File.{Read, deck, refusal, readFile, fileState, holdsDeck}
 use Rattle.deck.specs.declared.Deck.{Deck}
 use Rattle.deck.specs.declared.check.Checked.{Checked}
 use Rattle.deck.specs.declared.Outcome.{Outcome}
@@ -17,20 +17,20 @@ use Rattle.calls.specs.declared.Reply.the-variants.{Done, Refused}
 use Rattle.deck.specs.Form.{deckOf}
 
 -- "reading hands back an empty deck" where it refuses.
-abbrev pub refusing : ℕ → Outcome
-refusing n = record { next = deckOf empty; reply = Refused n }
+abbrev pub refusedFile : ℕ → Outcome
+refusedFile n = record { next = deckOf empty; reply = Refused n }
 
 -- And the deck read where it does not.
-abbrev pub accepting : Deck → Outcome
-accepting d = record { next = d; reply = Done }
+abbrev pub acceptedDeck : Deck → Outcome
+acceptedDeck d = record { next = d; reply = Done }
 
-unfoldable pub outcomeOf : Read → Outcome
-outcomeOf (deck s) = accepting (deckOf s)
-outcomeOf (refusal n) = refusing n
+unfoldable pub readOutcome : Read → Outcome
+readOutcome (deck s) = acceptedDeck (deckOf s)
+readOutcome (refusal n) = refusedFile n
 
 -- What reading a list of bytes answers.
 abbrev pub reading : List ℕ → Outcome
-reading b = outcomeOf (readFile b)
+reading b = readOutcome (readFile b)
 
 -- The state that reading hands back, and its reply.
 unfoldable pub stateRead : Read → State
@@ -54,5 +54,5 @@ pub record WorkingFor (s : State) (r : Checked) : Type 0 where
   pub state : T (valid s) → work.stateOf (r .working) ≡ s
 
 -- Check 6: what is answered after all others passed.
-unfoldable pub showing : List ℕ → Read
-showing b = if (showsDeck b (shown b)) (λ _. deck (shown b)) (λ _. refusal 6)
+unfoldable pub lastAnswer : List ℕ → Read
+lastAnswer b = if (holdsDeck b (fileState b)) (λ _. deck (fileState b)) (λ _. refusal 6)

@@ -1,4 +1,4 @@
--- The claims on files as a whole, on what `read` answers (`reading`) and what `write` answers and leaves (`written`, `left`).
+-- The claims on files as a whole, on what `read` answers (`reading`) and what `write` answers and leaves (`written`, `bufferAfter`).
 use mathlib.Core.Path.{_≡_}
 use mathlib.Core.Logic.{_⊎_}
 use mathlib.Core.Bool.{not}
@@ -10,8 +10,8 @@ use Rattle.model.specs.File.{plain}
 use Rattle.deck.specs.declared.Deck.{Deck}
 use Rattle.deck.specs.Form.{Sound}
 use Rattle.deckfile.specs.declared.Written.the-variants.{Length}
-use Rattle.deckfile.specs.Reading.{reading, accepting}
-use Rattle.deckfile.specs.Writing.{written, left}
+use Rattle.deckfile.specs.Reading.{reading, acceptedDeck}
+use Rattle.deckfile.specs.Writing.{written, bufferAfter}
 
 -- The deck that reading hands back is sound, whatever the bytes are.
 abbrev pub ReadSound : Type 0
@@ -30,16 +30,16 @@ SoundFits = (d : Deck) (l : List ℕ) → Sound d → 784 ≤ length l → Fits 
 
 -- What was written, read again, is the same deck.
 abbrev pub WrittenRead : Type 0
-WrittenRead = (d : Deck) (l : List ℕ) (n : ℕ) → written d l ≡ Length n → reading (take n (left d l)) ≡ accepting d
+WrittenRead = (d : Deck) (l : List ℕ) (n : ℕ) → written d l ≡ Length n → reading (take n (bufferAfter d l)) ≡ acceptedDeck d
 
 -- A full file read is written back the same, byte for byte; so is one of 0 or 1 pin, "where full and plain coincide".
 abbrev pub FullWrittenBack : Type 0
 FullWrittenBack =
-    (b : List ℕ) (d : Deck) (l : List ℕ) → ((x : ℕ) → List·Memᴰ x b → x < 256) → reading b ≡ accepting d
-    → T (not (plain b)) ⊎ (d .points .npins ≤ 1) → length b ≤ length l → (written d l ≡ Length (length b)) × (left d l ≡ b ++ drop (length b) l)
+    (b : List ℕ) (d : Deck) (l : List ℕ) → ((x : ℕ) → List·Memᴰ x b → x < 256) → reading b ≡ acceptedDeck d
+    → T (not (plain b)) ⊎ (d .points .npins ≤ 1) → length b ≤ length l → (written d l ≡ Length (length b)) × (bufferAfter d l ≡ b ++ drop (length b) l)
 
 -- Any other file read, which is plain, is written full: "The writer writes every run".
 abbrev pub PlainWrittenFull : Type 0
 PlainWrittenFull =
-    (b : List ℕ) (d : Deck) (l : List ℕ) (n : ℕ) → reading b ≡ accepting d → 2 ≤ d .points .npins → written d l ≡ Length n
-    → T (not (plain (take n (left d l))))
+    (b : List ℕ) (d : Deck) (l : List ℕ) (n : ℕ) → reading b ≡ acceptedDeck d → 2 ≤ d .points .npins → written d l ≡ Length n
+    → T (not (plain (take n (bufferAfter d l))))

@@ -28,5 +28,5 @@ storedBuffer s l = stored s l (λ _. l) (λ file. file ++ drop (length file) l)
 unfoldable pub written : Deck → List ℕ → Written
 written d l = if (sound d) (λ _. storedAnswer (stateOf d) l) (λ _. Refused 11)
 
-unfoldable pub left : Deck → List ℕ → List ℕ
-left d l = if (sound d) (λ _. storedBuffer (stateOf d) l) (λ _. l)
+unfoldable pub bufferAfter : Deck → List ℕ → List ℕ
+bufferAfter d l = if (sound d) (λ _. storedBuffer (stateOf d) l) (λ _. l)

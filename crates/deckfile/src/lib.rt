@@ -4,18 +4,21 @@ pub mod answer;
 mod reader;
 mod writer;
 
+use arrays::number::number4;
 use calls::Changed;
 use deck::Deck;
 use deck::Outcome;
 use deck::changes::outcome_of;
 use deck::check::check;
+use points::MAX_PINS;
 use reader::refuse;
-use reader::working_shown;
+use reader::working_of_file;
 use sections::codes::decode_points;
+use sections::header::PINS_LENGTH;
+use sections::header::POINT_SIZE;
 use sections::header::is_headed;
 use sections::header::is_laid_out;
 use sections::header::is_whole;
-use sections::number::number4;
 use working::Working;
 use writer::file_length;
 use writer::put_file;
@@ -24,7 +27,7 @@ ghost use Rattle.model.specs.State.{Valid};
 ghost use Rattle.model.specs.File.{readFile};
 ghost use Rattle.working.specs.InOrder.{InOrder, stateOf};
 ghost use Rattle.deckfile.specs.Reading.{reading, ReadTo};
-ghost use Rattle.deckfile.specs.Writing.{storedAnswer, storedBuffer, written, left};
+ghost use Rattle.deckfile.specs.Writing.{storedAnswer, storedBuffer, written, bufferAfter};
 
 // What writing answers: a refusal by its number, or the length of the file.
 pub enum Written {
@@ -45,14 +48,14 @@ pub fn read_working(file: &[u8]) -> Changed
     if !is_whole(file) {
         return refuse(3);
     }
-    if 64 < number4(file, 10) / 4 {
+    if MAX_PINS < number4(file, PINS_LENGTH) / POINT_SIZE {
         return refuse(4);
     }
     let found = decode_points(file);
     if !found.ok {
         return refuse(5);
     }
-    working_shown(file, found)
+    working_of_file(file, found)
 }
 
 // Reads a file into a deck.
@@ -80,7 +83,7 @@ pub fn write_working(w: Working, out: &mut [u8]) -> Written
 // Writes the file of a deck to the front of a buffer. Refusals in the order 11, 12; a refusal keeps every byte.
 pub fn write(d: Deck, out: &mut [u8]) -> Written
     ensures { λ r. ⌜ r ≡ written d (now (out .entry)) ⌝ }
-    ensures { λ _. ⌜ now (out .exit) ≡ left d (now (out .entry)) ⌝ }
+    ensures { λ _. ⌜ now (out .exit) ≡ bufferAfter d (now (out .entry)) ⌝ }
 {
     let c = check(d);
     if !c.ok {

@@ -1,27 +1,38 @@
 // The working form that a file shows: check 6.
+use arrays::number::number4;
 use arrays::paste::put_numbers;
 use calls::Changed;
 use calls::Reply;
 use deck::check::Checked;
 use deck::check::working_of;
+use points::MAX_STEINER;
 use points::PLACES;
 use points::Points;
 use sections::codes::FilePoints;
 use sections::edges::same_edges;
+use sections::header::EDGE_SIZE;
+use sections::header::EDGES_LENGTH;
+use sections::header::EDGES_OFFSET;
+use sections::header::PINS_LENGTH;
+use sections::header::POINT_SIZE;
+use sections::header::STEINER_LENGTH;
 use sections::header::is_plain;
-use sections::number::number4;
 use working::Working;
 use working::edges::edge_numbers;
 ghost use mathlib.Core.Path.{_≡_};
-ghost use Prim.Native.Nat.{_≤_};
+ghost use Prim.Native.Nat.{_*_, _≤_};
 ghost use lib.Dec.{T};
 ghost use Rattle.arrays.specs.Same.{sameList};
 ghost use Rattle.model.specs.State.{Valid, placed};
-ghost use Rattle.model.specs.File.{deck, refusal, size, section, shown, runSection};
+ghost use Rattle.model.specs.File.{deck, refusal, size, section, fileState, runSection};
+ghost use Rattle.points.specs.Coded.{maxSteiner};
 ghost use Rattle.working.specs.InOrder.{InOrder, stateOf};
 ghost use Rattle.sections.specs.Layout.{Sections, FewPins};
 ghost use Rattle.sections.specs.Codes.{Decodes};
-ghost use Rattle.deckfile.specs.Reading.{ReadTo, WorkingFor, showing};
+ghost use Rattle.deckfile.specs.Reading.{ReadTo, WorkingFor, lastAnswer};
+
+// The bytes that the most Steiner points of a deck take.
+const STEINER_ROOM: usize = MAX_STEINER * POINT_SIZE;
 
 // A refusal: reading hands back an empty deck.
 pub fn refuse(number: u8) -> Changed
@@ -43,16 +54,16 @@ fn accept(w: Working) -> Changed
     }
 }
 
-// The working form of the points shown, if they are those of a valid state. A valid state has at most 62 Steiner points.
+// The working form of the points shown, if they are those of a valid state. A valid state has at most MAX_STEINER Steiner points.
 fn points_working(b: &[u8], found: FilePoints) -> Checked
     requires { ⌜ Sections (now b) ⌝ }
     requires { ⌜ Decodes (now b) found ⌝ }
-    requires { ⌜ T (placed (shown (now b))) ⌝ }
-    requires { ⌜ size (now b) 1 ≤ 248 ⌝ }
-    ensures { λ r. ⌜ WorkingFor (shown (now (b .entry))) r ⌝ }
+    requires { ⌜ T (placed (fileState (now b))) ⌝ }
+    requires { ⌜ size (now b) 1 ≤ 4 * maxSteiner ⌝ }
+    ensures { λ r. ⌜ WorkingFor (fileState (now (b .entry))) r ⌝ }
 {
-    let n = number4(b, 10) / 4;
-    let m = number4(b, 18) / 4;
+    let n = number4(b, PINS_LENGTH) / POINT_SIZE;
+    let m = number4(b, STEINER_LENGTH) / POINT_SIZE;
     let pins = found.pins;
     let all = found.steiner;
     let mut steiner = [0u64; PLACES];
@@ -72,22 +83,22 @@ fn has_edges(b: &[u8], w: Working) -> bool
     requires { ⌜ Valid (stateOf w) ⌝ }
     ensures { λ r. ⌜ r ≡ sameList (section (now (b .entry)) 2) (runSection (stateOf w)) ⌝ }
 {
-    if number4(b, 26) != 2 * w.nkeys {
+    if number4(b, EDGES_LENGTH) != EDGE_SIZE * w.nkeys {
         return false;
     }
     let ends = edge_numbers(w);
-    same_edges(b, number4(b, 22), &ends, w.nkeys)
+    same_edges(b, number4(b, EDGES_OFFSET), &ends, w.nkeys)
 }
 
 // Check 6: a file that is not plain has the edges of its deck, and every file shows the points of a valid state.
-pub fn working_shown(b: &[u8], found: FilePoints) -> Changed
+pub fn working_of_file(b: &[u8], found: FilePoints) -> Changed
     requires { ⌜ Sections (now b) ⌝ }
     requires { ⌜ FewPins (now b) ⌝ }
     requires { ⌜ Decodes (now b) found ⌝ }
-    requires { ⌜ T (placed (shown (now b))) ⌝ }
-    ensures { λ r. ⌜ ReadTo (showing (now (b .entry))) r ⌝ }
+    requires { ⌜ T (placed (fileState (now b))) ⌝ }
+    ensures { λ r. ⌜ ReadTo (lastAnswer (now (b .entry))) r ⌝ }
 {
-    if 248 < number4(b, 18) {
+    if STEINER_ROOM < number4(b, STEINER_LENGTH) {
         return refuse(6);
     }
     let c = points_working(b, found);

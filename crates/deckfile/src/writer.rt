@@ -9,7 +9,7 @@ ghost use lib.ListN.{length};
 ghost use Rattle.model.specs.State.{Valid};
 ghost use Rattle.model.specs.File.{fileOf};
 ghost use Rattle.working.specs.InOrder.{InOrder, stateOf};
-ghost use Rattle.sections.specs.Bytes.{over};
+ghost use Rattle.arrays.specs.Paste.{Pasted};
 
 // How long the file is.
 pub fn file_length(w: Working) -> usize
@@ -20,12 +20,12 @@ pub fn file_length(w: Working) -> usize
     length_for(w.points.npins, w.points.nsteiner)
 }
 
-// Puts the file into a buffer that has room for it.
-pub fn put_file(w: Working, out: &mut [u8])
+// Puts the file into a buffer that has room for it, and returns its length.
+pub fn put_file(w: Working, out: &mut [u8]) -> usize
     requires { ⌜ InOrder w ⌝ }
     requires { ⌜ Valid (stateOf w) ⌝ }
     requires { ⌜ length (fileOf (stateOf w)) ≤ length (now out) ⌝ }
-    ensures { λ _. ⌜ now (out .exit) ≡ over 0 (fileOf (stateOf w)) (now (out .entry)) ⌝ }
+    ensures { λ r. ⌜ Pasted (fileOf (stateOf w)) (now (out .entry)) (now (out .exit)) 0 r ⌝ }
 {
     let pins = w.points.pins;
     let steiner = w.points.steiner;
@@ -37,5 +37,5 @@ pub fn put_file(w: Working, out: &mut [u8])
         w.points.nsteiner,
         &ends,
         out,
-    );
+    )
 }

@@ -2,12 +2,16 @@
 // `refused` and the number.
 mod text;
 
+use listing::LISTING_ROOM;
 use text::list_file;
 
+// One byte more than the longest file has, so that a longer one is seen.
+const FILE_ROOM: usize = 785;
+
 fn main() {
-    let mut file = [0u8; 785];
+    let mut file = [0u8; FILE_ROOM];
     let n = io::read_full(0, &mut file);
-    let mut out = [0u8; 8192];
+    let mut out = [0u8; LISTING_ROOM];
     let m = list_file(&file[..n], &mut out);
     io::write_all(1, &out[..m]);
 }

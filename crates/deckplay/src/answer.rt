@@ -4,6 +4,7 @@ use ascii::encode::join_lines;
 use deck::Deck;
 use deck::Outcome;
 use deckfile::Written;
+use listing::LISTING_ROOM;
 use plane::octants::NO_OCTANT;
 use questions::Answer;
 use replies::answer_line;
@@ -24,9 +25,7 @@ ghost use Rattle.replies.specs.Replies.{errorWord, answerText};
 ghost use Rattle.listing.specs.Whole.{deckText};
 ghost use Rattle.deckplay.specs.Play.{answerRoom, stays, changes, writeText, octantText, played, Plays};
 
-// Room for the listing of a deck, and for any answer: a listing's lines joined take three times as many bytes at most.
-const LISTING_ROOM: usize = 8192;
-
+// Room for any answer: the lines of a listing joined take three times as many bytes at most.
 pub const ANSWER_ROOM: usize = 3 * LISTING_ROOM;
 
 // Room for the file in a line: a byte takes two digits.

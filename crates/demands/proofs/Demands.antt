@@ -25,7 +25,7 @@ use Rattle.deck.proofs.Form.{deck-sound, sound-is}
 use Rattle.deck.proofs.Calls.{called-unsound, called-sound}
 use Rattle.deck.proofs.Questions.{asked-unsound, asked-sound}
 use Rattle.deck.proofs.Session.{deck-sessions}
-use Rattle.deckfile.specs.Reading.{outcomeOf, reading}
+use Rattle.deckfile.specs.Reading.{readOutcome, reading}
 use Rattle.deckfile.proofs.Stored.{write-unsound, write-short, write-fits}
 use Rattle.deckfile.proofs.RoundTrip.{written-then-read, full-back, plain-full}
 use Rattle.deckfile.proofs.answer.Entry.{answer-taken, answer-kept}
@@ -80,10 +80,10 @@ module _ (d : Deck) (s : Sound d) where
       (next-is c ∙ ap deckOf (r .0) ∙ sym (s .same), r .1)
 
 file-answer : (b : List ℕ) → FileAnswer (reading b)
-unfolding outcomeOf
+unfolding readOutcome
 file-answer b = go (readFile b) (read-possible b)
   where
-    go : (r : Read) → Possible r → FileAnswer (outcomeOf r)
+    go : (r : Read) → Possible r → FileAnswer (readOutcome r)
     go (deck s) (taken v) = inl (s, v, refl)
     go (refusing-file n) (refused h k) = inr (n, h, k, refl)
 
@@ -115,9 +115,9 @@ demand2 =
 
 -- Every start is one of the claim on decks.
 start-deck : {d : Deck} {s : State} → StartDeck d s → (model.StartState s) × (d ≡ deckOf s)
-unfolding outcomeOf
+unfolding readOutcome
 start-deck fresh = (model.fresh, refl)
-start-deck (file b e) = (model.file b e, ap (λ (r : Read). outcomeOf r .next) e)
+start-deck (file b e) = (model.file b e, ap (λ (r : Read). readOutcome r .next) e)
 
 pub demand3 : Demand3
 demand3 =

@@ -1,5 +1,5 @@
 -- The three demands, as claims on what the program's functions answer and leave by their contracts: `reading` (deckfile::read),
--- `written` and `left` (deckfile::write), `called` (each call on a deck), `asked` (each question), `answerNumber` and `answerBuffer`
+-- `written` and `bufferAfter` (deckfile::write), `called` (each call on a deck), `asked` (each question), `answerNumber` and `answerBuffer`
 -- (planner_plan and replay_calls). That every function ends, and touches nothing else, is part of what is proved of each.
 use mathlib.Core.Path.{_≡_}
 use mathlib.Core.Logic.{_⊎_}
@@ -17,12 +17,12 @@ use Rattle.calls.specs.declared.Reply.the-variants as reply
 use Rattle.questions.specs.declared.Answer.{Answer}
 use Rattle.questions.specs.declared.Answer.the-variants as question
 use Rattle.deck.specs.Form.{deckOf, stateOf, Sound}
-use Rattle.deck.specs.Calls.{answer, refusal, called}
+use Rattle.deck.specs.Calls.{answer, refusedOutcome, called}
 use Rattle.deck.specs.Questions.{asked}
 use Rattle.deck.specs.Session.{deckAfter, replies, reckoned, SessionDeck}
 use Rattle.deckfile.specs.declared.Written.the-variants as writing
-use Rattle.deckfile.specs.Reading.{reading, accepting, refusing}
-use Rattle.deckfile.specs.Writing.{written, left}
+use Rattle.deckfile.specs.Reading.{reading, acceptedDeck, refusedFile}
+use Rattle.deckfile.specs.Writing.{written, bufferAfter}
 use Rattle.deckfile.specs.RoundTrip.{WrittenRead, FullWrittenBack, PlainWrittenFull}
 use Rattle.deckfile.specs.Answer.{answerNumber, answerBuffer}
 use Rattle.planner.specs.Entry.{toEnd}
@@ -37,7 +37,7 @@ InCase s call.runToEnd n = ⊥
 
 -- What reading a file can answer: the deck of a valid state, or a number from 1 to 6 and an empty deck.
 abbrev pub FileAnswer : Outcome → Type 0
-FileAnswer o = ((s : State) × Valid s × (o ≡ accepting (deckOf s))) ⊎ ((n : ℕ) × (1 ≤ n) × (n ≤ 6) × (o ≡ refusing n))
+FileAnswer o = ((s : State) × Valid s × (o ≡ acceptedDeck (deckOf s))) ⊎ ((n : ℕ) × (1 ≤ n) × (n ≤ 6) × (o ≡ refusedFile n))
 
 -- Demand 1: every file and every call is taken, or turned down by a number of document 01, with the deck and each lent buffer
 -- left as document 01 says.
@@ -45,17 +45,17 @@ pub record Demand1 : Type 0 where
   -- any bytes
   pub file : (b : List ℕ) → FileAnswer (reading b)
   -- any deck that is not sound: 11 before all else, and the deck or the buffer as it was
-  pub unsoundCall : (d : Deck) (c : call.Call) → ¬ Sound d → called d c ≡ refusal d 11
+  pub unsoundCall : (d : Deck) (c : call.Call) → ¬ Sound d → called d c ≡ refusedOutcome d 11
   pub unsoundQuestion : (d : Deck) (f : State → Answer) → ¬ Sound d → asked d f ≡ question.Refused 11
-  pub unsoundWriting : (d : Deck) (l : List ℕ) → ¬ Sound d → (written d l ≡ writing.Refused 11) × (left d l ≡ l)
+  pub unsoundWriting : (d : Deck) (l : List ℕ) → ¬ Sound d → (written d l ≡ writing.Refused 11) × (bufferAfter d l ≡ l)
   -- any other: the next deck is sound, and a refused call hands back the deck unchanged
   pub nextSound : (d : Deck) → Sound d → (c : call.Call) → Sound (called d c .next)
   pub refusedCall : (d : Deck) → Sound d → (c : call.Call) (n : ℕ) → called d c .reply ≡ reply.Refused n
       → (called d c .next ≡ d) × InCase (stateOf d) c n
   -- any buffer: shorter than the file, it is refused by 12 and keeps every byte; else every byte past the file is kept
-  pub shortBuffer : (d : Deck) (l : List ℕ) → Sound d → length l < length (fileOf (stateOf d)) → (written d l ≡ writing.Refused 12) × (left d l ≡ l)
+  pub shortBuffer : (d : Deck) (l : List ℕ) → Sound d → length l < length (fileOf (stateOf d)) → (written d l ≡ writing.Refused 12) × (bufferAfter d l ≡ l)
   pub longBuffer : (d : Deck) (l : List ℕ) → Sound d → length (fileOf (stateOf d)) ≤ length l
-      → (written d l ≡ writing.Length (length (fileOf (stateOf d)))) × (left d l ≡ fileOf (stateOf d) ++ drop (length (fileOf (stateOf d))) l)
+      → (written d l ≡ writing.Length (length (fileOf (stateOf d)))) × (bufferAfter d l ≡ fileOf (stateOf d) ++ drop (length (fileOf (stateOf d))) l)
 
 -- Demand 2: every answer is the one that the published method gives, as document 01 reads it.
 pub record Demand2 : Type 0 where

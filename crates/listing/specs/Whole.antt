@@ -6,6 +6,13 @@ use Rattle.model.specs.Listing.{listing, refusedLine}
 use Rattle.deck.specs.declared.Deck.{Deck}
 use Rattle.deck.specs.Form.{stateOf, sound}
 
+-- Room for every listing, and for the line of a refusal.
+abbrev pub listingRoom : ℕ
+listingRoom = 8192
+
+abbrev pub lineRoom : ℕ
+lineRoom = 128
+
 -- The listing of a deck, or refusal 11 where it is not sound.
 abbrev pub deckText : Deck → List ℕ
 deckText d = if (sound d) (λ _. listing (stateOf d)) (λ _. refusedLine 11)

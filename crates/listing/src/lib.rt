@@ -17,7 +17,13 @@ ghost use Rattle.model.specs.Listing as model;
 ghost use Rattle.arrays.specs.Paste.{Pasted};
 ghost use Rattle.working.specs.InOrder.{InOrder, stateOf};
 ghost use Rattle.ascii.specs.Text.{fitting};
-ghost use Rattle.listing.specs.Whole.{deckText};
+ghost use Rattle.listing.specs.Whole.{listingRoom, lineRoom, deckText};
+
+// Room for every listing: the head line, 62 tap lines and 125 run lines.
+pub const LISTING_ROOM: usize = 8192;
+
+// Room for the line of a refusal.
+const LINE_ROOM: usize = 128;
 
 // A refusal by its number, as a line.
 fn refused_line(out: &mut [u8], n: u64) -> usize
@@ -41,14 +47,14 @@ fn write_taps(w: Working, out: &mut [u8], at: usize) -> usize
     tap_lines(out, at, &steiner, w.points.nsteiner)
 }
 
-// The listing of a working form at the front of `out`, which has to have room for 8192 bytes. Returns its length; 0 where there
+// The listing of a working form at the front of `out`, which has to have room for LISTING_ROOM bytes. Returns its length; 0 where there
 // is no room.
 pub fn list_working(w: Working, out: &mut [u8]) -> usize
     requires { ⌜ InOrder w ⌝ }
     requires { ⌜ Valid (stateOf w) ⌝ }
-    ensures { λ r. ⌜ Pasted (fitting 8192 (now (out .entry)) (model.listing (stateOf w))) (now (out .entry)) (now (out .exit)) 0 r ⌝ }
+    ensures { λ r. ⌜ Pasted (fitting listingRoom (now (out .entry)) (model.listing (stateOf w))) (now (out .entry)) (now (out .exit)) 0 r ⌝ }
 {
-    if out.len() < 8192 {
+    if out.len() < LISTING_ROOM {
         return 0;
     }
     let n = rounds::length_of(w);
@@ -59,9 +65,9 @@ pub fn list_working(w: Working, out: &mut [u8]) -> usize
 
 // The listing of a deck at the front of `out`, or the line of refusal 11 where the deck is not sound; the rest as above.
 pub fn list(d: Deck, out: &mut [u8]) -> usize
-    ensures { λ r. ⌜ Pasted (fitting 8192 (now (out .entry)) (deckText d)) (now (out .entry)) (now (out .exit)) 0 r ⌝ }
+    ensures { λ r. ⌜ Pasted (fitting listingRoom (now (out .entry)) (deckText d)) (now (out .entry)) (now (out .exit)) 0 r ⌝ }
 {
-    if out.len() < 8192 {
+    if out.len() < LISTING_ROOM {
         return 0;
     }
     let c = check(d);
@@ -71,11 +77,11 @@ pub fn list(d: Deck, out: &mut [u8]) -> usize
     list_working(c.working, out)
 }
 
-// The line of a refusal at the front of `out`, which has to have room for 128 bytes. Returns its length; 0 where there is no room.
+// The line of a refusal at the front of `out`, which has to have room for LINE_ROOM bytes. Returns its length; 0 where there is no room.
 pub fn list_refusal(n: u8, out: &mut [u8]) -> usize
-    ensures { λ r. ⌜ Pasted (fitting 128 (now (out .entry)) (model.refusedLine n)) (now (out .entry)) (now (out .exit)) 0 r ⌝ }
+    ensures { λ r. ⌜ Pasted (fitting lineRoom (now (out .entry)) (model.refusedLine n)) (now (out .entry)) (now (out .exit)) 0 r ⌝ }
 {
-    if out.len() < 128 {
+    if out.len() < LINE_ROOM {
         return 0;
     }
     refused_line(out, n as u64)

@@ -1,18 +1,19 @@
 -- A file is a header and three sections behind one another. The header says the places and lengths of the sections, so that the
 -- sections are read back from a file that is made of them, and an accepted file is made of its sections.
 use mathlib.Core.Path.{_≡_, refl, sym, ap, ap₂, _∙_, subst}
-use mathlib.Core.List.{List, [], _∷_, _++_, append-nil, List·Memᴰ, Memᴰ·append-left, Memᴰ·append-right}
+use mathlib.Core.List.{List, [], _++_, append-nil, List·Memᴰ, Memᴰ·append-left, Memᴰ·append-right}
 use Prim.Native.Nat.{ℕ, _+_, _%_, _≤_, _<_}
 use native.Mathlib.Omega.{arith}
-use lib.Dec.{T, leb, leb→le, eqb, eqb→eq}
+use lib.Dec.{leb, leb→le, eqb, eqb→eq}
 use lib.ListN.{length, take, drop, length-append, length-take, length-drop, take-append-drop}
 use lib.Seq.{take-append-seam, drop-append-seam, drop-drop, take-all}
 use Rattle.arrays.proofs.Test.{and-parts}
 use Rattle.arrays.proofs.same.Alike.{same-eq}
 use Rattle.model.specs.State.{State}
 use Rattle.arrays.specs.Same.{sameList}
-use Rattle.model.specs.File.{magic, headerSize, longest, bytes2, bytes4, header, number2, number4, offset, size, section}
-use Rattle.model.proofs.Bytes.{Bytes, number4-bytes4, split2, split4}
+use Rattle.arrays.specs.Number.{bytes2, bytes4, number2, number4}
+use Rattle.arrays.proofs.number.Bytes.{Bytes, number4-bytes4, split2, split4}
+use Rattle.model.specs.File.{magic, headerSize, longest, header, offset, size, section}
 use Rattle.model.proofs.FileValid.{Accepted}
 
 -- The file of three sections.

@@ -20,12 +20,14 @@ use Rattle.arrays.specs.Set.{tie, union, setOf}
 use Rattle.model.specs.Tree.{RunTree}
 use Rattle.model.specs.State.{State, points, Placed, Valid}
 use Rattle.model.specs.Question.{listed, treeOf, pinCount, steinerCount, edgeCount}
-use Rattle.model.specs.File.{bytes2, bytes4, magic, headerSize, header, sectionOf, numberOf, runBytes, runSection, fileOf}
+use Rattle.arrays.specs.Number.{bytes2, bytes4}
+use Rattle.arrays.proofs.number.Bytes.{Bytes, bytes-none, bytes-cons, bytes-append, bytes2-bytes, bytes4-bytes}
+use Rattle.model.specs.File.{magic, headerSize, header, sectionOf, numberOf, runBytes, runSection, fileOf}
 use Rattle.arrays.proofs.Set.{put-length, set-of-in, tie-eq, no-tie}
 use Rattle.model.proofs.Tree.{mst-run-tree}
 use Rattle.model.proofs.Prune.{points-rise, few-steiner}
 use Rattle.model.proofs.Bounds.{points-few, edges-fewer}
-use Rattle.model.proofs.Bytes.{Bytes, bytes-none, bytes-cons, bytes-append, bytes2-bytes, bytes4-bytes, section-length, section-bytes}
+use Rattle.model.proofs.Bytes.{section-length, section-bytes}
 
 -- A set is as long as its list, where that has no repeats.
 set-of-length : {A : Type 0} (less : A → A → Bool) → StrictTotal (λ (a b : A). T (less a b)) → (l : List A) → Distinct l → length (setOf less l) ≡ length l

@@ -12,7 +12,7 @@ use Rattle.arrays.proofs.Test.{and-parts, and-both}
 use Rattle.model.specs.Refusal.{Pass}
 use Rattle.model.specs.State.{State, maxPins, Placed, Valid, placed, valid}
 use Rattle.arrays.specs.Same.{sameList}
-use Rattle.model.specs.File.{deck, fileChecks, readFile, shown, headed, laidOut, whole, plain, section, offset, size, pointsOf, runSection}
+use Rattle.model.specs.File.{deck, fileChecks, readFile, fileState, headed, laidOut, whole, plain, section, offset, size, pointsOf, runSection}
 use Rattle.model.proofs.Refusal.{file-taken}
 use Rattle.model.proofs.Validity.{placed-is, valid-is}
 
@@ -33,7 +33,7 @@ pub record Accepted (b : List ℕ) (s : State) : Type 0 where
   pub few : length (s .pins) ≤ maxPins
   pub points : Placed s
   pub shows : T (plain b) ⊎ (Valid s × T (sameList (section b 2) (runSection s)))
-  pub same : shown b ≡ s
+  pub same : fileState b ≡ s
 
 pub accepted : (b : List ℕ) (s : State) → readFile b ≡ deck s → Accepted b s
 accepted b s e =
@@ -44,18 +44,18 @@ accepted b s e =
       header = p .0;
       layout = p .1 .0;
       wholes = p .1 .1 .0;
-      few = leb→le (length (shown b .pins)) maxPins (p .1 .1 .1 .0);
-      points = placed-is (shown b) .0 (p .1 .1 .1 .1 .0);
+      few = leb→le (length (fileState b .pins)) maxPins (p .1 .1 .1 .0);
+      points = placed-is (fileState b) .0 (p .1 .1 .1 .1 .0);
       shows = ⊎-elim inl
-          (λ t. let v = and-parts (valid (shown b)) (sameList (section b 2) (runSection (shown b))) t in inr (valid-is (shown b) .0 (v .0), v .1))
-          (either (plain b) (valid (shown b) && sameList (section b 2) (runSection (shown b))) (p .1 .1 .1 .1 .1 .0));
+          (λ t. let v = and-parts (valid (fileState b)) (sameList (section b 2) (runSection (fileState b))) t in inr (valid-is (fileState b) .0 (v .0), v .1))
+          (either (plain b) (valid (fileState b) && sameList (section b 2) (runSection (fileState b))) (p .1 .1 .1 .1 .1 .0));
       same = refl;
     })
 
 pub accept : (b : List ℕ) (s : State) → Accepted b s → readFile b ≡ deck s
 accept b s a = file-taken b s .1 (by (subst⁻¹ (Accepted b) (a .same) a), a .same)
   where
-    by : Accepted b (shown b) → Pass (fileChecks b)
+    by : Accepted b (fileState b) → Pass (fileChecks b)
     by r = (
       r .header,
       (
@@ -63,13 +63,13 @@ accept b s a = file-taken b s .1 (by (subst⁻¹ (Accepted b) (a .same) a), a .s
         (
           r .wholes,
           (
-            le→leb (length (shown b .pins)) maxPins (r .few),
+            le→leb (length (fileState b .pins)) maxPins (r .few),
             (
-              placed-is (shown b) .1 (r .points),
+              placed-is (fileState b) .1 (r .points),
               (
-                either-of (plain b) (valid (shown b) && sameList (section b 2) (runSection (shown b)))
+                either-of (plain b) (valid (fileState b) && sameList (section b 2) (runSection (fileState b)))
                     (⊎-elim inl
-                    (λ v. inr (and-both (valid (shown b)) (sameList (section b 2) (runSection (shown b))) (valid-is (shown b) .1 (v .0)) (v .1)))
+                    (λ v. inr (and-both (valid (fileState b)) (sameList (section b 2) (runSection (fileState b))) (valid-is (fileState b) .1 (v .0)) (v .1)))
                     (r .shows)),
                 tt,
               ),

@@ -13,7 +13,7 @@ use Rattle.plane.specs.Point.{Point}
 use Rattle.model.specs.Refusal.{Check, firstFailed, Pass, FirstFailed, here, later}
 use Rattle.model.specs.State.{State, insert, remove}
 use Rattle.model.specs.Call.{add, withdraw, done, refused, addChecks, withdrawChecks, insertRefusal, removeRefusal, unless, step}
-use Rattle.model.specs.File.{deck, refusal, fileChecks, readBy, readFile, shown}
+use Rattle.model.specs.File.{deck, refusal, fileChecks, readBy, readFile, fileState}
 
 -- One check by its test.
 failed-by : (n : ℕ) (c : Check) (l : List Check) (b : Bool) → c .test tt ≡ b → ((firstFailed l ≡ some n) → FirstFailed n l)
@@ -87,15 +87,15 @@ read-deck s r (some m) = (λ e. let z : _≡_ {A = ℕ} 0 1 = cc in absurd (omeg
 pub file-refused : (b : List ℕ) (n : ℕ) → (readFile b ≡ refusal n) ↔ FirstFailed n (fileChecks b)
 unfolding readFile
 file-refused b n = (
-  λ e. failed-first n (fileChecks b) (read-number (shown b) (firstFailed (fileChecks b)) n .0 e),
-  λ r. read-number (shown b) (firstFailed (fileChecks b)) n .1 (first-fails n (fileChecks b) r),
+  λ e. failed-first n (fileChecks b) (read-number (fileState b) (firstFailed (fileChecks b)) n .0 e),
+  λ r. read-number (fileState b) (firstFailed (fileChecks b)) n .1 (first-fails n (fileChecks b) r),
 )
 
-pub file-taken : (b : List ℕ) (s : State) → (readFile b ≡ deck s) ↔ (Pass (fileChecks b) × (shown b ≡ s))
+pub file-taken : (b : List ℕ) (s : State) → (readFile b ≡ deck s) ↔ (Pass (fileChecks b) × (fileState b ≡ s))
 unfolding readFile
 file-taken b s = (
-  λ e. let p = read-deck (shown b) s (firstFailed (fileChecks b)) .0 e in (none-failed (fileChecks b) (p .0), p .1),
-  λ p. read-deck (shown b) s (firstFailed (fileChecks b)) .1 (passes (fileChecks b) (p .0), p .1),
+  λ e. let p = read-deck (fileState b) s (firstFailed (fileChecks b)) .0 e in (none-failed (fileChecks b) (p .0), p .1),
+  λ p. read-deck (fileState b) s (firstFailed (fileChecks b)) .1 (passes (fileChecks b) (p .0), p .1),
 )
 
 -- A call is refused by n exactly if n's check is the first that fails, and done exactly if all pass.

@@ -1,10 +1,11 @@
 -- The deck file, byte for byte: what is written for a state, and what reading a list of bytes gives.
-use mathlib.Core.Bool.{Bool, true, false, _&&_, _||_}
+use mathlib.Core.Bool.{Bool, _&&_, _||_}
 use mathlib.Core.Option.{Option, none, some}
 use mathlib.Core.List.{List, [], _∷_, _++_}
-use Prim.Native.Nat.{ℕ, suc, _+_, _*_, _/_, _%_}
+use Prim.Native.Nat.{ℕ, suc, _+_, _*_, _%_}
 use lib.Dec.{leb, eqb}
-use lib.ListN.{length, take, drop, getD}
+use lib.ListN.{length, take, drop}
+use Rattle.arrays.specs.Number.{bytes2, bytes4, number2, number4}
 use Rattle.arrays.specs.Test.{if}
 use Rattle.plane.specs.Point.{Point, lower}
 use Rattle.plane.specs.Edge.{Edge}
@@ -26,13 +27,6 @@ headerSize = 30
 -- "The longest file has 784 bytes."
 abbrev pub longest : ℕ
 longest = 784
-
--- A number in two and in four bytes, little-endian.
-abbrev pub bytes2 : ℕ → List ℕ
-bytes2 n = n % 256 ∷ n / 256 % 256 ∷ []
-
-abbrev pub bytes4 : ℕ → List ℕ
-bytes4 n = n % 256 ∷ n / 256 % 256 ∷ n / 65536 % 256 ∷ n / 16777216 % 256 ∷ []
 
 -- "A point is x then y, each a 16-bit two's complement number"
 abbrev pub pointBytes : Point → List ℕ
@@ -78,13 +72,6 @@ pub data Read : Type 0 where
   deck : State → Read
   refusal : ℕ → Read
 
--- The number in two and in four bytes from place i on.
-abbrev pub number2 : List ℕ → ℕ → ℕ
-number2 b i = getD b i 0 + 256 * getD b (i + 1) 0
-
-abbrev pub number4 : List ℕ → ℕ → ℕ
-number4 b i = number2 b i + 65536 * number2 b (i + 2)
-
 -- The points of a section, four bytes each.
 unfoldable pub pointsOf : List ℕ → List Point
 pointsOf [] = []
@@ -120,8 +107,8 @@ abbrev pub whole : List ℕ → Bool
 whole b = eqb (size b 0 % 4) 0 && (eqb (size b 1 % 4) 0 && eqb (size b 2 % 2) 0)
 
 -- The pins and taps that a file shows.
-abbrev pub shown : List ℕ → State
-shown b = record { pins = pointsOf (section b 0); steiner = pointsOf (section b 1) }
+abbrev pub fileState : List ℕ → State
+fileState b = record { pins = pointsOf (section b 0); steiner = pointsOf (section b 1) }
 
 -- "With empty taps and runs sections the file is plain"
 abbrev pub plain : List ℕ → Bool
@@ -129,19 +116,19 @@ plain b = eqb (size b 1) 0 && eqb (size b 2) 0
 
 -- 6: "not plain, and its runs break the order or number rules above, or it shows no sound deck". The runs of a sound deck are
 -- those of its tree in the listing order, so they are the runs section of the state.
-abbrev pub showsDeck : List ℕ → State → Bool
-showsDeck b s = plain b || (valid s && sameList (section b 2) (runSection s))
+abbrev pub holdsDeck : List ℕ → State → Bool
+holdsDeck b s = plain b || (valid s && sameList (section b 2) (runSection s))
 
 -- The checks of a file, in their order; each definition above says what its check asks.
 abbrev pub fileChecks : List ℕ → List Check
 fileChecks b =
-    let s = shown b in
+    let s = fileState b in
     check 1 (λ _. headed b)
     ∷ check 2 (λ _. laidOut b)
     ∷ check 3 (λ _. whole b)
     ∷ check 4 (λ _. leb (length (s .pins)) maxPins)
     ∷ check 5 (λ _. placed s)
-    ∷ check 6 (λ _. showsDeck b s)
+    ∷ check 6 (λ _. holdsDeck b s)
     ∷ []
 
 -- The deck shown where no check failed, else the refusal.
@@ -151,4 +138,4 @@ readBy s (some n) = refusal n
 
 -- Reading a file.
 unfoldable pub readFile : List ℕ → Read
-readFile b = readBy (shown b) (firstFailed (fileChecks b))
+readFile b = readBy (fileState b) (firstFailed (fileChecks b))

@@ -10,11 +10,11 @@ use lib.Dec.{T, ltb}
 use lib.IntN.{ℤ, pos, negsuc, subℕ, _+ℤ_, _-ℤ_}
 use lib.Signed.{ltZ, leZ}
 use mir.Syntax.{w32}
-use mir.Val.{SFits, toZ, ofZ}
-use mir.ValLaws.{toZ-ofZ}
+use mir.Val.{SFits}
 use Rattle.plane.specs.Point.{limit, coordinateInRange}
 use Rattle.plane.specs.Coordinate.{base, biased}
 use Rattle.plane.specs.Octant.{octant}
+use Rattle.arrays.proofs.Signed.{read, read-two}
 use Rattle.arrays.proofs.Test.{and-parts, and-both, same-test}
 use Rattle.plane.proofs.Whole.{plus, minus, one-sided, sub-value, add-value, difference-value, whole-ext, less-value, value-less, atmost-value}
 use Rattle.plane.proofs.Whole.{value-atmost}
@@ -63,25 +63,12 @@ sum-fits a b f g h k =
     (⊎-elim (λ e. omega (arith, bounds a f, add-value a b)) (λ e. omega (arith, bounds a f, add-value a b)) (one-sided (a +ℤ b)))
     (⊎-elim (λ e. omega (arith, bounds b g, add-value a b)) (λ e. omega (arith, bounds b g, add-value a b)) (one-sided (a +ℤ b)))
 
--- Numbers handed on are read back from their bits.
-abbrev pub read : ℤ → ℤ
-read z = toZ w32 (ofZ w32 z)
-
-pub read-two : {A : Type 0} (f : ℤ → ℤ → A) (x y : ℤ) → SFits w32 x → SFits w32 y → f (read x) (read y) ≡ f x y
-read-two f x y h k i = f (toZ-ofZ w32 x h i) (toZ-ofZ w32 y k i)
-
 -- The octant of two numbers, by what is read back from their bits.
-pub read-fits : (z : ℤ) → SFits w32 z → SFits w32 (toZ w32 (ofZ w32 z))
-read-fits z f = subst (SFits w32) (sym (toZ-ofZ w32 z f)) f
+pub read-octant : (k : ℕ) (dx dy : ℤ) → SFits w32 dx → SFits w32 dy → SectorOf k (read dx) (read dy) → k ≡ octant dx dy
+read-octant k dx dy f g s = sym (sector-octant k (read dx) (read dy) s) ∙ read-two octant dx dy f g
 
-pub read-octant : (k : ℕ) (dx dy : ℤ) → SFits w32 dx → SFits w32 dy → SectorOf k (toZ w32 (ofZ w32 dx)) (toZ w32 (ofZ w32 dy)) → k ≡ octant dx dy
-read-octant k dx dy f g s =
-    sym (sector-octant k (toZ w32 (ofZ w32 dx)) (toZ w32 (ofZ w32 dy)) s) ∙ (λ i. octant (toZ-ofZ w32 dx f i) (toZ-ofZ w32 dy g i))
-
-pub read-none : (dx dy : ℤ) → SFits w32 dx → SFits w32 dy → plus (toZ w32 (ofZ w32 dx)) ≡ minus (toZ w32 (ofZ w32 dx))
-    → plus (toZ w32 (ofZ w32 dy)) ≡ minus (toZ w32 (ofZ w32 dy)) → 8 ≡ octant dx dy
-read-none dx dy f g e h =
-    sym (octant-none (toZ w32 (ofZ w32 dx)) (toZ w32 (ofZ w32 dy)) e h) ∙ (λ i. octant (toZ-ofZ w32 dx f i) (toZ-ofZ w32 dy g i))
+pub read-none : (dx dy : ℤ) → SFits w32 dx → SFits w32 dy → plus (read dx) ≡ minus (read dx) → plus (read dy) ≡ minus (read dy) → 8 ≡ octant dx dy
+read-none dx dy f g e h = sym (octant-none (read dx) (read dy) e h) ∙ read-two octant dx dy f g
 
 -- A coordinate in range lies between two bounds; raised by 30,000 it is its stored form.
 pub between-limits : (z : ℤ) → leZ (negsuc 29999) z && leZ z (pos limit) ≡ coordinateInRange z

@@ -128,9 +128,24 @@ unfolding word16
 word-stored u =
     ap (λ (n : ℕ). n % 65536) (omega (arith, coordinate-value u, moved (coordinate u) 65536 (omega (arith, coordinate-value u))))
 
--- The bytes that are written are read as the same number.
-pub read-back : (u : ℕ) → u ≤ 60000 → signed16 (word16 (coordinate u) % 256) (word16 (coordinate u) / 256) ≡ coordinate u
-read-back u h = go (word16 (coordinate u)) (word-stored u)
+-- The two bytes of a coordinate in range are read as the same number, and two bytes that are read are written again.
+pub signed-word : (z : ℤ) → T (coordinateInRange z) → signed16 (word16 z % 256) (word16 z / 256 % 256) ≡ z
+signed-word z t =
+    subst (λ (y : ℤ). signed16 (word16 y % 256) (word16 y / 256 % 256) ≡ y) (coordinate-biased z t)
+    (go (biased z) (biased-bound z t) (word16 (coordinate (biased z))) (word-stored (biased z)))
   where
-    go : (w : ℕ) → w ≡ (u + 35536) % 65536 → signed16 (w % 256) (w / 256) ≡ coordinate u
-    go w e = whole-ext (signed16 (w % 256) (w / 256)) (coordinate u) (omega (arith, signed-value (w % 256) (w / 256), coordinate-value u))
+    go : (u : ℕ) → u ≤ 60000 → (w : ℕ) → w ≡ (u + 35536) % 65536 → signed16 (w % 256) (w / 256 % 256) ≡ coordinate u
+    go u h w e =
+        let high : w / 256 % 256 ≡ w / 256 = omega arith in
+        ap (signed16 (w % 256)) high
+        ∙ whole-ext (signed16 (w % 256) (w / 256)) (coordinate u) (omega (arith, signed-value (w % 256) (w / 256), coordinate-value u))
+
+pub word-signed : (a b : ℕ) → a < 256 → b < 256 → word16 (signed16 a b) ≡ a + 256 * b
+unfolding word16
+word-signed a b h k = ⊎-elim (λ e. omega (arith, v, m)) (λ e. omega (arith, v, m)) (one-sided (signed16 a b))
+  where
+    v : plus (signed16 a b) + 65536 * (b / 128) ≡ a + 256 * b + minus (signed16 a b)
+    v = signed-value a b
+
+    m : natAbs (signed16 a b +ℤ pos 65536) + minus (signed16 a b) ≡ plus (signed16 a b) + 65536
+    m = moved (signed16 a b) 65536 (⊎-elim (λ e. omega (arith, v)) (λ e. omega (arith, v)) (one-sided (signed16 a b)))

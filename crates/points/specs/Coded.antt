@@ -12,6 +12,10 @@ pub use Rattle.plane.specs.Places.{places}
 use Rattle.model.specs.State.{State, maxPins}
 use Rattle.points.specs.declared.Points.{Points}
 
+-- The most Steiner points between calls: two less than pins, since each has three edges or more.
+abbrev pub maxSteiner : ℕ
+maxSteiner = 62
+
 -- "At most 126 points are held between calls, 127 during a round": the most points.
 abbrev pub maxPoints : ℕ
 maxPoints = 127

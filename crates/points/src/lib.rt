@@ -9,8 +9,11 @@ ghost use Rattle.points.specs.Coded.{coded};
 // The most pins of a deck.
 pub const MAX_PINS: usize = 64;
 
-// The most points held at a time, during a round: 64 pins, 62 Steiner points, and the one that joins.
-pub const MAX_POINTS: usize = 127;
+// The most Steiner points between calls: two less than pins, since each has three edges or more.
+pub const MAX_STEINER: usize = MAX_PINS - 2;
+
+// The most points held at a time, during a round: pins, Steiner points, and the one that joins.
+pub const MAX_POINTS: usize = MAX_PINS + MAX_STEINER + 1;
 
 // Places for all points, one more than are held.
 pub const PLACES: usize = plane::PLACES;

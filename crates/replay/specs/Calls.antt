@@ -4,11 +4,12 @@ use Prim.Native.Nat.{ℕ, zero, suc, _+_, _*_, _/_}
 use lib.Dec.{eqb}
 use lib.ListN.{length, getD}
 use lib.IntN.{ℤ, subℕ}
+use Rattle.arrays.specs.Number.{number4}
 use Rattle.arrays.specs.Test.{if}
 use Rattle.plane.specs.Point.{Point}
 use Rattle.model.specs.State.{empty}
 use Rattle.model.specs.Call.{Call, add, withdraw, oneRound, runToEnd}
-use Rattle.model.specs.File.{Read, deck, readFile, number4}
+use Rattle.model.specs.File.{Read, deck, readFile}
 
 -- The whole number that is n in 32 bits of two's complement: 4,294,967,296 less from 2,147,483,648 on.
 unfoldable pub signed32 : ℕ → ℤ

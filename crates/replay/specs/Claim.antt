@@ -8,7 +8,7 @@ use Rattle.model.specs.Call.{stateAfter}
 use Rattle.model.specs.File.{deck, fileOf, longest}
 use Rattle.deck.specs.Form.{deckOf}
 use Rattle.deck.specs.Session.{deckAfter}
-use Rattle.deckfile.specs.Reading.{reading, accepting}
+use Rattle.deckfile.specs.Reading.{reading, acceptedDeck}
 use Rattle.deckfile.specs.Answer.{answerNumber, answerBuffer}
 use Rattle.replay.specs.Calls.{callsOf, startOf}
 
@@ -17,5 +17,5 @@ use Rattle.replay.specs.Calls.{callsOf, startOf}
 abbrev pub Replayed : Type 0
 Replayed =
     (b calls l : List ℕ) (s : State) → startOf b ≡ deck s → longest ≤ length l
-    → (reading (fileOf (stateAfter s (callsOf calls))) ≡ accepting (deckAfter (deckOf s) (callsOf calls)))
+    → (reading (fileOf (stateAfter s (callsOf calls))) ≡ acceptedDeck (deckAfter (deckOf s) (callsOf calls)))
     × (answerBuffer (startOf b) (callsOf calls) l ≡ fileOf (stateAfter s (callsOf calls)) ++ drop (answerNumber (startOf b) (callsOf calls) l) l)

@@ -8,13 +8,13 @@ use deck::Outcome;
 use deckfile::answer::number_of;
 use list::call_all;
 ghost use mathlib.Core.Path.{_≡_};
-ghost use Rattle.deckfile.specs.Reading.{outcomeOf};
+ghost use Rattle.deckfile.specs.Reading.{readOutcome};
 ghost use Rattle.deckfile.specs.Answer.{answerNumber, answerBuffer};
 ghost use Rattle.replay.specs.Calls.{startOf, callsOf};
 
 // The deck of a file, or an empty one where there are no bytes.
 fn start(file: &[u8]) -> Outcome
-    ensures { λ r. ⌜ r ≡ outcomeOf (startOf (now (file .entry))) ⌝ }
+    ensures { λ r. ⌜ r ≡ readOutcome (startOf (now (file .entry))) ⌝ }
 {
     if file.len() == 0 {
         return Outcome {

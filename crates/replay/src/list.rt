@@ -1,21 +1,27 @@
 // A list of calls in bytes, made on a deck one after the other.
+use arrays::number::number4;
 use deck::Deck;
-use sections::number::number4;
 ghost use mathlib.Core.Path.{_≡_};
 ghost use Prim.Native.Nat.{_+_, _≤_, _<_};
 ghost use lib.ListN.{length};
 ghost use Rattle.deck.specs.Session.{deckAfter};
 ghost use Rattle.replay.specs.Calls as bytes;
 
+// The bytes of a call.
+const CALL_SIZE: usize = 12;
+
+// Half of the numbers of 32 bits: from here on they stand for negative ones.
+const HALF: usize = 2147483648;
+
 // The whole number of 32 bits in two's complement.
 fn signed32(n: usize) -> i32
     requires { ⌜ n < 4294967296 ⌝ }
     ensures { λ r. ⌜ r ≡ bytes.signed32 n ⌝ }
 {
-    if n < 2147483648 {
+    if n < HALF {
         return n as i32;
     }
-    (n - 2147483648) as i32 + -2147483648
+    (n - HALF) as i32 + -2147483648
 }
 
 // The deck after the call of this number at x, y. A number that is not known is no call.
@@ -58,10 +64,10 @@ pub fn call_all(d: Deck, calls: &[u8]) -> Deck
     ensures { λ r. ⌜ r ≡ deckAfter d (bytes.callsOf (now (calls .entry))) ⌝ }
 {
     let mut next = d;
-    let n = calls.len() / 12;
+    let n = calls.len() / CALL_SIZE;
     let mut i = 0;
     while i < n {
-        next = call_at(next, calls, i * 12);
+        next = call_at(next, calls, i * CALL_SIZE);
         i += 1;
     }
     next

@@ -5,7 +5,7 @@ use mathlib.Core.List.{List}
 use Prim.Native.Nat.{ℕ}
 use lib.IntN.{ℤ}
 use mir.Syntax.{w32}
-use mir.Val.{SFits, toZ, ofZ}
+use mir.Val.{SFits}
 use Rattle.script.specs.declared.Command.{Command}
 use Rattle.script.specs.declared.Command.the-variants.{Error, Read}
 use Rattle.words.specs.declared.numbers.Number.{Number}
@@ -17,7 +17,7 @@ use Rattle.arrays.specs.Same.{sameList}
 use Rattle.words.specs.Numbers.{numberOf, sizeOf}
 use Rattle.words.specs.Hex.{isHex}
 use Rattle.script.specs.Commands.{sized, withOne, withPair, withTwo}
-use Rattle.script.proofs.Names.{read-two}
+use Rattle.arrays.proofs.Signed.{read, read-two}
 
 module _ (w x : List ℕ) where
   pub one-dash : sameList w (bytes "read") ≡ true → sameList x (bytes "-") ≡ true → Read ≡ withOne w x
@@ -50,6 +50,6 @@ module _ (w x y : List ℕ) (r : Number) (e : r ≡ numberOf x) where
   two-half i s f g h = rw (sym e ∙ f, sym g ∙ h) refl
 
   pub two-both : (i j : ℤ) (s : Number) (a : Command) → r ≡ Is i → s ≡ numberOf y → s ≡ Is j → SFits w32 i → SFits w32 j
-      → a ≡ withPair w (toZ w32 (ofZ w32 i)) (toZ w32 (ofZ w32 j)) → a ≡ withTwo w x y
+      → a ≡ withPair w (read i) (read j) → a ≡ withTwo w x y
   unfolding withTwo
   two-both i j s a f g h p q k = rw (sym e ∙ f, sym g ∙ h) (k ∙ read-two (withPair w) i j p q)

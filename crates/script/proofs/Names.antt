@@ -4,10 +4,6 @@ use mathlib.Core.Bool.{true, false}
 use mathlib.Core.List.{List}
 use Prim.Native.Nat.{ℕ}
 use lib.IntN.{ℤ}
-use mir.Syntax.{w32}
-use mir.Val.{SFits, toZ, ofZ}
-use mir.ValLaws.{toZ-ofZ}
-use Rattle.script.specs.declared.Command.{Command}
 use Rattle.script.specs.declared.Command.the-variants.{Error, Write, Add, Withdraw, Round, Finish, Length, Counts, Run, Degree, Octant}
 use Rattle.script.specs.declared.Command.the-variants as command
 use Rattle.arrays.specs.Text.{bytes}
@@ -88,7 +84,3 @@ module _ (w : List ℕ) (i j : ℤ) where
         pub pair-none : sameList w (bytes "octant") ≡ false → Error ≡ withPair w i j
         unfolding withPair
         pair-none d = rw (a, b, c, d) refl
-
--- Two numbers handed on are read back from their bits.
-pub read-two : (f : ℤ → ℤ → Command) (i j : ℤ) → SFits w32 i → SFits w32 j → f (toZ w32 (ofZ w32 i)) (toZ w32 (ofZ w32 j)) ≡ f i j
-read-two f i j h k = λ t. f (toZ-ofZ w32 i h t) (toZ-ofZ w32 j k t)

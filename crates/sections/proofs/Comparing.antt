@@ -8,14 +8,11 @@ use lib.ListN.{length, take, drop, getD, length-take, length-drop}
 use lib.Seq.{length-take-le, getD-take, getD-drop}
 use Rattle.arrays.specs.Same.{sameList}
 use Rattle.arrays.proofs.same.Alike.{Alike, alike-none, alike-more, alike-fail, alike-end}
-use Rattle.sections.specs.Bytes.{each, edgeBytes}
+use Rattle.arrays.specs.Paste.{each}
+use Rattle.arrays.proofs.paste.Lines.{each-length}
+use Rattle.sections.specs.Bytes.{edgeTwo, edgeBytes}
 
 -- The bytes of edges.
-pub edges-length : (l : List ℕ) → length (edgeBytes l) ≡ 2 * length l
-unfolding each
-edges-length [] = refl
-edges-length (k ∷ l) = omega (arith, edges-length l)
-
 first-byte : (l : List ℕ) (i j : ℕ) → j ≡ 2 * i → getD (edgeBytes l) j 0 ≡ getD l i 0 / 128 % 256
 unfolding each
 first-byte [] zero zero e = refl
@@ -54,7 +51,7 @@ module _ (b : List ℕ) (at : ℕ) (ends : List ℕ) (n : ℕ) (h : at + 2 * n �
 
   same-long : length P ≡ length Q
   unfolding Q
-  same-long = omega (arith, long, edges-length (take n ends), length-take-le n ends k)
+  same-long = omega (arith, long, each-length edgeTwo 2 (λ _. refl) (take n ends), length-take-le n ends k)
 
   here : (j : ℕ) → j < 2 * n → getD P j 0 ≡ getD b (at + j) 0
   unfolding P
@@ -70,12 +67,12 @@ module _ (b : List ℕ) (at : ℕ) (ends : List ℕ) (n : ℕ) (h : at + 2 * n �
 
   pub edges-none : Alike (take (2 * n) (drop at b)) (edgeBytes (take n ends)) (2 * 0)
   unfolding P Q
-  edges-none = alike-none P Q same-long
+  edges-none = alike-none same-long
 
   half : (i : ℕ) → Alike (take (2 * n) (drop at b)) (edgeBytes (take n ends)) (2 * i) → i < n
       → getD b (at + 2 * i) 0 ≡ getD ends i 0 / 128 % 256 → Alike (take (2 * n) (drop at b)) (edgeBytes (take n ends)) (2 * i + 1)
   unfolding P Q
-  half i p l e = alike-more P Q same-long (2 * i) p (omega (arith, long)) (here (2 * i) (omega arith) ∙ e ∙ sym (one i l))
+  half i p l e = alike-more p (omega (arith, long)) (here (2 * i) (omega arith) ∙ e ∙ sym (one i l))
 
   pub edges-more : (i : ℕ) → Alike (take (2 * n) (drop at b)) (edgeBytes (take n ends)) (2 * i) → i < n
       → getD b (at + 2 * i) 0 ≡ getD ends i 0 / 128 % 256 → getD b (at + 2 * i + 1) 0 ≡ getD ends i 0 % 128
@@ -85,13 +82,13 @@ module _ (b : List ℕ) (at : ℕ) (ends : List ℕ) (n : ℕ) (h : at + 2 * n �
       let g : at + (2 * i + 1) ≡ at + 2 * i + 1 = omega arith in
       let m : 2 * i + 1 + 1 ≡ 2 * (i + 1) = omega arith in
       subst (Alike P Q) m
-      (alike-more P Q same-long (2 * i + 1) (half i p l e) (omega (arith, long)) (here (2 * i + 1) (omega arith) ∙ ap (λ (z : ℕ). getD b z 0) g ∙ f ∙ sym (two i l)))
+      (alike-more (half i p l e) (omega (arith, long)) (here (2 * i + 1) (omega arith) ∙ ap (λ (z : ℕ). getD b z 0) g ∙ f ∙ sym (two i l)))
 
   pub edges-fail-first : (i : ℕ) → Alike (take (2 * n) (drop at b)) (edgeBytes (take n ends)) (2 * i) → i < n
       → ¬ (getD b (at + 2 * i) 0 ≡ getD ends i 0 / 128 % 256) → false ≡ sameList (take (2 * n) (drop at b)) (edgeBytes (take n ends))
   unfolding P Q
   edges-fail-first i p l e =
-      alike-fail P Q same-long (2 * i) p (omega (arith, long)) (λ q. e (sym (here (2 * i) (omega arith)) ∙ q ∙ one i l))
+      alike-fail p (omega (arith, long)) (λ q. e (sym (here (2 * i) (omega arith)) ∙ q ∙ one i l))
 
   pub edges-fail-second : (i : ℕ) → Alike (take (2 * n) (drop at b)) (edgeBytes (take n ends)) (2 * i) → i < n
       → getD b (at + 2 * i) 0 ≡ getD ends i 0 / 128 % 256 → ¬ (getD b (at + 2 * i + 1) 0 ≡ getD ends i 0 % 128)
@@ -99,10 +96,10 @@ module _ (b : List ℕ) (at : ℕ) (ends : List ℕ) (n : ℕ) (h : at + 2 * n �
   unfolding P Q
   edges-fail-second i p l e f =
       let g : at + (2 * i + 1) ≡ at + 2 * i + 1 = omega arith in
-      alike-fail P Q same-long (2 * i + 1) (half i p l e) (omega (arith, long))
+      alike-fail (half i p l e) (omega (arith, long))
       (λ q. f (ap (λ (z : ℕ). getD b z 0) (sym g) ∙ sym (here (2 * i + 1) (omega arith)) ∙ q ∙ two i l))
 
   pub edges-end : (i : ℕ) → Alike (take (2 * n) (drop at b)) (edgeBytes (take n ends)) (2 * i) → n ≤ i
       → true ≡ sameList (take (2 * n) (drop at b)) (edgeBytes (take n ends))
   unfolding P Q
-  edges-end i p l = alike-end P Q same-long (2 * i) p (omega (arith, long))
+  edges-end i p l = alike-end p (omega (arith, long))

@@ -7,7 +7,8 @@ use lib.Dec.{leb, eqb}
 use lib.ListN.{length, take}
 use borrow.Author.Tests.{le-leb, lt-leb, eq-eqb, ne-eqb}
 use Rattle.arrays.specs.Same.{sameList}
-use Rattle.model.specs.File.{magic, number2, offset, size, headed, laidOut, whole, plain}
+use Rattle.arrays.specs.Number.{number2}
+use Rattle.model.specs.File.{magic, offset, size, headed, laidOut, whole, plain}
 use Rattle.arrays.proofs.Test.{and-no, and-yes}
 
 -- A test of two numbers that are those of the file.

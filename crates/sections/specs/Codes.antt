@@ -10,7 +10,7 @@ use Rattle.plane.specs.Point.{Point, inRange}
 use Rattle.plane.specs.Coordinate.{signed16}
 use Rattle.arrays.specs.Set.{rising}
 use Rattle.model.specs.State.{maxPins, placed}
-use Rattle.model.specs.File.{pointsOf, shown}
+use Rattle.model.specs.File.{pointsOf, fileState}
 use Rattle.points.specs.Coded.{padded}
 use Rattle.sections.specs.declared.codes.FilePoints.{FilePoints}
 use Rattle.plane.specs.Code.{code}
@@ -43,6 +43,6 @@ filePlaces = 192
 
 -- Check 5, and the codes of the points that the file shows where it passes.
 pub record Decodes (b : List ℕ) (r : FilePoints) : Type 0 where
-  pub ok : r .ok ≡ placed (shown b)
-  pub pins : T (placed (shown b)) → r .pins ≡ padded maxPins (map code (shown b .pins))
-  pub steiner : T (placed (shown b)) → r .steiner ≡ padded filePlaces (map code (shown b .steiner))
+  pub ok : r .ok ≡ placed (fileState b)
+  pub pins : T (placed (fileState b)) → r .pins ≡ padded maxPins (map code (fileState b .pins))
+  pub steiner : T (placed (fileState b)) → r .steiner ≡ padded filePlaces (map code (fileState b .steiner))

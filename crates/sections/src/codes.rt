@@ -1,5 +1,9 @@
 // The sections of points: check 5.
-use super::number::number4;
+use super::header::HEADER;
+use super::header::PINS_LENGTH;
+use super::header::POINT_SIZE;
+use super::header::STEINER_LENGTH;
+use arrays::number::number4;
 use plane::codes::Located;
 use plane::codes::locate;
 use plane::from_bytes;
@@ -33,7 +37,7 @@ pub fn decode(b: &[u8], at: usize, n: usize, out: &mut [u64]) -> bool
 {
     let mut i = 0;
     while i < n {
-        match locate_at(b, at + 4 * i) {
+        match locate_at(b, at + POINT_SIZE * i) {
             Located::OutOfRange => {
                 return false;
             }
@@ -68,13 +72,13 @@ pub fn decode_points(b: &[u8]) -> FilePoints
     requires { ⌜ FewPins (now b) ⌝ }
     ensures { λ r. ⌜ Decodes (now (b .entry)) r ⌝ }
 {
-    let size = number4(b, 10);
-    let n = size / 4;
-    let m = number4(b, 18) / 4;
+    let size = number4(b, PINS_LENGTH);
+    let n = size / POINT_SIZE;
+    let m = number4(b, STEINER_LENGTH) / POINT_SIZE;
     let mut pins = [0u64; MAX_PINS];
     let mut steiner = [0u64; FILE_PLACES];
-    let pins_ok = decode(b, 30, n, &mut pins);
-    let steiner_ok = decode(b, 30 + size, m, &mut steiner);
+    let pins_ok = decode(b, HEADER, n, &mut pins);
+    let steiner_ok = decode(b, HEADER + size, m, &mut steiner);
     let ok = pins_ok & (steiner_ok & are_placed(&pins, n, &steiner, m));
     FilePoints { ok, pins, steiner }
 }

@@ -1,68 +1,97 @@
 // The header of a file: checks 1 to 3.
-use super::number::number2;
-use super::number::number4;
+use arrays::number::number2;
+use arrays::number::number4;
 ghost use mathlib.Core.Path.{_≡_};
 ghost use Prim.Native.Nat.{_≤_};
 ghost use lib.ListN.{length};
-ghost use Rattle.model.specs.File.{headed, laidOut, whole, plain};
+ghost use Rattle.model.specs.File.{headerSize, headed, laidOut, whole, plain};
+
+// Bytes of the header: DECK, the count of sections, and offset and length of each.
+pub const HEADER: usize = 30;
+
+// The longest file: the header, 64 pins and 62 Steiner points, and the 125 edges of their tree.
+const LONGEST: usize = 784;
+
+// Where the count of sections stands, and how many there are.
+const COUNT: usize = 4;
+
+pub const SECTIONS: usize = 3;
+
+// Where the offsets and the lengths of the sections stand.
+const PINS_OFFSET: usize = 6;
+
+pub const PINS_LENGTH: usize = 10;
+
+const STEINER_OFFSET: usize = 14;
+
+pub const STEINER_LENGTH: usize = 18;
+
+pub const EDGES_OFFSET: usize = 22;
+
+pub const EDGES_LENGTH: usize = 26;
+
+// Bytes of a point and of an edge.
+pub const POINT_SIZE: usize = 4;
+
+pub const EDGE_SIZE: usize = 2;
 
 // 1: "under 30 or over 784 bytes, other first four bytes, or a section count other than 3"
 pub fn is_headed(b: &[u8]) -> bool
     ensures { λ r. ⌜ r ≡ headed (now (b .entry)) ⌝ }
 {
-    if b.len() < 30 {
+    if b.len() < HEADER {
         return false;
     }
-    if 784 < b.len() {
+    if LONGEST < b.len() {
         return false;
     }
     if !arrays::same::same_bytes(&b[..4], b"DECK") {
         return false;
     }
-    number2(b, 4) == 3
+    number2(b, COUNT) == SECTIONS
 }
 
 // 2: offsets and lengths other than "The first section starts at byte 30, each other where the one before ends, and the last
 // ends with the file".
 pub fn is_laid_out(b: &[u8]) -> bool
-    requires { ⌜ 30 ≤ length (now b) ⌝ }
+    requires { ⌜ headerSize ≤ length (now b) ⌝ }
     ensures { λ r. ⌜ r ≡ laidOut (now (b .entry)) ⌝ }
 {
-    let second = number4(b, 14);
-    let third = number4(b, 22);
-    if number4(b, 6) != 30 {
+    let second = number4(b, STEINER_OFFSET);
+    let third = number4(b, EDGES_OFFSET);
+    if number4(b, PINS_OFFSET) != HEADER {
         return false;
     }
-    if second != 30 + number4(b, 10) {
+    if second != HEADER + number4(b, PINS_LENGTH) {
         return false;
     }
-    if third != second + number4(b, 18) {
+    if third != second + number4(b, STEINER_LENGTH) {
         return false;
     }
-    b.len() == third + number4(b, 26)
+    b.len() == third + number4(b, EDGES_LENGTH)
 }
 
 // 3: "pins or taps not a multiple of 4 bytes, or runs not of 2"
 pub fn is_whole(b: &[u8]) -> bool
-    requires { ⌜ 30 ≤ length (now b) ⌝ }
+    requires { ⌜ headerSize ≤ length (now b) ⌝ }
     ensures { λ r. ⌜ r ≡ whole (now (b .entry)) ⌝ }
 {
-    if number4(b, 10) % 4 != 0 {
+    if number4(b, PINS_LENGTH) % POINT_SIZE != 0 {
         return false;
     }
-    if number4(b, 18) % 4 != 0 {
+    if number4(b, STEINER_LENGTH) % POINT_SIZE != 0 {
         return false;
     }
-    number4(b, 26) % 2 == 0
+    number4(b, EDGES_LENGTH) % EDGE_SIZE == 0
 }
 
 // "With empty taps and runs sections the file is plain"
 pub fn is_plain(b: &[u8]) -> bool
-    requires { ⌜ 30 ≤ length (now b) ⌝ }
+    requires { ⌜ headerSize ≤ length (now b) ⌝ }
     ensures { λ r. ⌜ r ≡ plain (now (b .entry)) ⌝ }
 {
-    if number4(b, 18) != 0 {
+    if number4(b, STEINER_LENGTH) != 0 {
         return false;
     }
-    number4(b, 26) == 0
+    number4(b, EDGES_LENGTH) == 0
 }

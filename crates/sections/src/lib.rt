@@ -2,4 +2,3 @@
 pub mod codes;
 pub mod edges;
 pub mod header;
-pub mod number;

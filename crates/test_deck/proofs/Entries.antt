@@ -6,7 +6,7 @@ use lib.IntN.{ℤ}
 use mir.Syntax.{w32}
 use mir.Val.{SFits}
 use mir.ValLaws.{toZ-ofZ}
-use Rattle.plane.proofs.Signed.{read}
+use Rattle.arrays.proofs.Signed.{read}
 use Rattle.model.specs.State.{State}
 use Rattle.model.specs.Call.{Call}
 use Rattle.deck.specs.declared.Deck.{Deck}

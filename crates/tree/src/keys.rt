@@ -6,7 +6,7 @@ ghost use Prim.Native.Nat.{_≤_, _<_};
 ghost use Rattle.tree.specs.Keys as spec;
 
 // The number of a point is less than this, a factor of keys; what stands above the two numbers of a key.
-const FACTOR: u64 = PLACES as u64;
+pub const FACTOR: u64 = PLACES as u64;
 
 const PAIRS: u64 = FACTOR * FACTOR;
 

@@ -3,6 +3,7 @@ use super::Working;
 use plane::codes::x_of;
 use plane::codes::y_of;
 use points::PLACES;
+use tree::keys::FACTOR;
 ghost use mathlib.Core.Path.{_≡_};
 ghost use Prim.Native.Nat.{_<_};
 ghost use Rattle.plane.specs.Point.{dist};
@@ -17,8 +18,7 @@ pub struct CodedEdge {
     pub distance: u64,
 }
 
-// The edges of the tree in the listing order, each by the numbers of its two ends in one: 128 times the lower and the higher.
-// Zeros behind them.
+// The edges of the tree in the listing order, each by the numbers of its two ends in one, with zeros behind.
 pub fn edge_numbers(w: Working) -> [u64; PLACES]
     requires { ⌜ InOrder w ⌝ }
     ensures { λ r. ⌜ r ≡ edgeRow (stateOf w) ⌝ }
@@ -45,8 +45,8 @@ pub fn edge_at(w: Working, ends: &[u64; PLACES], i: usize) -> CodedEdge
 {
     let codes = w.codes;
     let both = ends[i];
-    let low = codes[(both / 128) as usize];
-    let high = codes[(both % 128) as usize];
+    let low = codes[(both / FACTOR) as usize];
+    let high = codes[(both % FACTOR) as usize];
     let distance = distance_of(low, high);
     CodedEdge {
         low,

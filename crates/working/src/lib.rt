@@ -3,6 +3,7 @@ pub mod change;
 pub mod edges;
 pub mod prune;
 
+use plane::octants::OCTANTS;
 use points::PLACES;
 use points::Points;
 ghost use mathlib.Core.Path.{_≡_};
@@ -14,7 +15,7 @@ ghost use Rattle.points.specs.Coded.{Arranged};
 ghost use Rattle.working.specs.InOrder.{InOrder};
 
 // Room for the keys of a tree while it is built: one for each place, and one for each octant of the point that joins.
-const KEY_ROOM: usize = 136;
+const KEY_ROOM: usize = PLACES + OCTANTS;
 
 pub struct Working {
     pub points: Points,

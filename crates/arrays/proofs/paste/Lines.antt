@@ -6,7 +6,7 @@ use native.Mathlib.Nat.{mul-suc}
 use native.Mathlib.Numerals.{add-one}
 use native.Mathlib.Omega.{arith}
 use lib.ListN.{length, take, getD, length-append}
-use lib.Seq.{take-suc, take-length}
+use lib.Seq.{take-suc, take-length, length-take-le}
 use Rattle.arrays.specs.Paste.{Pasted, each}
 use Rattle.arrays.proofs.paste.Parts.{pasted-none, pasted-then, pasted-same}
 
@@ -67,3 +67,22 @@ pub each-length : (f : ℕ → List ℕ) (w : ℕ) → ((k : ℕ) → length (f 
 unfolding each
 each-length f w h [] = omega arith
 each-length f w h (k ∷ l) = omega (arith, length-append (f k) (each f l), h k, each-length f w h l)
+
+-- The texts of the first numbers of a list, put one behind the other.
+module _ (f : ℕ → List ℕ) (w n : ℕ) (numbers l : List ℕ) (at : ℕ) where
+  pub each-first-none : PutFirst (eachTo f numbers) w n l l at at 0
+  each-first-none = first-none (eachTo f numbers) w n l at (each-none f numbers)
+
+  pub each-first-more : {m m′ : List ℕ} {next next′ i : ℕ} → PutFirst (eachTo f numbers) w n l m at next i → i < n → n ≤ length numbers → next ≤ length m
+      → Pasted (f (getD numbers i 0)) m m′ next next′ → next′ ≤ next + w → length m′ ≡ length m → PutFirst (eachTo f numbers) w n l m′ at next′ (i + 1)
+  each-first-more {m} {m′} {next} {next′} {i} p h k fits q few size =
+      first-more (eachTo f numbers) w n l at (f (getD numbers i 0)) m m′ next next′ i p h (each-more f numbers i (omega arith)) fits q few size
+
+  pub each-first-end : {m : List ℕ} {next i : ℕ} → PutFirst (eachTo f numbers) w n l m at next i → n ≤ i → Pasted (eachTo f numbers n) l m at next
+  each-first-end {m} {next} {i} p h = first-end (eachTo f numbers) w n l m at next i p h .0
+
+-- Where each text has w bytes, the place behind those of the first n numbers.
+pub each-next : (f : ℕ → List ℕ) (w : ℕ) → ((k : ℕ) → length (f k) ≡ w) → (numbers : List ℕ) (n : ℕ) → n ≤ length numbers
+    → {l m : List ℕ} {at r : ℕ} → Pasted (eachTo f numbers n) l m at r → r ≡ at + w * n
+each-next f w h numbers n k {l} {m} {at} p =
+    p .next ∙ ap (λ (z : ℕ). at + z) (each-length f w h (take n numbers) ∙ ap (λ (z : ℕ). w * z) (length-take-le n numbers k))

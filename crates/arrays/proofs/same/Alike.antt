@@ -28,38 +28,33 @@ same-eq (a ∷ l) (b ∷ m) t = let r = and-parts (eqb a b) (sameList l m) t in 
 pub same-not : (l m : List ℕ) → ¬ (l ≡ m) → false ≡ sameList l m
 same-not l m n = sym (false-of (sameList l m) (λ t. n (same-eq l m t)))
 
--- The first i elements of two lists are the same.
+-- The first i elements of two lists of one length are the same.
 pub record Alike (a b : List ℕ) (i : ℕ) : Type 0 where
   pub within : i ≤ length a
+  pub long : length a ≡ length b
   pub rest : sameList a b ≡ sameList (drop i a) (drop i b)
 
-module _ (a b : List ℕ) (e : length a ≡ length b) where
-  pub alike-none : Alike a b 0
-  alike-none = record { within = omega arith; rest = refl }
+pub alike-none : {a b : List ℕ} → length a ≡ length b → Alike a b 0
+alike-none e = record { within = omega arith; long = e; rest = refl }
 
-  step : (i : ℕ) → i < length a → sameList (drop i a) (drop i b) ≡ eqb (getD a i 0) (getD b i 0) && sameList (drop (suc i) a) (drop (suc i) b)
+module _ {a b : List ℕ} {i : ℕ} (p : Alike a b i) where
+  step : i < length a → sameList a b ≡ eqb (getD a i 0) (getD b i 0) && sameList (drop (suc i) a) (drop (suc i) b)
   unfolding sameList
-  step i h = ap₂ sameList (drop-cons a i 0 h) (drop-cons b i 0 (omega arith))
+  step h = p .rest ∙ ap₂ sameList (drop-cons a i 0 h) (drop-cons b i 0 (omega (arith, p .long)))
 
-  pub alike-more : (i : ℕ) → Alike a b i → i < length a → getD a i 0 ≡ getD b i 0 → Alike a b (i + 1)
-  alike-more i p h q =
+  pub alike-more : i < length a → getD a i 0 ≡ getD b i 0 → Alike a b (i + 1)
+  alike-more h q =
       record {
         within = omega arith;
+        long = p .long;
         rest =
-            p .rest ∙ step i h ∙ ap (λ (z : Bool). z && sameList (drop (suc i) a) (drop (suc i) b)) (eq-eqb (getD a i 0) (getD b i 0) q)
+            step h ∙ ap (λ (z : Bool). z && sameList (drop (suc i) a) (drop (suc i) b)) (eq-eqb (getD a i 0) (getD b i 0) q)
             ∙ ap (λ (z : ℕ). sameList (drop z a) (drop z b)) (sym (add-one i));
       }
 
-  pub alike-fail : (i : ℕ) → Alike a b i → i < length a → ¬ (getD a i 0 ≡ getD b i 0) → false ≡ sameList a b
-  alike-fail i p h q =
-      sym (p .rest ∙ step i h ∙ ap (λ (z : Bool). z && sameList (drop (suc i) a) (drop (suc i) b)) (ne-eqb (getD a i 0) (getD b i 0) q))
+  pub alike-fail : i < length a → ¬ (getD a i 0 ≡ getD b i 0) → false ≡ sameList a b
+  alike-fail h q = sym (step h ∙ ap (λ (z : Bool). z && sameList (drop (suc i) a) (drop (suc i) b)) (ne-eqb (getD a i 0) (getD b i 0) q))
 
-  pub alike-end : (i : ℕ) → Alike a b i → length a ≤ i → true ≡ sameList a b
+  pub alike-end : length a ≤ i → true ≡ sameList a b
   unfolding sameList
-  alike-end i p h = sym (p .rest ∙ ap₂ sameList one two)
-    where
-      one : drop i a ≡ []
-      one = drop-of-length-le a {i = i} h
-
-      two : drop i b ≡ []
-      two = drop-of-length-le b {i = i} (omega arith)
+  alike-end h = sym (p .rest ∙ ap₂ sameList (drop-of-length-le a {i = i} h) (drop-of-length-le b {i = i} (omega (arith, p .long))))

@@ -1,11 +1,9 @@
 -- `ascii::magnitude` meets its contract: each cast and sum is that of the number read back from its bits.
-use mathlib.Core.Path.{ap, _∙_}
+use mathlib.Core.Path.{_∙_}
 use native.Mathlib.Omega.{arith}
 use lib.IntN.{natAbs}
 use borrow.Author.Needs.{needs}
-use mir.ValLaws.{toZ-ofZ}
-use mir.Syntax.{w32}
-use Rattle.plane.proofs.Signed.{read-fits}
+use Rattle.arrays.proofs.Signed.{read-fits, read-one}
 use Rattle.ascii.proofs.Signs.{flip-fits, flip-cast, flip-value, keep-cast, magnitude-small}
 use Rattle.ascii.proofs.magnitude.Statement.{statement}
 use Rattle.ascii.proofs.magnitude.Tie as tie
@@ -25,7 +23,7 @@ cast-result-2 : tie.Need-cast-result-2
 cast-result-2 c = keep-cast _ (read-fits _ (c .before .fits .z)) (c .if1 .left)
 
 returns : tie.Need-returns
-returns c = flip-value _ (read-fits _ (c .before .fits .z)) (c .if1 .taken) ∙ ap natAbs (toZ-ofZ w32 _ (c .before .fits .z))
+returns c = flip-value _ (read-fits _ (c .before .fits .z)) (c .if1 .taken) ∙ read-one natAbs (c .before .fits .z)
 
 returns-2 : tie.Need-returns-2
 returns-2 c = search needs

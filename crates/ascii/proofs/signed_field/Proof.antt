@@ -1,8 +1,9 @@
 -- `ascii::signed_field` meets its contract.
 use native.Mathlib.Omega.{arith}
 use borrow.Author.Needs.{needs}
-use Rattle.arrays.proofs.paste.Parts.{pasted-then}
-use Rattle.ascii.proofs.Signs.{signed-again}
+use Rattle.arrays.proofs.paste.Parts.{pasted-same, pasted-then}
+use Rattle.model.specs.Listing.{signedDecimal}
+use Rattle.arrays.proofs.Signed.{read-one}
 use Rattle.ascii.proofs.signed_field.Statement.{statement}
 use Rattle.ascii.proofs.signed_field.Tie as tie
 
@@ -20,7 +21,8 @@ returns c =
     let at-signed = c .before .before in
     let at-byte = at-signed .before .before .before .before in
     let at-start = at-byte .before .before .before in
-    (pasted-then (at-byte .put-byte .ensures) (omega arith) (signed-again _ (at-start .fits .z) (at-signed .signed .ensures .0)), omega arith)
+    let text = pasted-same (read-one signedDecimal (at-start .fits .z)) (at-signed .signed .ensures .0) in
+    (pasted-then (at-byte .put-byte .ensures) (omega arith) text, omega arith)
 
 pub signed-field-spec : {M : Type 1} → statement M
 signed-field-spec = tie.close (tie.spec put-byte-requires signed-requires same-length returns)

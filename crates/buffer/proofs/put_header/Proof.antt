@@ -1,5 +1,6 @@
 -- `buffer::put_header` meets its contract: one part behind the other.
-use Rattle.buffer.proofs.Putting.{over-of, header-put}
+use native.Mathlib.Omega.{arith}
+use Rattle.arrays.proofs.paste.Parts.{pasted-then}
 use borrow.Author.Needs.{needs}
 use Rattle.buffer.proofs.put_header.Statement.{statement}
 use Rattle.buffer.proofs.put_header.Tie as tie
@@ -41,8 +42,10 @@ returns c =
     let first = second .before .before .before .before in
     let count = first .before .before .before .before in
     let start = count .before .before .before .before in
-    header-put _ _ _ _ (start .before .before .before .before .pre .0) _ _ _ _ _ (over-of (start .put-bytes .ensures)) (over-of (count .put2 .ensures))
-    (first .put-pair .ensures) (second .put-pair2 .ensures) (third .put-pair3 .ensures)
+    pasted-then (start .put-bytes .ensures) (omega arith)
+    (pasted-then (count .put2 .ensures) (omega arith)
+    (pasted-then (first .put-pair .ensures) (omega arith)
+    (pasted-then (second .put-pair2 .ensures) (omega arith) (third .put-pair3 .ensures))))
 
 pub put-header-spec : {M : Type 1} → statement M
 put-header-spec =

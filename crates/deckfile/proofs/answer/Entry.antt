@@ -29,8 +29,8 @@ use Rattle.deck.proofs.Form.{state-deck}
 use Rattle.deck.proofs.Session.{valid-passes, after-deck}
 use Rattle.deckfile.specs.declared.Written.the-variants.{Refused, Length}
 use Rattle.deckfile.specs.declared.Written.{Written}
-use Rattle.deckfile.specs.Reading.{outcomeOf, reading, accepting, stateRead, replyRead, ReadTo}
-use Rattle.deckfile.specs.Writing.{stored, storedAnswer, storedBuffer, written, left}
+use Rattle.deckfile.specs.Reading.{readOutcome, reading, acceptedDeck, stateRead, replyRead, ReadTo}
+use Rattle.deckfile.specs.Writing.{stored, storedAnswer, storedBuffer, written, bufferAfter}
 use Rattle.deckfile.proofs.Stored.{write-stored}
 use Rattle.deckfile.specs.Answer.{rewritten, answerNumber, answerBuffer, writtenNumber}
 
@@ -45,21 +45,21 @@ number-stored s l = go (leb (length (fileOf s)) (length l))
 
 -- Writing the deck of a valid state.
 module _ (s : State) (v : Valid s) (l : List ℕ) where
-  writes : (storedAnswer s l ≡ written (deckOf s) l) × (storedBuffer s l ≡ left (deckOf s) l)
+  writes : (storedAnswer s l ≡ written (deckOf s) l) × (storedBuffer s l ≡ bufferAfter (deckOf s) l)
   writes = write-stored (deckOf s) l (valid-passes s v) (sym (state-deck s (v .placed))) (refl, refl)
 
 -- The refusal of a file.
-pub answer-refused : (r : Read) (calls : List Call) (l : List ℕ) {o : Outcome} (n : ℕ) → o ≡ outcomeOf r
+pub answer-refused : (r : Read) (calls : List Call) (l : List ℕ) {o : Outcome} (n : ℕ) → o ≡ readOutcome r
     → n ≡ refusalNumber (o .reply) → ¬ (n ≡ 0) → (n ≡ answerNumber r calls l) × (l ≡ answerBuffer r calls l)
-unfolding rewritten refusalNumber outcomeOf
+unfolding rewritten refusalNumber readOutcome
 answer-refused (deck s) calls l n e f h = absurd (h (rw e at f))
 answer-refused (refusal k) calls l n e f h = (rw e at f, refl)
 
 -- A deck was read: `last` is the deck after the calls, m and b what writing it answers and leaves.
-pub answer-deck : (r : Read) → Possible r → (calls : List Call) (l : List ℕ) {o : Outcome} {n : ℕ} → o ≡ outcomeOf r
+pub answer-deck : (r : Read) → Possible r → (calls : List Call) (l : List ℕ) {o : Outcome} {n : ℕ} → o ≡ readOutcome r
     → n ≡ refusalNumber (o .reply) → n ≡ 0 → {last : Deck} → last ≡ deckAfter (o .next) calls → {m : ℕ} {b : List ℕ}
-    → m ≡ writtenNumber (written last l) → b ≡ left last l → (m ≡ answerNumber r calls l) × (b ≡ answerBuffer r calls l)
-unfolding rewritten refusalNumber outcomeOf
+    → m ≡ writtenNumber (written last l) → b ≡ bufferAfter last l → (m ≡ answerNumber r calls l) × (b ≡ answerBuffer r calls l)
+unfolding rewritten refusalNumber readOutcome
 answer-deck (deck s) (taken v) calls l e f z is em eb =
     let q = rw e at is ∙ after-deck calls s v in
     let w = after-valid calls s v in
@@ -95,11 +95,11 @@ answer-stored r calls l {s} {t} e q em w = rw e rw (sym q) (em ∙ ap writtenNum
 pub record Rewritten (r : Read) (calls : List Call) (l : List ℕ) (s : State) : Type 0 where
   pub long : 30 ≤ answerNumber r calls l
   pub front : answerBuffer r calls l ≡ fileOf (stateAfter s calls) ++ drop (answerNumber r calls l) l
-  pub back : reading (fileOf (stateAfter s calls)) ≡ accepting (deckAfter (deckOf s) calls)
+  pub back : reading (fileOf (stateAfter s calls)) ≡ acceptedDeck (deckAfter (deckOf s) calls)
 
 pub answer-taken : (r : Read) → Possible r → (calls : List Call) (l : List ℕ) (s : State) → r ≡ deck s → longest ≤ length l
     → Rewritten r calls l s
-unfolding rewritten outcomeOf
+unfolding rewritten readOutcome
 answer-taken r p calls l s e h = rw e (on-state (possible-valid r p s e))
   where
     at : State
@@ -117,7 +117,7 @@ answer-taken r p calls l s e h = rw e (on-state (possible-valid r p s e))
         record {
           long = subst⁻¹ (λ (n : ℕ). 30 ≤ n) count (file-size at w .0);
           front = fits w (λ _. l) (λ file. file ++ drop (length file) l) ∙ ap (λ (n : ℕ). fileOf at ++ drop n l) (sym count);
-          back = ap outcomeOf (written-read at w) ∙ ap accepting (sym (after-deck calls s v));
+          back = ap readOutcome (written-read at w) ∙ ap acceptedDeck (sym (after-deck calls s v));
         }
 
 -- An answer below 30 is a refusal, and leaves the buffer.

@@ -1,6 +1,6 @@
 -- `deckfile::read` meets its contract: the deck of the working form.
 use mathlib.Core.Path.{_∙_}
-use Rattle.deckfile.proofs.reader.Shown.{read-outcome}
+use Rattle.deckfile.proofs.reader.LastCheck.{read-outcome}
 use borrow.Author.Needs.{needs}
 use Rattle.deckfile.proofs.read.Statement.{statement}
 use Rattle.deckfile.proofs.read.Tie as tie

@@ -1,7 +1,7 @@
 -- `deckfile::read_working` meets its contract: one check after the other.
 use Rattle.arrays.proofs.Test.{of-true}
 use Rattle.deckfile.proofs.Checks.{passed, failed, long-enough, sections-of, few-pins, refused-1, refused-2, refused-3, refused-4, refused-5, all-passed}
-use Rattle.deckfile.proofs.reader.Shown.{read-as}
+use Rattle.deckfile.proofs.reader.LastCheck.{read-as}
 use native.Mathlib.Omega.{arith}
 use borrow.Author.Needs.{needs}
 use Rattle.deckfile.proofs.read_working.Statement.{statement}
@@ -97,8 +97,8 @@ returns-5 c =
     let other = failed (at-decode .decode-points .ensures .ok) (c .before .if5 .taken) in
     read-as (refused-5 b head layout wholes _ (n .before .number4 .ensures .0) (n .if4 .left) other) (c .refuse5 .ensures)
 
-working-shown-requires : tie.Need-working-shown-requires
-working-shown-requires c κs =
+working-of-file-requires : tie.Need-working-of-file-requires
+working-of-file-requires c κs =
     let at-decode = c .before .before in
     let n = at-decode .before in
     let w = n .before .before in
@@ -124,7 +124,7 @@ returns-6 c =
     let layout = passed (l .before .is-laid-out .ensures) (l .if2 .left) in
     let wholes = passed (w .before .is-whole .ensures) (w .if3 .left) in
     let points = passed (at-decode .decode-points .ensures .ok) (c .before .if5 .left) in
-    read-as (all-passed b head layout wholes _ (n .before .number4 .ensures .0) (n .if4 .left) points) (c .working-shown .ensures)
+    read-as (all-passed b head layout wholes _ (n .before .number4 .ensures .0) (n .if4 .left) points) (c .working-of-file .ensures)
 
 pub read-working-spec : {M : Type 1} → statement M
 read-working-spec =
@@ -145,5 +145,5 @@ read-working-spec =
     decode-points-requires
     refuse-requires-5
     returns-5
-    working-shown-requires
+    working-of-file-requires
     returns-6)

@@ -20,7 +20,7 @@ returns-2 : tie.Need-returns-2
 returns-2 c =
     let at-put = c .before .before in
     let at-if = at-put .before .before in
-    stored-done _ _ _ (at-if .before .file-length .ensures) (at-if .if1 .left) _ (at-put .put-file .ensures)
+    stored-done _ _ _ (at-if .before .file-length .ensures) (at-if .if1 .left) (at-put .put-file .ensures)
 
 pub write-working-spec : {M : Type 1} → statement M
 write-working-spec =

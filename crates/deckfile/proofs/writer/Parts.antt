@@ -14,8 +14,9 @@ use Rattle.working.specs.declared.Working.{Working}
 use Rattle.working.specs.InOrder.{InOrder, stateOf}
 use Rattle.working.specs.Edges.{edgeRow}
 use Rattle.working.proofs.edges.Numbers.{edge-count}
-use Rattle.sections.specs.Bytes.{each, pointFour, edgeBytes}
-use Rattle.buffer.specs.Parts.{fileParts, Kept}
+use Rattle.arrays.specs.Paste.{each}
+use Rattle.sections.specs.Bytes.{pointFour, edgeBytes}
+use Rattle.buffer.specs.Parts.{fileParts, PartsFit}
 use Rattle.deckfile.proofs.Runs.{count-is, edges-are, edges-long}
 
 -- The points of codes, in bytes.
@@ -68,7 +69,7 @@ module _ (w : Working) (p : InOrder w) (v : Valid (stateOf w)) where
 
   -- The arrays, and room for the file.
   pub parts-kept : {row : List ℕ} → row ≡ edgeRow s → length row ≡ 128 → (out : List ℕ) → length (fileOf s) ≤ length out
-      → Kept (w .points .pins) n (w .points .steiner) m row out
+      → PartsFit (w .points .pins) n (w .points .steiner) m row out
   parts-kept e l out fits =
       record {
         pinsFew = few .0;

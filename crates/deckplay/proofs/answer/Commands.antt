@@ -4,8 +4,9 @@ use mathlib.Core.List.{List, []}
 use Prim.Native.Nat.{ℕ, min}
 use lib.IntN.{ℤ}
 use mir.Syntax.{w32}
-use mir.Val.{SFits, toZ, ofZ}
-use mir.ValLaws.{toZ-ofZ}
+use mir.Val.{SFits}
+use Rattle.arrays.proofs.Signed.{read, read-two}
+use Rattle.plane.specs.Point.{point}
 use Rattle.model.specs.Call as call
 use Rattle.deck.specs.declared.Deck.{Deck}
 use Rattle.deck.specs.declared.Outcome.{Outcome}
@@ -28,9 +29,6 @@ pub plays-line : (d : Deck) (b : List ℕ) (r k : Command) (a : Line) {before af
     → Plays a before after p → Plays (played d b) before after p
 plays-line d b r k a {before} {after} {p} e f q x =
     subst (λ (z : Line). Plays z before after p) (q ∙ ap (lineOf d b) (sym f ∙ e)) x
-
-abbrev read : ℤ → ℤ
-read z = toZ w32 (ofZ w32 z)
 
 module _ (d : Deck) (b : List ℕ) where
   pub blank-line : stays d [] ≡ lineOf d b command.Blank
@@ -75,19 +73,19 @@ module _ (d : Deck) (b : List ℕ) where
 
   -- Commands with two numbers, which are read back from their bits.
   module _ (x y : ℤ) (fx : SFits w32 x) (fy : SFits w32 y) where
-    pub add-line : (o : Outcome) → o ≡ called d (call.add (record { x = read x; y = read y })) → changes o ≡ lineOf d b (command.Add x y)
+    pub add-line : (o : Outcome) → o ≡ called d (call.add (point (read x) (read y))) → changes o ≡ lineOf d b (command.Add x y)
     unfolding lineOf
-    add-line o e = ap changes (e ∙ (λ i. called d (call.add (record { x = toZ-ofZ w32 x fx i; y = toZ-ofZ w32 y fy i }))))
+    add-line o e = ap changes (e ∙ read-two (λ (u v : ℤ). called d (call.add (point u v))) x y fx fy)
 
-    pub withdraw-line : (o : Outcome) → o ≡ called d (call.withdraw (record { x = read x; y = read y })) → changes o ≡ lineOf d b (command.Withdraw x y)
+    pub withdraw-line : (o : Outcome) → o ≡ called d (call.withdraw (point (read x) (read y))) → changes o ≡ lineOf d b (command.Withdraw x y)
     unfolding lineOf
-    withdraw-line o e = ap changes (e ∙ (λ i. called d (call.withdraw (record { x = toZ-ofZ w32 x fx i; y = toZ-ofZ w32 y fy i }))))
+    withdraw-line o e = ap changes (e ∙ read-two (λ (u v : ℤ). called d (call.withdraw (point u v))) x y fx fy)
 
-    pub degree-line : (a : Answer) → a ≡ asked d (degreeAnswer (record { x = read x; y = read y })) → stays d (answerText a) ≡ lineOf d b (command.Degree x y)
+    pub degree-line : (a : Answer) → a ≡ asked d (degreeAnswer (point (read x) (read y))) → stays d (answerText a) ≡ lineOf d b (command.Degree x y)
     unfolding lineOf
     degree-line a e =
-        ap (λ (z : Answer). stays d (answerText z)) (e ∙ (λ i. asked d (degreeAnswer (record { x = toZ-ofZ w32 x fx i; y = toZ-ofZ w32 y fy i }))))
+        ap (λ (z : Answer). stays d (answerText z)) (e ∙ read-two (λ (u v : ℤ). asked d (degreeAnswer (point u v))) x y fx fy)
 
     pub octant-line : stays d (octantText (read x) (read y)) ≡ lineOf d b (command.Octant x y)
     unfolding lineOf
-    octant-line = λ i. stays d (octantText (toZ-ofZ w32 x fx i) (toZ-ofZ w32 y fy i))
+    octant-line = read-two (λ (u v : ℤ). stays d (octantText u v)) x y fx fy

@@ -2,15 +2,14 @@
 use mathlib.Core.Path.{_≡_, refl, sym, ap, _∙_, subst}
 use mathlib.Core.Bool.{Bool}
 use mathlib.Core.List.{List, []}
-use Prim.Native.Nat.{ℕ, _+_, _*_, _≤_}
+use Prim.Native.Nat.{ℕ, _*_, _≤_}
 use native.Mathlib.Omega.{arith}
 use lib.IntN.{ℤ}
-use lib.ListN.{length, take, drop, replicate, length-append, length-replicate}
-use lib.Seq.{length-take-le}
+use lib.ListN.{length, take, replicate, length-replicate}
 use borrow.Author.Tests.{eq-eqb, ne-eqb}
 use mir.Syntax.{w32}
-use mir.Val.{SFits, toZ, ofZ}
-use mir.ValLaws.{toZ-ofZ}
+use mir.Val.{SFits}
+use Rattle.arrays.proofs.Signed.{read, read-two}
 use Rattle.arrays.specs.Test.{if}
 use Rattle.plane.specs.Octant.{octant}
 use Rattle.arrays.specs.Paste.{Pasted}
@@ -39,9 +38,9 @@ pub plays-same : (a b : Line) (before after : List ℕ) (r : Played) → a ≡ b
 plays-same a b before after r e p = subst (λ (z : Line). Plays z before after r) e p
 
 -- The octant, by whether there is one.
-module _ (x y : ℤ) (k : ℕ) (e : k ≡ octant (toZ w32 (ofZ w32 x)) (toZ w32 (ofZ w32 y))) (fx : SFits w32 x) (fy : SFits w32 y) where
+module _ (x y : ℤ) (k : ℕ) (e : k ≡ octant (read x) (read y)) (fx : SFits w32 x) (fy : SFits w32 y) where
   is-octant : k ≡ octant x y
-  is-octant = e ∙ (λ i. octant (toZ-ofZ w32 x fx i) (toZ-ofZ w32 y fy i))
+  is-octant = e ∙ read-two octant x y fx fy
 
   chosen : ℕ → Bool → List ℕ
   chosen n t = if t (λ _. errorWord) (λ _. numberText octantWord n)

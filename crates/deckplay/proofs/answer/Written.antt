@@ -15,7 +15,7 @@ use Rattle.questions.specs.declared.Answer.the-variants as answer
 use Rattle.deck.specs.Form.{stateOf, sound}
 use Rattle.deckfile.specs.declared.Written.{Written}
 use Rattle.deckfile.specs.declared.Written.the-variants.{Refused, Length}
-use Rattle.deckfile.specs.Writing.{written, left}
+use Rattle.deckfile.specs.Writing.{written, bufferAfter}
 use Rattle.deckfile.proofs.RoundTrip.{Wrote, wrote, wrote-file}
 use Rattle.ascii.specs.Encoding.{fileText}
 use Rattle.replies.specs.Replies.{answerText}
@@ -54,7 +54,7 @@ part-length b m c e f =
     (h, length-take-le m b h ∙ f)
 
 -- A file was written to the part l of a buffer, which then holds L, with `rest` behind it.
-module _ (d : Deck) (l held rest : List ℕ) (r : Written) (n : ℕ) (w : r ≡ written d l) (e : held ≡ left d l) (is : r ≡ Length n) where
+module _ (d : Deck) (l held rest : List ℕ) (r : Written) (n : ℕ) (w : r ≡ written d l) (e : held ≡ bufferAfter d l) (is : r ≡ Length n) where
   done : Wrote d l n
   done = wrote d l n (sym w ∙ is)
 

@@ -17,8 +17,8 @@ use Rattle.plane.specs.Code.{xOf, yOf, code, pointOf, isCode, located}
 use Rattle.arrays.specs.Test.{if}
 use Rattle.plane.specs.declared.codes.Located.{Located}
 use Rattle.plane.specs.declared.codes.Located.the-variants.{OutOfRange, At}
+use Rattle.arrays.proofs.Signed.{read, read-two}
 use Rattle.arrays.proofs.Test.{and-parts, and-both, same-test, true-of, of-true}
-use Rattle.plane.proofs.Signed.{read, read-two}
 use Rattle.plane.proofs.Stored.{coordinate-biased, biased-bound, coordinate-range, biased-coordinate, lower-true, lower-false}
 
 abbrev pub AllCodes : List ℕ → Type 0

@@ -5,7 +5,8 @@ use borrow.Author.Needs.{needs}
 use lib.IntN.{subℕ, _-ℤ_}
 use mir.Syntax.{w32}
 use mir.Val.{SFits, toZ}
-use mir.ValLaws.{toZ-pos, toZ-ofZ}
+use mir.ValLaws.{toZ-pos}
+use Rattle.arrays.proofs.Signed.{read-is}
 use Rattle.plane.proofs.Signed.{lowered, lowered-fits}
 use Rattle.plane.proofs.difference.Statement.{statement}
 use Rattle.plane.proofs.difference.Tie as tie
@@ -16,15 +17,15 @@ cast-result c = search needs
 cast-result-2 : tie.Need-cast-result-2
 cast-result-2 c = search needs
 
-read : (s : tie.Start) → toZ w32 (s .args .a) -ℤ toZ w32 (s .args .b) ≡ subℕ (s .args .a) (s .args .b)
-read s =
+lesser : (s : tie.Start) → toZ w32 (s .args .a) -ℤ toZ w32 (s .args .b) ≡ subℕ (s .args .a) (s .args .b)
+lesser s =
     ap₂ _-ℤ_ (toZ-pos w32 (s .args .a) (omega (arith, s .pre))) (toZ-pos w32 (s .args .b) (omega (arith, s .pre))) ∙ lowered (s .args .a) (s .args .b)
 
 sub-result : tie.Need-sub-result
-sub-result c = subst (SFits w32) (sym (read c)) (lowered-fits (c .args .a) (c .args .b) (c .pre .0) (c .pre .1))
+sub-result c = subst (SFits w32) (sym (lesser c)) (lowered-fits (c .args .a) (c .args .b) (c .pre .0) (c .pre .1))
 
 returns : tie.Need-returns
-returns c = toZ-ofZ w32 (toZ w32 (c .args .a) -ℤ toZ w32 (c .args .b)) (sub-result c) ∙ read c
+returns c = read-is (sub-result c) (lesser c)
 
 pub difference-spec : {M : Type 1} → statement M
 difference-spec = tie.close (tie.spec cast-result cast-result-2 sub-result returns)

@@ -8,11 +8,11 @@ use lib.IntN.{ℤ}
 use lib.ListN.{getD}
 use borrow.Author.Tests.{ne-eqb}
 use mir.Syntax.{w32}
-use mir.Val.{SFits, toZ, ofZ}
-use mir.ValLaws.{toZ-ofZ}
+use mir.Val.{SFits}
 use Rattle.plane.specs.Point.{Point}
 use Rattle.model.specs.Call.{Call}
-use Rattle.model.specs.File.{number4}
+use Rattle.arrays.proofs.Signed.{read, read-two}
+use Rattle.arrays.specs.Number.{number4}
 use Rattle.deck.specs.declared.Deck.{Deck}
 use Rattle.deck.specs.declared.Outcome.{Outcome}
 use Rattle.deck.specs.Calls.{called}
@@ -30,8 +30,8 @@ module _ (d : Deck) {o : Outcome} {n k : ℕ} (is : n ≡ k) where
 
   -- That of a call at a point, whose numbers are read back from their bits.
   pub point-call : (call : Point → Call) (x y : ℤ) → SFits w32 x → SFits w32 y → callOf k (at x y) ≡ call (at x y) ∷ []
-      → o ≡ called d (call (at (toZ w32 (ofZ w32 x)) (toZ w32 (ofZ w32 y)))) → o .next ≡ deckAfter d (callOf n (at x y))
-  point-call call x y fx fy f e = one-call (at x y) f (e ∙ (λ i. called d (call (at (toZ-ofZ w32 x fx i) (toZ-ofZ w32 y fy i)))))
+      → o ≡ called d (call (at (read x) (read y))) → o .next ≡ deckAfter d (callOf n (at x y))
+  point-call call x y fx fy f e = one-call (at x y) f (e ∙ read-two (λ (u v : ℤ). called d (call (at u v))) x y fx fy)
 
 pub no-call : (d : Deck) (n : ℕ) (p : Point) → ¬ (n ≡ 0) → ¬ (n ≡ 1) → ¬ (n ≡ 2) → ¬ (n ≡ 3) → d ≡ deckAfter d (callOf n p)
 unfolding deckAfter callOf

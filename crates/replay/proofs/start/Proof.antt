@@ -1,6 +1,6 @@
 -- `replay::start` meets its contract: no bytes, or a file.
 use mathlib.Core.Path.{ap, _∙_}
-use Rattle.deckfile.specs.Reading.{accepting, outcomeOf}
+use Rattle.deckfile.specs.Reading.{acceptedDeck, readOutcome}
 use Rattle.replay.proofs.FirstDeck.{start-none, start-file}
 use borrow.Author.Needs.{needs}
 use Rattle.replay.proofs.start.Statement.{statement}
@@ -10,14 +10,14 @@ empty-requires : tie.Need-empty-requires
 empty-requires c κs = search needs
 
 returns : tie.Need-returns
-unfolding outcomeOf
-returns c = ap accepting (c .empty .ensures) ∙ ap outcomeOf (start-none _ (c .before .if1 .taken))
+unfolding readOutcome
+returns c = ap acceptedDeck (c .empty .ensures) ∙ ap readOutcome (start-none _ (c .before .if1 .taken))
 
 read-requires : tie.Need-read-requires
 read-requires c κs = search needs
 
 returns-2 : tie.Need-returns-2
-returns-2 c = c .read .ensures ∙ ap outcomeOf (start-file _ (c .before .if1 .left))
+returns-2 c = c .read .ensures ∙ ap readOutcome (start-file _ (c .before .if1 .left))
 
 pub start-spec : {M : Type 1} → statement M
 start-spec = tie.close (tie.spec empty-requires returns read-requires returns-2)

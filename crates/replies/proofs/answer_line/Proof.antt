@@ -1,10 +1,11 @@
 -- `replies::answer_line` meets its contract: a line for each answer.
 use mathlib.Core.Path.{sym, ap}
+use lib.IntN.{ℤ}
 use borrow.Author.Needs.{needs}
-use Rattle.replies.specs.Replies.{answerText}
+use Rattle.replies.specs.Replies.{edgeText, answerText}
 use Rattle.ascii.proofs.Room.{front-none, front-put}
 use Rattle.arrays.proofs.paste.Parts.{pasted-same}
-use Rattle.replies.proofs.Values.{edge-again}
+use Rattle.arrays.proofs.Signed.{read-four}
 use Rattle.replies.proofs.answer_line.Statement.{statement}
 use Rattle.replies.proofs.answer_line.Tie as tie
 
@@ -108,8 +109,8 @@ returns-5 c =
     let v = at-answer4 .answer4 .given .0 in
     let k = at-known-told4 .known-told4 .given in
     front-put 128 _ _ _ _ (at-if1 .if1 .left) (pasted-same (sym (ap answerText (at-answer4 .answer4 .given .1)))
-    (edge-again (v .0) (v .1 .0) (v .1 .1 .0) (v .1 .1 .1 .0) (v .1 .1 .1 .1 .0)
-    (record { sfits = k .0 .1 }) (record { sfits = k .1 .0 .1 }) (record { sfits = k .1 .1 .0 .1 }) (record { sfits = k .1 .1 .1 .0 .1 })
+    (pasted-same (read-four (λ (x y s t : ℤ). edgeText x y s t (v .1 .1 .1 .1 .0)) (v .0) (v .1 .0) (v .1 .1 .0) (v .1 .1 .1 .0)
+    (record { sfits = k .0 .1 }) (record { sfits = k .1 .0 .1 }) (record { sfits = k .1 .1 .0 .1 }) (record { sfits = k .1 .1 .1 .0 .1 }))
     (at-edge-line .edge-line .ensures)))
 
 same-length-5 : tie.Need-same-length-5

@@ -1,8 +1,9 @@
 -- `replies::edge_line` meets its contract.
 use native.Mathlib.Omega.{arith}
 use borrow.Author.Needs.{needs}
-use Rattle.arrays.proofs.paste.Parts.{pasted-then}
-use Rattle.replies.proofs.Values.{ends-again}
+use Rattle.arrays.proofs.paste.Parts.{pasted-same, pasted-then}
+use Rattle.arrays.proofs.Signed.{read-four}
+use Rattle.replies.specs.Replies.{endsText}
 use Rattle.replies.proofs.edge_line.Statement.{statement}
 use Rattle.replies.proofs.edge_line.Tie as tie
 
@@ -28,9 +29,8 @@ returns c =
     let at-word = at-ends-fields .before .before .before .before in
     let at-start = at-word .before .before .before .before in
     pasted-then (at-word .put-bytes .ensures) (omega arith)
-    (pasted-then
-    (ends-again _ _ _ _ (at-start .fits .x) (at-start .fits .y) (at-start .fits .u) (at-start .fits .v) (at-ends-fields .ends-fields .ensures .0))
-    (omega arith)
+    (pasted-then (pasted-same (read-four endsText _ _ _ _ (at-start .fits .x) (at-start .fits .y) (at-start .fits .u) (at-start .fits .v))
+    (at-ends-fields .ends-fields .ensures .0)) (omega arith)
     (at-decimal-field .decimal-field .ensures .0))
 
 pub edge-line-spec : {M : Type 1} → statement M

@@ -1,10 +1,11 @@
 -- `replies::reply_line` meets its contract: a line for each reply.
 use mathlib.Core.Path.{sym, ap}
+use lib.IntN.{ℤ}
 use borrow.Author.Needs.{needs}
-use Rattle.replies.specs.Replies.{replyText}
+use Rattle.replies.specs.Replies.{fallText, replyText}
 use Rattle.ascii.proofs.Room.{front-none, front-put}
 use Rattle.arrays.proofs.paste.Parts.{pasted-same}
-use Rattle.replies.proofs.Values.{fall-again}
+use Rattle.arrays.proofs.Signed.{read-two}
 use Rattle.replies.proofs.reply_line.Statement.{statement}
 use Rattle.replies.proofs.reply_line.Tie as tie
 
@@ -102,8 +103,8 @@ returns-5 c =
     let v = at-reply2 .reply2 .given .0 in
     let k = at-known-told2 .known-told2 .given in
     front-put 128 _ _ _ _ (at-if1 .if1 .left) (pasted-same (sym (ap replyText (at-reply2 .reply2 .given .1)))
-    (fall-again (v .0) (v .1 .0) (v .1 .1 .0)
-    (record { sfits = k .0 .1 }) (record { sfits = k .1 .0 .1 }) (at-fall-line .fall-line .ensures)))
+    (pasted-same (read-two (λ (x y : ℤ). fallText x y (v .1 .1 .0)) (v .0) (v .1 .0) (record { sfits = k .0 .1 }) (record { sfits = k .1 .0 .1 }))
+    (at-fall-line .fall-line .ensures)))
 
 same-length-5 : tie.Need-same-length-5
 same-length-5 c = search needs

@@ -1,9 +1,7 @@
 -- `rounds::round_of` meets its contract: the crossing found is the model's best candidate, and it joins as the model says.
-use mathlib.Core.Path.{_≡_, refl, sym, ap, _∙_, subst₂}
+use mathlib.Core.Path.{refl, sym, ap, _∙_, subst₂}
 use Prim.Native.Nat.{ℕ, _≤_}
-use native.Mathlib.Omega.{arith}
-use mir.Syntax.{w32}
-use mir.ValLaws.{toZ-ofZ}
+use Rattle.arrays.proofs.Signed.{read-is}
 use Rattle.model.specs.State.{State, points}
 use Rattle.model.specs.Tree.{treeLength}
 use Rattle.model.proofs.Candidate.{map-in}
@@ -73,8 +71,8 @@ returns-2 c =
     let at-steiner = at-length .before in
     let j = joined (at-steiner .before) in
     let e = at-steiner .with-steiner .ensures .1 in
-    let x = toZ-ofZ w32 _ (record { sfits = c .before .to-signed .ok }) ∙ c .before .to-signed .ensures in
-    let y = toZ-ofZ w32 _ (record { sfits = c .to-signed2 .ok }) ∙ c .to-signed2 .ensures in
+    let x = read-is (record { sfits = c .before .to-signed .ok }) (c .before .to-signed .ensures) in
+    let y = read-is (record { sfits = c .to-signed2 .ok }) (c .to-signed2 .ensures) in
     record {
       inOrder = at-steiner .with-steiner .ensures .0;
       next = next-joins _ _ _ _ j _ e;

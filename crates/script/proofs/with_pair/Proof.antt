@@ -2,7 +2,8 @@
 use mathlib.Core.Path.{sym, _∙_}
 use borrow.Author.Needs.{needs}
 use Rattle.script.specs.declared.Command.the-variants.{Add, Withdraw, Degree, Octant}
-use Rattle.script.proofs.Names.{pair-add, pair-withdraw, pair-degree, pair-octant, pair-none, read-two}
+use Rattle.script.proofs.Names.{pair-add, pair-withdraw, pair-degree, pair-octant, pair-none}
+use Rattle.arrays.proofs.Signed.{read-two}
 use Rattle.script.proofs.with_pair.Statement.{statement}
 use Rattle.script.proofs.with_pair.Tie as tie
 

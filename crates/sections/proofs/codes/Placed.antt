@@ -17,7 +17,7 @@ use Rattle.model.specs.State.{maxPins, placed}
 use Rattle.model.proofs.Validity.{placed-is}
 use Rattle.points.specs.Coded.{padded}
 use Rattle.points.proofs.Codes.{drop-zeros}
-use Rattle.model.specs.File.{pointsOf, size, shown}
+use Rattle.model.specs.File.{pointsOf, size, fileState}
 use Rattle.arrays.proofs.Set.{all-in}
 use Rattle.arrays.specs.Array.{noneIn}
 use Rattle.plane.proofs.codes.Sets.{points-has, points-rising}
@@ -55,41 +55,41 @@ apart-test (p ∷ l) m r s =
 
 -- The points of the first two sections.
 module _ (b : List ℕ) (d : Sections b) where
-  pins-shown : pointsIn b 30 (size b 0 / 4) ≡ shown b .pins
-  pins-shown =
+  pins-of-file : pointsIn b 30 (size b 0 / 4) ≡ fileState b .pins
+  pins-of-file =
       let e : 4 * (size b 0 / 4) ≡ size b 0 = omega (arith, d .whole₀) in
       ap₂ (λ (n at : ℕ). pointsOf (take n (drop at b))) e (sym (d .offset₀))
 
-  steiner-shown : pointsIn b (30 + size b 0) (size b 1 / 4) ≡ shown b .steiner
-  steiner-shown =
+  steiner-of-file : pointsIn b (30 + size b 0) (size b 1 / 4) ≡ fileState b .steiner
+  steiner-of-file =
       let e : 4 * (size b 1 / 4) ≡ size b 1 = omega (arith, d .whole₁) in
       ap₂ (λ (n at : ℕ). pointsOf (take n (drop at b))) e (sym (d .offset₁))
 
-  pub pins-count : length (shown b .pins) ≡ size b 0 / 4
-  pins-count = ap length (sym pins-shown) ∙ points-count b 30 (size b 0 / 4) (omega (arith, d .total))
+  pub pins-count : length (fileState b .pins) ≡ size b 0 / 4
+  pins-count = ap length (sym pins-of-file) ∙ points-count b 30 (size b 0 / 4) (omega (arith, d .total))
 
-  pub steiner-count : length (shown b .steiner) ≡ size b 1 / 4
-  steiner-count = ap length (sym steiner-shown) ∙ points-count b (30 + size b 0) (size b 1 / 4) (omega (arith, d .total))
+  pub steiner-count : length (fileState b .steiner) ≡ size b 1 / 4
+  steiner-count = ap length (sym steiner-of-file) ∙ points-count b (30 + size b 0) (size b 1 / 4) (omega (arith, d .total))
 
   -- Check 5: in range, and the tests on codes.
   module _ (u v : ℕ) (e : u ≡ size b 0) (f : v ≡ size b 1) where
-    pins-are : pointsIn b 30 (u / 4) ≡ shown b .pins
-    pins-are = ap (λ (z : ℕ). pointsIn b 30 (z / 4)) e ∙ pins-shown
+    pins-are : pointsIn b 30 (u / 4) ≡ fileState b .pins
+    pins-are = ap (λ (z : ℕ). pointsIn b 30 (z / 4)) e ∙ pins-of-file
 
-    steiner-are : pointsIn b (30 + u) (v / 4) ≡ shown b .steiner
-    steiner-are = ap₂ (λ (z y : ℕ). pointsIn b (30 + z) (y / 4)) e f ∙ steiner-shown
+    steiner-are : pointsIn b (30 + u) (v / 4) ≡ fileState b .steiner
+    steiner-are = ap₂ (λ (z y : ℕ). pointsIn b (30 + z) (y / 4)) e f ∙ steiner-of-file
 
     -- What is left of check 5 where all points are in range.
     abbrev apart : Bool
-    apart = rising lower (shown b .pins) && (rising lower (shown b .steiner) && all (λ (p : Point). not (has lower p (shown b .steiner))) (shown b .pins))
+    apart = rising lower (fileState b .pins) && (rising lower (fileState b .steiner) && all (λ (p : Point). not (has lower p (fileState b .steiner))) (fileState b .pins))
 
     tests : {pins steiner : List ℕ} (old₀ old₁ : List ℕ) → pins ≡ decoded (pointsIn b 30 (u / 4)) old₀
-        → steiner ≡ decoded (pointsIn b (30 + u) (v / 4)) old₁ → AllInRange (shown b .pins) → AllInRange (shown b .steiner)
+        → steiner ≡ decoded (pointsIn b (30 + u) (v / 4)) old₁ → AllInRange (fileState b .pins) → AllInRange (fileState b .steiner)
         → placedCodes (take (u / 4) pins) (take (v / 4) steiner) ≡ apart
     tests old₀ old₁ p q r s =
         ap₂ placedCodes (codes-taken old₀ (p ∙ ap (λ ps. decoded ps old₀) pins-are) r (pins-count ∙ ap (λ (z : ℕ). z / 4) (sym e)))
         (codes-taken old₁ (q ∙ ap (λ ps. decoded ps old₁) steiner-are) s (steiner-count ∙ ap (λ (z : ℕ). z / 4) (sym f)))
-        ∙ ap₂ _&&_ (rising-test (shown b .pins) r) (ap₂ _&&_ (rising-test (shown b .steiner) s) (apart-test (shown b .pins) (shown b .steiner) r s))
+        ∙ ap₂ _&&_ (rising-test (fileState b .pins) r) (ap₂ _&&_ (rising-test (fileState b .steiner) s) (apart-test (fileState b .pins) (fileState b .steiner) r s))
 
     pub decodes : {x y z : Bool} {pins steiner : List ℕ} → x ≡ all inRange (pointsIn b 30 (u / 4)) → y ≡ all inRange (pointsIn b (30 + u) (v / 4))
         → pins ≡ decoded (pointsIn b 30 (u / 4)) (replicate maxPins 0) → steiner ≡ decoded (pointsIn b (30 + u) (v / 4)) (replicate filePlaces 0)
@@ -99,15 +99,15 @@ module _ (b : List ℕ) (d : Sections b) where
         record {
           ok =
               ap₂ (λ (m n : Bool). m && (n && z)) (ex ∙ ap (all inRange) pins-are) (ey ∙ ap (all inRange) steiner-are)
-              ∙ by-range (all inRange (shown b .pins)) (all inRange (shown b .steiner)) refl refl;
-          pins = λ t. ep ∙ codes-padded maxPins pins-are (placed-is (shown b) .0 t .pinsRange);
-          steiner = λ t. es ∙ codes-padded filePlaces steiner-are (placed-is (shown b) .0 t .steinerRange);
+              ∙ by-range (all inRange (fileState b .pins)) (all inRange (fileState b .steiner)) refl refl;
+          pins = λ t. ep ∙ codes-padded maxPins pins-are (placed-is (fileState b) .0 t .pinsRange);
+          steiner = λ t. es ∙ codes-padded filePlaces steiner-are (placed-is (fileState b) .0 t .steinerRange);
         }
       where
         inside : (l : List Point) → all inRange l ≡ true → AllInRange l
         inside l t = all-in inRange l .0 (of-true t)
 
-        by-range : (s t : Bool) → all inRange (shown b .pins) ≡ s → all inRange (shown b .steiner) ≡ t → s && (t && z) ≡ s && (t && apart)
-        by-range true true h k = ez ∙ tests _ _ ep es (inside (shown b .pins) h) (inside (shown b .steiner) k)
+        by-range : (s t : Bool) → all inRange (fileState b .pins) ≡ s → all inRange (fileState b .steiner) ≡ t → s && (t && z) ≡ s && (t && apart)
+        by-range true true h k = ez ∙ tests _ _ ep es (inside (fileState b .pins) h) (inside (fileState b .steiner) k)
         by-range true false h k = refl
         by-range false t h k = refl

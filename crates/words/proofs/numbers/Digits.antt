@@ -12,10 +12,10 @@ use lib.Seq.{take-all}
 use lib.IntN.{ℤ, pos, negsuc, negℤ, natAbs, _-ℤ_, +ℤ-idl}
 use lib.Signed.{ltZ, nonNeg}
 use mir.Syntax.{w32, w64}
-use mir.Val.{Fits, SFits, toZ, ofZ}
-use mir.ValLaws.{toZ-ofZ}
+use mir.Val.{Fits, SFits}
 use borrow.Author.Tests.{le-leb, lt-leb, leb-true, ltb-true, eq-eqb, ne-eqb}
 use Rattle.arrays.specs.Test.{if}
+use Rattle.arrays.proofs.Signed as signed
 use Rattle.words.specs.declared.numbers.Number.{Number}
 use Rattle.words.specs.declared.numbers.Number.the-variants.{NoNumber, Is}
 use Rattle.words.specs.declared.numbers.Size.the-variants.{NoSize, Of}
@@ -162,23 +162,16 @@ module _ (w : List ℕ) (some : length w ≡ 0 → ⊥) (m : ℕ) where
       let s = small 2147483647 w (omega arith) in
       sym (numbered w some ∙ rw (ne-eqb (getD w 0 0) 45 n, s .0) (ap (λ (n : ℕ). Is (pos n)) (sym (f ∙ s .1))))
 
--- A number handed on is read back from its bits.
-pub read-back : (r z : ℤ) → r ≡ z → SFits w32 z → Is (toZ w32 (ofZ w32 r)) ≡ Is z
-read-back r z e f = ap (λ (y : ℤ). Is (toZ w32 (ofZ w32 y))) e ∙ ap Is (toZ-ofZ w32 z f)
-
-pub plus-fits : (m : ℕ) → m ≤ 2147483647 → SFits w32 (pos m)
-plus-fits m h = record { sfits = omega arith }
-
 -- A number that is not negative, by the test on what is read back.
 pub size-none : (w : List ℕ) (r : Number) → r ≡ numberOf w → r ≡ NoNumber → NoSize ≡ sizeOf w
 unfolding sizeOf
 size-none w r e f = sym (ap natural (sym e ∙ f))
 
 module _ (w : List ℕ) (r : Number) (z : ℤ) (e : r ≡ numberOf w) (f : r ≡ Is z) (fits : SFits w32 z) where
-  same-test : ltZ (toZ w32 (ofZ w32 z)) (pos 0) ≡ ltZ z (pos 0)
-  same-test = ap (λ (y : ℤ). ltZ y (pos 0)) (toZ-ofZ w32 z fits)
+  same-test : ltZ (signed.read z) (pos 0) ≡ ltZ z (pos 0)
+  same-test = signed.read-one (λ (y : ℤ). ltZ y (pos 0)) fits
 
-  pub size-negative : ltZ (toZ w32 (ofZ w32 z)) (pos 0) ≡ true → NoSize ≡ sizeOf w
+  pub size-negative : ltZ (signed.read z) (pos 0) ≡ true → NoSize ≡ sizeOf w
   unfolding sizeOf
   size-negative t = sym (ap natural (sym e ∙ f) ∙ go z (sym same-test ∙ t))
     where
@@ -186,18 +179,14 @@ module _ (w : List ℕ) (r : Number) (z : ℤ) (e : r ≡ numberOf w) (f : r ≡
       go (pos n) g = absurd (omega (arith, ltb-true n 0 g))
       go (negsuc n) g = refl
 
-  pub size-some : ltZ (toZ w32 (ofZ w32 z)) (pos 0) ≡ false → Of (natAbs (toZ w32 (ofZ w32 z))) ≡ sizeOf w
+  pub size-some : ltZ (signed.read z) (pos 0) ≡ false → Of (natAbs (signed.read z)) ≡ sizeOf w
   unfolding sizeOf
-  size-some t = ap (λ (y : ℤ). Of (natAbs y)) (toZ-ofZ w32 z fits) ∙ sym (ap natural (sym e ∙ f) ∙ go z (sym same-test ∙ t))
+  size-some t = signed.read-one (λ (y : ℤ). Of (natAbs y)) fits ∙ sym (ap natural (sym e ∙ f) ∙ go z (sym same-test ∙ t))
     where
       go : (z : ℤ) → ltZ z (pos 0) ≡ false → natural (Is z) ≡ Of (natAbs z)
       go (pos n) g = refl
       go (negsuc n) g = let h : _≡_ {A = ℕ} 0 1 = cc in absurd (omega arith)
 
-pub size-cast : (z : ℤ) → SFits w32 z → ltZ (toZ w32 (ofZ w32 z)) (pos 0) ≡ false
-    → T (nonNeg (toZ w32 (ofZ w32 z))) × Fits w32 (natAbs (toZ w32 (ofZ w32 z)))
-size-cast z fits t = rw (toZ-ofZ w32 z fits) (go z fits (rw (toZ-ofZ w32 z fits) at t))
-  where
-    go : (z : ℤ) → SFits w32 z → ltZ z (pos 0) ≡ false → T (nonNeg z) × Fits w32 (natAbs z)
-    go (pos n) f g = (tt, record { fits = omega (arith, f .sfits) })
-    go (negsuc n) f g = let h : _≡_ {A = ℕ} 0 1 = cc in absurd (omega arith)
+pub size-cast : (z : ℤ) → SFits w32 z → ltZ (signed.read z) (pos 0) ≡ false
+    → T (nonNeg (signed.read z)) × Fits w32 (natAbs (signed.read z))
+size-cast z fits t = let r = signed.not-negative (signed.read z) (signed.read-fits z fits) t in (r .0, record { fits = omega (arith, r .1) })

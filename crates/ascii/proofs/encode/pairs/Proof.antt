@@ -4,7 +4,7 @@ use native.Mathlib.Omega.{arith}
 use lib.ListN.{length}
 use borrow.Author.Needs.{needs}
 use Rattle.ascii.specs.Encoding.{hexPair}
-use Rattle.arrays.proofs.paste.Lines.{PutFirst, first-none, first-more, first-end, eachTo, each-none, each-more, each-all}
+use Rattle.arrays.proofs.paste.Lines.{PutFirst, eachTo, each-first-none, each-first-more, each-first-end, each-all}
 use Rattle.arrays.proofs.paste.Parts.{pasted-same}
 use Rattle.ascii.proofs.encode.pairs.Statement.{statement}
 use Rattle.ascii.proofs.encode.pairs.Tie as tie
@@ -16,9 +16,7 @@ abbrev μ-loop : tie.MeasureT-loop
 μ-loop bytes out₀ at next₀ i₀ out next i = length bytes - i
 
 loop-holds : tie.Need-loop-holds Inv-loop μ-loop
-loop-holds c =
-    let at-start = c .before .before in
-    first-none (eachTo hexPair (at-start .args .bytes .now)) 2 _ _ _ (each-none hexPair (at-start .args .bytes .now))
+loop-holds c = each-first-none hexPair 2 _ _ _ _
 
 shared-slice-read-pair : tie.Need-shared-slice-read-pair Inv-loop μ-loop
 shared-slice-read-pair c = search needs
@@ -36,21 +34,14 @@ loop-again : tie.Need-loop-again Inv-loop μ-loop
 loop-again c =
     let at-pair = c .before .before in
     let at-loop-test = at-pair .before .before .before in
-    let at-loop = at-loop-test .before in
-    let at-start = at-loop .before .before .before in
-    first-more (eachTo hexPair (at-start .args .bytes .now)) 2 _ _ _ _ _ _ _ _ _ (at-loop .loop .inv) (at-loop-test .loop-test .taken)
-    (each-more hexPair (at-start .args .bytes .now) (at-loop .loop .i) (at-loop-test .loop-test .taken)) (omega arith)
+    each-first-more hexPair 2 _ _ _ _ (at-loop-test .before .loop .inv) (at-loop-test .loop-test .taken) (omega arith) (omega arith)
     (at-pair .pair .ensures .0) (at-pair .pair .ensures .1) (at-pair .pair .kept .0)
 
 same-length : tie.Need-same-length Inv-loop μ-loop
 same-length c = c .before .loop .inv .same
 
 returns : tie.Need-returns Inv-loop μ-loop
-returns c =
-    let at-loop = c .before in
-    let at-start = at-loop .before .before .before in
-    pasted-same (each-all hexPair (at-start .args .bytes .now))
-    (first-end (eachTo hexPair (at-start .args .bytes .now)) 2 _ _ _ _ _ _ (at-loop .loop .inv) (c .loop-test .left) .0)
+returns c = pasted-same (each-all hexPair _) (each-first-end hexPair 2 _ _ _ _ (c .before .loop .inv) (c .loop-test .left))
 
 pub pairs-spec : {M : Type 1} → statement M
 pairs-spec =

@@ -3,7 +3,7 @@ use Prim.Native.Nat.{_-_}
 use native.Mathlib.Omega.{arith}
 use borrow.Author.Needs.{needs}
 use Rattle.ascii.specs.Encoding.{spread}
-use Rattle.arrays.proofs.paste.Lines.{PutFirst, first-none, first-more, first-end, eachTo, each-none, each-more}
+use Rattle.arrays.proofs.paste.Lines.{PutFirst, eachTo, each-first-none, each-first-more, each-first-end}
 use Rattle.ascii.proofs.encode.spread_all.Statement.{statement}
 use Rattle.ascii.proofs.encode.spread_all.Tie as tie
 
@@ -14,7 +14,7 @@ abbrev μ-loop : tie.MeasureT-loop
 μ-loop lines n out₀ next₀ i₀ out next i = n - i
 
 loop-holds : tie.Need-loop-holds Inv-loop μ-loop
-loop-holds c = first-none (eachTo spread (c .before .before .args .lines .now)) 3 _ _ _ (each-none spread (c .before .before .args .lines .now))
+loop-holds c = each-first-none spread 3 _ _ _ _
 
 shared-slice-read-spread : tie.Need-shared-slice-read-spread Inv-loop μ-loop
 shared-slice-read-spread c = search needs
@@ -33,19 +33,14 @@ loop-again c =
     let at-spread = c .before .before in
     let at-loop-test = at-spread .before .before .before in
     let at-loop = at-loop-test .before in
-    let at-start = at-loop .before .before .before in
-    first-more (eachTo spread (at-start .args .lines .now)) 3 _ _ _ _ _ _ _ _ _ (at-loop .loop .inv) (at-loop-test .loop-test .taken)
-    (each-more spread (at-start .args .lines .now) (at-loop .loop .i) (omega (arith, at-start .pre .0, at-loop-test .loop-test .taken))) (omega arith)
+    each-first-more spread 3 _ _ _ _ (at-loop .loop .inv) (at-loop-test .loop-test .taken) (at-loop .before .before .before .pre .0) (omega arith)
     (at-spread .spread .ensures .0) (at-spread .spread .ensures .1) (at-spread .spread .kept .0)
 
 same-length : tie.Need-same-length Inv-loop μ-loop
 same-length c = c .before .loop .inv .same
 
 returns : tie.Need-returns Inv-loop μ-loop
-returns c =
-    let at-loop = c .before in
-    let at-start = at-loop .before .before .before in
-    first-end (eachTo spread (at-start .args .lines .now)) 3 _ _ _ _ _ _ (at-loop .loop .inv) (c .loop-test .left) .0
+returns c = each-first-end spread 3 _ _ _ _ (c .before .loop .inv) (c .loop-test .left)
 
 pub spread-all-spec : {M : Type 1} → statement M
 spread-all-spec =

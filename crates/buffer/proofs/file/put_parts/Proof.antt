@@ -1,5 +1,6 @@
 -- `buffer::file::put_parts` meets its contract: one part behind the other.
-use Rattle.buffer.proofs.Parts.{parts-put}
+use native.Mathlib.Omega.{arith}
+use Rattle.buffer.proofs.Parts.{pins-end, steiner-end, parts-put}
 use borrow.Author.Needs.{needs}
 use Rattle.buffer.proofs.file.put_parts.Statement.{statement}
 use Rattle.buffer.proofs.file.put_parts.Tie as tie
@@ -25,36 +26,35 @@ put-header-requires c κs = search needs
 put-points-requires : tie.Need-put-points-requires
 put-points-requires c κs = search needs
 
-mul-put-points : tie.Need-mul-put-points
-mul-put-points c = search needs
-
-add-put-points : tie.Need-add-put-points
-add-put-points c = search needs
-
 put-points-requires-2 : tie.Need-put-points-requires-2
-put-points-requires-2 c κs = search needs
-
-mul-put-edges : tie.Need-mul-put-edges
-mul-put-edges c = search needs
-
-add-put-edges : tie.Need-add-put-edges
-add-put-edges c = search needs
-
-mul-put-edges-2 : tie.Need-mul-put-edges-2
-mul-put-edges-2 c = search needs
-
-add-put-edges-2 : tie.Need-add-put-edges-2
-add-put-edges-2 c = search needs
+put-points-requires-2 c κs =
+    let pins = c .before .before .before in
+    let header = pins .before .before .before .before in
+    let kept = header .before .before .before .before .before .before .before .pre in
+    (kept .inSteiner, omega (arith, header .put-header .ensures .next, pins-end kept (pins .put-points .ensures), kept .room))
 
 put-edges-requires : tie.Need-put-edges-requires
-put-edges-requires c κs = search needs
+put-edges-requires c κs =
+    let steiner = c .before .before .before in
+    let pins = steiner .before .before .before .before in
+    let header = pins .before .before .before .before in
+    let kept = header .before .before .before .before .before .before .before .pre in
+    let at-steiner = pins-end kept (pins .put-points .ensures) in
+    let at-edges = steiner-end kept (steiner .put-points2 .ensures) in
+    let count = header .before .before .edges-of .ensures in
+    (omega (arith, count, kept .inEnds), omega (arith, header .put-header .ensures .next, at-steiner, at-edges, count, kept .room))
 
 same-length : tie.Need-same-length
 same-length c = search needs
 
 returns : tie.Need-returns
 returns c =
-    parts-put _ _ _ _ _ _ (c .before .before .before .before .before .before .before .before .before .before .before .before .before .before .before .before .before .before .before .before .before .pre) _ (c .before .before .before .before .before .before .before .before .before .before .before .before .before .before .before .before .edges-of .ensures) _ _ _ _ (c .before .before .before .before .before .before .before .before .before .before .before .before .before .before .put-header .ensures) (c .before .before .before .before .before .before .before .before .before .before .put-points .ensures) (c .before .before .before .before .before .before .put-points2 .ensures) (c .before .before .put-edges .ensures)
+    let edges = c .before .before in
+    let steiner = edges .before .before .before .before in
+    let pins = steiner .before .before .before .before in
+    let header = pins .before .before .before .before in
+    parts-put (header .before .before .before .before .before .before .before .pre) (header .before .before .edges-of .ensures)
+    (header .put-header .ensures) (pins .put-points .ensures) (steiner .put-points2 .ensures) (edges .put-edges .ensures)
 
 pub put-parts-spec : {M : Type 1} → statement M
 put-parts-spec =
@@ -67,13 +67,7 @@ put-parts-spec =
     mul-put-header-3
     put-header-requires
     put-points-requires
-    mul-put-points
-    add-put-points
     put-points-requires-2
-    mul-put-edges
-    add-put-edges
-    mul-put-edges-2
-    add-put-edges-2
     put-edges-requires
     same-length
     returns)

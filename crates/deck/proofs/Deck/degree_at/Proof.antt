@@ -3,7 +3,7 @@ use mathlib.Core.Path.{ap, _∙_}
 use borrow.Author.Tests.{not-true, not-false}
 use Rattle.plane.specs.Point.{Point, point}
 use Rattle.working.specs.InOrder as work
-use Rattle.plane.proofs.Signed.{read-two}
+use Rattle.arrays.proofs.Signed.{read-two}
 use Rattle.questions.specs.Answers.{degreeAnswer}
 use Rattle.deck.proofs.Calls.{checked-valid}
 use Rattle.deck.proofs.Questions.{refused-answer, asked-by}

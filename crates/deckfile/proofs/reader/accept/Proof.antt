@@ -1,5 +1,5 @@
 -- `deckfile::reader::accept` meets its contract.
-use Rattle.deckfile.proofs.reader.Shown.{accepted-read}
+use Rattle.deckfile.proofs.reader.LastCheck.{accepted-read}
 use Rattle.deckfile.proofs.reader.accept.Statement.{statement}
 use Rattle.deckfile.proofs.reader.accept.Tie as tie
 

@@ -1,6 +1,6 @@
 -- `deckfile::reader::has_edges` meets its contract: as many edges as the tree has, and the same bytes.
 use mathlib.Core.Path.{_∙_}
-use Rattle.deckfile.proofs.reader.Shown.{edges-other, edges-same}
+use Rattle.deckfile.proofs.reader.LastCheck.{edges-other, edges-same}
 use borrow.Author.Needs.{needs}
 use Rattle.deckfile.proofs.reader.has_edges.Statement.{statement}
 use Rattle.deckfile.proofs.reader.has_edges.Tie as tie

@@ -1,7 +1,7 @@
 -- `deckfile::reader::points_working` meets its contract: the codes found are those of the points shown, with zeros behind.
 use mathlib.Core.Path.{_≡_}
 use lib.ListN.{length}
-use Rattle.deckfile.proofs.reader.Shown.{found-within, found-length, found-fits, steiner-put, working-for}
+use Rattle.deckfile.proofs.reader.LastCheck.{found-within, found-length, found-fits, steiner-put, working-for}
 use borrow.Author.Needs.{needs}
 use Rattle.deckfile.proofs.reader.points_working.Statement.{statement}
 use Rattle.deckfile.proofs.reader.points_working.Tie as tie

@@ -4,7 +4,7 @@ use Rattle.model.specs.State.{empty}
 use Rattle.model.proofs.Session.{empty-valid}
 use Rattle.points.specs.Coded.{Arranged}
 use Rattle.points.proofs.Coded.{valid-arranged}
-use Rattle.deckfile.proofs.reader.Shown.{refused-read}
+use Rattle.deckfile.proofs.reader.LastCheck.{refused-read}
 use borrow.Author.Needs.{needs}
 use Rattle.deckfile.proofs.reader.refuse.Statement.{statement}
 use Rattle.deckfile.proofs.reader.refuse.Tie as tie

@@ -1,7 +1,7 @@
 -- `deckfile::writer::put_file` meets its contract: the parts are those of the file.
 use mathlib.Core.Path.{_≡_, ap, _∙_}
+use Rattle.arrays.proofs.paste.Parts.{pasted-same}
 use lib.ListN.{length}
-use Rattle.sections.specs.Bytes.{over}
 use Rattle.buffer.specs.Parts.{fileParts}
 use Rattle.deckfile.proofs.writer.Parts.{file-parts, parts-kept}
 use borrow.Author.Needs.{needs}
@@ -36,9 +36,9 @@ returns c =
     let at-ends = at-put .before .before .before .before .before in
     let s = at-ends .before .before .before .before in
     let q = s .args .w .points in
-    at-put .put-parts .ensures
-    ∙ ap (λ row. over 0 (fileParts (q .pins) (q .npins) (q .steiner) (q .nsteiner) row) (s .args .out .now)) (at-ends .edge-numbers .ensures)
-    ∙ ap (λ file. over 0 file (s .args .out .now)) (file-parts _ (s .pre .0) (s .pre .1 .0))
+    pasted-same
+    (ap (fileParts (q .pins) (q .npins) (q .steiner) (q .nsteiner)) (at-ends .edge-numbers .ensures) ∙ file-parts _ (s .pre .0) (s .pre .1 .0))
+    (at-put .put-parts .ensures)
 
 pub put-file-spec : {M : Type 1} → statement M
 put-file-spec =

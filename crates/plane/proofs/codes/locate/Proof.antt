@@ -3,12 +3,11 @@ use mathlib.Core.Path.{_≡_, sym, ap, ap₂, _∙_, subst}
 use mathlib.Core.Bool.{_&&_}
 use borrow.Author.Needs.{needs}
 use lib.Dec.{T}
-use mir.Syntax.{w32}
-use mir.ValLaws.{toZ-ofZ}
 use Rattle.plane.specs.Point.{Point, coordinateInRange, inRange}
 use Rattle.plane.specs.Coordinate.{biased}
 use Rattle.plane.specs.Code.{packed, code}
 use Rattle.plane.specs.declared.codes.Located.the-variants.{At}
+use Rattle.arrays.proofs.Signed.{read-one}
 use Rattle.arrays.proofs.Test.{and-parts, of-true}
 use Rattle.plane.proofs.codes.Points.{located-in, located-out}
 use Rattle.plane.proofs.codes.locate.Statement.{statement}
@@ -21,8 +20,8 @@ point s = record { x = s .args .x; y = s .args .y }
 test : (c : tie.After-is-in-range2) → inRange (point (c .before .before)) ≡ c .before .is-in-range .result && c .is-in-range2 .result
 test c =
     let s = c .before .before in
-    ap₂ _&&_ (ap coordinateInRange (sym (toZ-ofZ w32 (s .args .x) (s .fits .x))) ∙ sym (c .before .is-in-range .ensures))
-    (ap coordinateInRange (sym (toZ-ofZ w32 (s .args .y) (s .fits .y))) ∙ sym (c .is-in-range2 .ensures))
+    let x = c .before .is-in-range .ensures ∙ read-one coordinateInRange (s .fits .x) in
+    sym (ap₂ _&&_ x (c .is-in-range2 .ensures ∙ read-one coordinateInRange (s .fits .y)))
 
 is-in-range-requires : tie.Need-is-in-range-requires
 is-in-range-requires c κs = search needs
@@ -47,8 +46,8 @@ unfolding code
 returns c =
     let at-if = c .before .before .before in
     let s = at-if .before .before .before in
-    let x = c .before .before .stored .ensures ∙ ap biased (toZ-ofZ w32 (s .args .x) (s .fits .x)) in
-    let y = c .before .stored2 .ensures ∙ ap biased (toZ-ofZ w32 (s .args .y) (s .fits .y)) in
+    let x = c .before .before .stored .ensures ∙ read-one biased (s .fits .x) in
+    let y = c .before .stored2 .ensures ∙ read-one biased (s .fits .y) in
     ap At (c .pack .ensures .0 ∙ ap₂ packed x y) ∙ sym (located-in (point s) (test (at-if .before) ∙ at-if .if1 .taken))
 
 returns-2 : tie.Need-returns-2

@@ -3,10 +3,10 @@ use mathlib.Core.Path.{_≡_, sym, ap, _∙_, subst}
 use native.Mathlib.Omega.{arith}
 use lib.IntN.{ℤ, pos, natAbs, _+ℤ_}
 use mir.Syntax.{w16, w32}
-use mir.Val.{Fits, SFits, toZ, ofZ}
-use mir.ValLaws.{toZ-ofZ}
+use mir.Val.{Fits, SFits}
 use lib.Dec.{T}
 use lib.Signed.{nonNeg}
+use Rattle.arrays.proofs.Signed.{read, read-is, read-one}
 use Rattle.plane.specs.Point.{limit}
 use Rattle.plane.specs.Coordinate.{biased}
 use Rattle.plane.proofs.Stored.{biased-bound}
@@ -15,15 +15,15 @@ use Rattle.plane.proofs.codes.stored.Statement.{statement}
 use Rattle.plane.proofs.codes.stored.Tie as tie
 
 -- The sum, of what is read back from the bits of z.
-sum : (s : tie.Start) → toZ w32 (ofZ w32 (s .args .z)) +ℤ pos limit ≡ pos (biased (s .args .z))
-sum s = ap (λ (z : ℤ). z +ℤ pos limit) (toZ-ofZ w32 (s .args .z) (s .fits .z)) ∙ raised (s .args .z) (s .pre)
+sum : (s : tie.Start) → read (s .args .z) +ℤ pos limit ≡ pos (biased (s .args .z))
+sum s = read-one (λ (z : ℤ). z +ℤ pos limit) (s .fits .z) ∙ raised (s .args .z) (s .pre)
 
 add-result : tie.Need-add-result
 add-result c = subst (SFits w32) (sym (sum c)) (record { sfits = omega (arith, biased-bound (c .args .z) (c .pre)) })
 
 -- It is read back as it is.
-back : (s : tie.Start) → toZ w32 (ofZ w32 (toZ w32 (ofZ w32 (s .args .z)) +ℤ pos limit)) ≡ pos (biased (s .args .z))
-back s = toZ-ofZ w32 _ (add-result s) ∙ sum s
+back : (s : tie.Start) → read (read (s .args .z) +ℤ pos limit) ≡ pos (biased (s .args .z))
+back s = read-is (add-result s) (sum s)
 
 cast-result : tie.Need-cast-result
 cast-result c =

@@ -3,19 +3,19 @@
 use native.Mathlib.Omega.{arith}
 use lib.IntN.{ℤ, _+ℤ_, +ℤ-comm}
 use mir.Syntax.{w32}
-use mir.Val.{toZ, ofZ}
 use mir.ValLaws.{toZ-ofZ}
 use Rattle.plane.proofs.Whole.{add-value}
-use Rattle.plane.proofs.Signed.{tests, sum-fits, read-fits, read-octant, read-none}
+use Rattle.arrays.proofs.Signed.{read, read-fits}
+use Rattle.plane.proofs.Signed.{tests, sum-fits, read-octant, read-none}
 use Rattle.plane.proofs.octants.octant.Statement.{statement}
 use Rattle.plane.proofs.octants.octant.Tie as tie
 
 -- What is read back from the bits of dx and dy.
 abbrev x : tie.Start → ℤ
-x s = toZ w32 (ofZ w32 (s .args .dx))
+x s = read (s .args .dx)
 
 abbrev y : tie.Start → ℤ
-y s = toZ w32 (ofZ w32 (s .args .dy))
+y s = read (s .args .dy)
 
 add-if4 : tie.Need-add-if4
 add-if4 c =

@@ -1,6 +1,7 @@
 -- `replay::list::call_at` meets its contract: the call of the number and of the two signed numbers read.
-use mathlib.Core.Path.{_∙_}
-use Rattle.replay.proofs.list.Signed.{read-signed}
+use mathlib.Core.Path.{ap, _∙_}
+use Rattle.arrays.proofs.Signed.{read-is}
+use Rattle.replay.specs.Calls.{signed32}
 use Rattle.replay.proofs.list.Calls.{call-read}
 use borrow.Author.Needs.{needs}
 use Rattle.replay.proofs.list.call_at.Statement.{statement}
@@ -34,8 +35,8 @@ returns : tie.Need-returns
 returns c =
     let y = c .before .before in
     let x = y .before .before in
-    c .call .ensures ∙ call-read _ _ _ (read-signed (record { sfits = x .signed32 .ok }) (x .signed32 .ensures) (x .before .number4 .ensures .0))
-    (read-signed (record { sfits = y .signed322 .ok }) (y .signed322 .ensures) (y .before .number42 .ensures .0))
+    c .call .ensures ∙ call-read _ _ _ (read-is (record { sfits = x .signed32 .ok }) (x .signed32 .ensures ∙ ap signed32 (x .before .number4 .ensures .0)))
+    (read-is (record { sfits = y .signed322 .ok }) (y .signed322 .ensures ∙ ap signed32 (y .before .number42 .ensures .0)))
 
 pub call-at-spec : {M : Type 1} → statement M
 call-at-spec =

@@ -2,7 +2,7 @@
 use mathlib.Core.Path.{sym, ap, _∙_}
 use mathlib.Core.List.{[], _∷_}
 use lib.IntN.{ℤ}
-use Rattle.plane.proofs.Signed.{read-two}
+use Rattle.arrays.proofs.Signed.{read-two}
 use Rattle.test_deck.specs.Parts.{partsOfAnswer}
 use Rattle.test_deck.proofs.Entries.{read-place}
 use borrow.Author.Needs.{needs}

@@ -2,7 +2,7 @@
 use mathlib.Core.Path.{ap}
 use Rattle.questions.specs.Answers.{degreeAnswer}
 use Rattle.plane.specs.Point.{point}
-use Rattle.plane.proofs.Signed.{read-two}
+use Rattle.arrays.proofs.Signed.{read-two}
 use Rattle.test_deck.proofs.Entries.{of-question}
 use borrow.Author.Needs.{needs}
 use Rattle.test_deck.proofs.question_entries.entry_degree_at.Statement.{statement}

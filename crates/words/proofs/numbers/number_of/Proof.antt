@@ -1,7 +1,9 @@
 -- `words::numbers::number_of` meets its contract: by the first byte, and by the magnitude of what follows or of the whole word.
-use mathlib.Core.Path.{_∙_}
+use mathlib.Core.Path.{ap, _∙_}
 use borrow.Author.Needs.{needs}
-use Rattle.words.proofs.numbers.Digits.{minus-fits, number-empty, minus-none, minus-some, plus-none, plus-some, read-back, plus-fits}
+use Rattle.arrays.proofs.Signed.{read-is}
+use Rattle.words.specs.declared.numbers.Number.the-variants.{Is}
+use Rattle.words.proofs.numbers.Digits.{number-empty, minus-none, minus-some, plus-none, plus-some}
 use Rattle.words.proofs.numbers.number_of.Statement.{statement}
 use Rattle.words.proofs.numbers.number_of.Tie as tie
 
@@ -36,7 +38,7 @@ returns-3 c =
     let called = c .before .before in
     let t = called .before .before in
     let m = called .magnitude .result in
-    read-back (c .negated .result) _ (c .negated .ensures) (minus-fits m (c .before .if3 .left) .1)
+    ap Is (read-is (record { sfits = c .negated .ok }) (c .negated .ensures))
     ∙ minus-some _ (t .before .before .if1 .left) m (t .if2 .taken) (called .magnitude .ensures) (c .before .if3 .left)
 
 magnitude-requires-2 : tie.Need-magnitude-requires-2
@@ -55,7 +57,7 @@ returns-5 c =
     let called = c .before .before in
     let t = called .before in
     let m = called .magnitude2 .result in
-    read-back (c .positive .result) _ (c .positive .ensures) (plus-fits m (c .before .if4 .left))
+    ap Is (read-is (record { sfits = c .positive .ok }) (c .positive .ensures))
     ∙ plus-some _ (t .before .before .if1 .left) m (t .if2 .left) (called .magnitude2 .ensures) (c .before .if4 .left)
 
 pub number-of-spec : {M : Type 1} → statement M

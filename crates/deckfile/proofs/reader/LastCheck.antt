@@ -11,7 +11,7 @@ use Rattle.arrays.specs.Test.{if}
 use Rattle.arrays.proofs.Test.{and-parts, and-both, same-test, of-true, false-of}
 use Rattle.model.specs.State.{State, empty, Placed, placed, Valid, valid}
 use Rattle.arrays.specs.Same.{sameList}
-use Rattle.model.specs.File.{Read, deck, refusal, offset, size, section, shown, plain, runSection}
+use Rattle.model.specs.File.{Read, deck, refusal, offset, size, section, fileState, plain, runSection}
 use Rattle.model.proofs.Validity.{placed-is, valid-is}
 use Rattle.model.proofs.FileSize.{steiner-few}
 use Rattle.arrays.proofs.same.Alike.{same-eq}
@@ -38,7 +38,7 @@ use Rattle.sections.specs.declared.codes.FilePoints.{FilePoints}
 use Rattle.sections.specs.Bytes.{edgeBytes}
 use Rattle.sections.specs.Codes.{filePlaces, Decodes}
 use Rattle.sections.specs.Layout.{Sections, FewPins}
-use Rattle.deckfile.specs.Reading.{outcomeOf, stateRead, replyRead, ReadTo, WorkingFor, showing}
+use Rattle.deckfile.specs.Reading.{readOutcome, stateRead, replyRead, ReadTo, WorkingFor, lastAnswer}
 use Rattle.sections.proofs.codes.Placed.{pins-count, steiner-count}
 use Rattle.deckfile.proofs.Runs.{edges-are, edges-long}
 
@@ -46,11 +46,11 @@ use Rattle.deckfile.proofs.Runs.{edges-are, edges-long}
 pub read-as : {r t : Read} {x : Changed} → r ≡ t → ReadTo r x → ReadTo t x
 read-as {x = x} e = subst (λ (z : Read). ReadTo z x) e
 
-pub read-outcome : (r : Read) (c : Changed) → ReadTo r c → called.outcomeOf c ≡ outcomeOf r
-unfolding stateRead replyRead outcomeOf
+pub read-outcome : (r : Read) (c : Changed) → ReadTo r c → called.outcomeOf c ≡ readOutcome r
+unfolding stateRead replyRead readOutcome
 read-outcome r c e = (λ i. record { next = deckOf (e .state i); reply = e .reply i }) ∙ by-cases r
   where
-    by-cases : (r : Read) → record { next = deckOf (stateRead r); reply = replyRead r } ≡ outcomeOf r
+    by-cases : (r : Read) → record { next = deckOf (stateRead r); reply = replyRead r } ≡ readOutcome r
     by-cases (deck s) = refl
     by-cases (refusal n) = refl
 
@@ -73,9 +73,9 @@ tests s p =
     (λ t. and-both (arranged (coded s)) (valid (points.stateOf (coded s))) (arranged-passes (coded s) (valid-arranged s (valid-is s .0 t)))
     (subst⁻¹ (λ (r : State). T (valid r)) (state-coded s p) t))
 
-module _ (b : List ℕ) (d : Sections b) (p : T (placed (shown b))) where
+module _ (b : List ℕ) (d : Sections b) (p : T (placed (fileState b))) where
   abbrev s : State
-  s = shown b
+  s = fileState b
 
   is-placed : Placed s
   is-placed = placed-is s .0 p
@@ -121,8 +121,8 @@ module _ (b : List ℕ) (d : Sections b) (p : T (placed (shown b))) where
   same-edges : Bool
   same-edges = sameList (section b 2) (runSection s)
 
-  by-tests : {x y z : Bool} → plain b ≡ x → valid s ≡ y → same-edges ≡ z → pick x y z ≡ showing b
-  unfolding showing pick same-edges
+  by-tests : {x y z : Bool} → plain b ≡ x → valid s ≡ y → same-edges ≡ z → pick x y z ≡ lastAnswer b
+  unfolding lastAnswer pick same-edges
   by-tests e f g = sym (λ i. pick (e i) (f i) (g i))
 
   no-steiner : T (plain b) → length (s .steiner) ≡ 0
@@ -144,9 +144,9 @@ module _ (b : List ℕ) (d : Sections b) (p : T (placed (shown b))) where
       })
 
   -- More than 62 Steiner points.
-  pub show-many : (v : ℕ) → v ≡ size b 1 → 248 < v → refusal 6 ≡ showing b
+  pub last-many : (v : ℕ) → v ≡ size b 1 → 248 < v → refusal 6 ≡ lastAnswer b
   unfolding pick
-  show-many v e h =
+  last-many v e h =
       by-tests (false-of (plain b) (λ t. let z = no-steiner t in omega (arith, steiner-count b d, d .whole₁)))
       (false-of (valid s) (λ t. omega (arith, steiner-few s (valid-is s .0 t), steiner-count b d, d .whole₁))) refl
 
@@ -154,36 +154,36 @@ module _ (b : List ℕ) (d : Sections b) (p : T (placed (shown b))) where
     ok-valid : (t : Bool) → r .ok ≡ t → valid s ≡ t
     ok-valid t e = sym (c .ok) ∙ e
 
-    pub shown-valid : r .ok ≡ true → InOrder (r .working) × Valid (stateOf (r .working))
-    shown-valid e =
+    pub found-valid : r .ok ≡ true → InOrder (r .working) × Valid (stateOf (r .working))
+    found-valid e =
         let t : T (valid s) = of-true (ok-valid true e) in
         (c .inOrder t, subst⁻¹ Valid (c .state t) (valid-is s .0 t))
 
-    accepted : r .ok ≡ true → (x : Changed) → ReadTo (deck (stateOf (r .working))) x → deck s ≡ showing b → ReadTo (showing b) x
+    accepted : r .ok ≡ true → (x : Changed) → ReadTo (deck (stateOf (r .working))) x → deck s ≡ lastAnswer b → ReadTo (lastAnswer b) x
     accepted e x g is = read-as (ap deck (c .state (of-true (ok-valid true e))) ∙ is) g
 
-    pub show-invalid : r .ok ≡ false → refusal 6 ≡ showing b
+    pub last-invalid : r .ok ≡ false → refusal 6 ≡ lastAnswer b
     unfolding pick
-    show-invalid e =
+    last-invalid e =
         by-tests (false-of (plain b) (λ t. subst T (ok-valid false e) (plain-valid few t))) (ok-valid false e) refl
 
-    pub show-plain : r .ok ≡ true → plain b ≡ true → (x : Changed) → ReadTo (deck (stateOf (r .working))) x → ReadTo (showing b) x
+    pub last-plain : r .ok ≡ true → plain b ≡ true → (x : Changed) → ReadTo (deck (stateOf (r .working))) x → ReadTo (lastAnswer b) x
     unfolding pick
-    show-plain e f x g = accepted e x g (by-tests f refl refl)
+    last-plain e f x g = accepted e x g (by-tests f refl refl)
 
     module _ (e : r .ok ≡ true) (f : plain b ≡ false) where
       compared : (t : Bool) → sameList (section b 2) (runSection (stateOf (r .working))) ≡ t → same-edges ≡ t
       unfolding same-edges
       compared t g = ap (λ (x : State). sameList (section b 2) (runSection x)) (sym (c .state (of-true (ok-valid true e)))) ∙ g
 
-      pub show-other : sameList (section b 2) (runSection (stateOf (r .working))) ≡ false → refusal 6 ≡ showing b
+      pub last-other : sameList (section b 2) (runSection (stateOf (r .working))) ≡ false → refusal 6 ≡ lastAnswer b
       unfolding pick
-      show-other g = by-tests f (ok-valid true e) (compared false g)
+      last-other g = by-tests f (ok-valid true e) (compared false g)
 
-      pub show-same : sameList (section b 2) (runSection (stateOf (r .working))) ≡ true → (x : Changed) → ReadTo (deck (stateOf (r .working))) x
-          → ReadTo (showing b) x
+      pub last-same : sameList (section b 2) (runSection (stateOf (r .working))) ≡ true → (x : Changed) → ReadTo (deck (stateOf (r .working))) x
+          → ReadTo (lastAnswer b) x
       unfolding pick
-      show-same g x h = accepted e x h (by-tests f (ok-valid true e) (compared true g))
+      last-same g x h = accepted e x h (by-tests f (ok-valid true e) (compared true g))
 
 -- The third section and the edges of a working form.
 module _ (b : List ℕ) (d : Sections b) (w : Working) (p : InOrder w) (v : Valid (stateOf w)) where
