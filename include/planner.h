@@ -1,4 +1,4 @@
-/* The cable planner for C. Link with target/staticlib/libplanner.a (make library). A call takes some 160 KB of stack and no heap. */
+/* The cable planner for C. Link with target/staticlib/libplanner.a (make library). A call takes some 180 KB of stack and no heap. */
 #ifndef PLANNER_H
 #define PLANNER_H
 

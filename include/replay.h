@@ -1,4 +1,4 @@
-/* Lists of calls on a deck, for C. Link with target/staticlib/libreplay.a (make replay_library). The function takes some 160 KB of
+/* Lists of calls on a deck, for C. Link with target/staticlib/libreplay.a (make replay_library). The function takes some 190 KB of
  * stack and no heap. */
 #ifndef REPLAY_H
 #define REPLAY_H

@@ -1,5 +1,5 @@
 -- Sets go along a map that keeps the order of their members: put, out, has, union and rising give the same on both sides.
-use mathlib.Core.Path.{_≡_, refl, sym, ap, ap₂, _∙_, subst}
+use mathlib.Core.Path.{_≡_, refl, ap, ap₂, _∙_}
 use mathlib.Core.Bool.{Bool, true, false, not, _&&_}
 use mathlib.Core.List.{List, [], _∷_, map, List·Memᴰ, List·Memᴰ·head as head, List·Memᴰ·tail as tail}
 use mathlib.Core.Logic.{⊎-elim}
@@ -27,8 +27,10 @@ module _ {A B : Type 0} (f : A → B) (less : A → A → Bool) (less′ : B →
   unfolding put
   put-map a p [] h = refl
   put-map a p (b ∷ l) h =
-      if-map (map f) (less a b) (less′ (f a) (f b)) _ _ _ _ (agree a b p (h b (head refl))) refl
-      (if-map (map f) (less b a) (less′ (f b) (f a)) _ _ _ _ (agree b a (h b (head refl)) p) (ap (λ (m : List B). f b ∷ m) (put-map a p l (λ c i. h c (tail i)))) refl)
+      let q = h b (head refl) in
+      let behind = ap (λ (m : List B). f b ∷ m) (put-map a p l (λ c i. h c (tail i))) in
+      if-map (map f) (less a b) (less′ (f a) (f b)) _ _ _ _ (agree a b p q) refl
+      (if-map (map f) (less b a) (less′ (f b) (f a)) _ _ _ _ (agree b a q p) behind refl)
 
   pub out-map : (a : A) → Q a → (l : List A) → All l → map f (out less a l) ≡ out less′ (f a) (map f l)
   unfolding out

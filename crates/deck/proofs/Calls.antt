@@ -19,7 +19,8 @@ use Rattle.arrays.proofs.Test.{of-true}
 use Rattle.deck.proofs.Form.{sound-is}
 
 -- What the check of a deck gives where it passed: the deck is sound, and its working form stands for its state.
-pub checked-sound : (d : Deck) (r : Checked) → Checks (sound d) (d .points) r → r .ok ≡ true → Sound d × work.InOrder (r .working) × (work.stateOf (r .working) ≡ stateOf d)
+pub checked-sound : (d : Deck) (r : Checked) → Checks (sound d) (d .points) r → r .ok ≡ true
+    → Sound d × work.InOrder (r .working) × (work.stateOf (r .working) ≡ stateOf d)
 checked-sound d r c e =
     (sound-is d .0 t, c .inOrder t, ap coded.stateOf (c .same t))
   where

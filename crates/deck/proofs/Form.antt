@@ -76,9 +76,12 @@ sound-is d = (
   λ t. let a = and-parts (valid (stateOf d)) (sameDeck d (deckOf (stateOf d))) t in
       record { valid = valid-is (stateOf d) .0 (a .0); same = same (deckOf (stateOf d)) (a .1) },
   λ s. and-both (valid (stateOf d)) (sameDeck d (deckOf (stateOf d))) (valid-is (stateOf d) .1 (s .valid))
-      (subst (λ (e : Deck). T (sameDeck d e)) (s .same) (and-both (samePoints (d .points) (d .points)) (sameList (d .ends) (d .ends)) (self-points (d .points)) (same-refl (d .ends)))),
+      (subst (λ (e : Deck). T (sameDeck d e)) (s .same) self),
 )
   where
+    self : T (sameDeck d d)
+    self = and-both (samePoints (d .points) (d .points)) (sameList (d .ends) (d .ends)) (self-points (d .points)) (same-refl (d .ends))
+
     same : (e : Deck) → T (sameDeck d e) → d ≡ e
     same e t =
         let a = and-parts (samePoints (d .points) (e .points)) (sameList (d .ends) (e .ends)) t in

@@ -47,7 +47,7 @@ pub record SessionDeck (d : Deck) (s : State) : Type 0 where
   -- of them: the tree is least among all trees over them (`least`), and the rest of the model's claim
   pub session : model.SessionState s
   -- the deck's tree is that tree: its length and its edges, as the questions answer them
-  pub length : asked d lengthAnswer ≡ Length (question.lengthOfState s)
+  pub lengthIs : asked d lengthAnswer ≡ Length (question.lengthOfState s)
   pub edge : (i : ℕ) → asked d (edgeAtAnswer i) ≡ edgeAtAnswer i s
   -- a round answers finished exactly if no one more point anywhere on the integer plane would shorten the tree
   pub finish-exact : (called d call.oneRound .reply ≡ Finished) ↔ ((q : Point) → ¬ List·Memᴰ q (points s) → model.NoShorter s q)

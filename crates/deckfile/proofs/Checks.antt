@@ -66,7 +66,8 @@ module _ (b : List ℕ) where
       ∷ check 6 (λ _. shows)
       ∷ []))
 
-  by-checks : {x₁ x₂ x₃ x₄ x₅ : Bool} → headed b ≡ x₁ → laidOut b ≡ x₂ → whole b ≡ x₃ → leb (length (fileState b .pins)) maxPins ≡ x₄ → placed (fileState b) ≡ x₅
+  by-checks : {x₁ x₂ x₃ x₄ x₅ : Bool} → headed b ≡ x₁ → laidOut b ≡ x₂ → whole b ≡ x₃
+      → leb (length (fileState b .pins)) maxPins ≡ x₄ → placed (fileState b) ≡ x₅
       → answer x₁ x₂ x₃ x₄ x₅ (holdsDeck b (fileState b)) ≡ readFile b
   unfolding answer readFile
   by-checks e₁ e₂ e₃ e₄ e₅ = sym (λ i. answer (e₁ i) (e₂ i) (e₃ i) (e₄ i) (e₅ i) (holdsDeck b (fileState b)))

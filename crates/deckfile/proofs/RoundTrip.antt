@@ -63,6 +63,11 @@ from-sound b d h = subst⁻¹ Sound (h .is) (deck-sound (h .state) (file-valid b
 from-state : (b : List ℕ) (d : Deck) (h : ReadFrom b d) → stateOf d ≡ h .state
 from-state b d h = ap stateOf (h .is) ∙ state-deck (h .state) (file-valid b (h .state) (h .read) .placed)
 
+from-few : (b : List ℕ) (d : Deck) (h : ReadFrom b d) → d .points .npins ≤ 1 → length (h .state .pins) ≤ 1
+from-few b d h m =
+    let n = pins-count (d .points) (sound-arranged d (from-sound b d h)) in
+    subst (λ (z : State). length (z .pins) ≤ 1) (from-state b d h) (subst⁻¹ (λ (z : ℕ). z ≤ 1) n m)
+
 -- A deck that was written is sound, and its file stands at the front of the buffer.
 pub record Wrote (d : Deck) (l : List ℕ) (n : ℕ) : Type 0 where
   pub sound : Sound d
@@ -106,8 +111,7 @@ full-back b d l h e full k =
     let v = read-from b d e in
     let s = from-sound b d v in
     let same : fileOf (stateOf d) ≡ b =
-    ap fileOf (from-state b d v)
-    ∙ full-written-back b (v .state) h (v .read) (⊎-elim inl (λ m. inr (subst (λ (z : State). length (z .pins) ≤ 1) (from-state b d v) (subst (λ (z : ℕ). z ≤ 1) (sym (pins-count (d .points) (sound-arranged d s))) m))) full) in
+    ap fileOf (from-state b d v) ∙ full-written-back b (v .state) h (v .read) (⊎-elim inl (λ m. inr (from-few b d v m)) full) in
     let w = write-fits d l s (subst⁻¹ (λ (f : List ℕ). length f ≤ length l) same k) in
     (w .0 ∙ ap (λ (f : List ℕ). Length (length f)) same, w .1 ∙ ap (λ (f : List ℕ). f ++ drop (length f) l) same)
 
@@ -128,4 +132,5 @@ not-plain s v h =
 pub plain-full : PlainWrittenFull
 plain-full b d l n e h w =
     let f = wrote d l n w in
-    subst⁻¹ (λ (x : List ℕ). T (not (plain x))) (wrote-file d l n f) (not-plain (stateOf d) (f .sound .valid) (subst⁻¹ (λ (k : ℕ). 2 ≤ k) (pins-count (d .points) (sound-arranged d (f .sound))) h))
+    let two = subst⁻¹ (λ (k : ℕ). 2 ≤ k) (pins-count (d .points) (sound-arranged d (f .sound))) h in
+    subst⁻¹ (λ (x : List ℕ). T (not (plain x))) (wrote-file d l n f) (not-plain (stateOf d) (f .sound .valid) two)

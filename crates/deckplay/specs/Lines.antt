@@ -16,15 +16,15 @@ pub record Script : Type 0 where
   pub deck : Deck
   pub line : List ℕ
 
-abbrev pub lineRoom : ℕ
-lineRoom = 2001
+abbrev pub inputRoom : ℕ
+inputRoom = 2001
 
--- The end of a line, and one more byte: a line feed (10) ends a line. Of a line `lineRoom` bytes are kept, which are an error already.
+-- The end of a line, and one more byte: a line feed (10) ends a line. Of a line `inputRoom` bytes are kept, which are an error already.
 abbrev pub ended : Script → Script
 ended s = record { deck = played (s .deck) (s .line) .next; line = [] }
 
 abbrev pub more : ℕ → List ℕ → List ℕ
-more b l = if (ltb (length l) lineRoom) (λ _. l ++ (b ∷ [])) (λ _. l)
+more b l = if (ltb (length l) inputRoom) (λ _. l ++ (b ∷ [])) (λ _. l)
 
 unfoldable pub taken : Script → ℕ → Script
 taken s b = if (eqb b 10) (λ _. ended s) (λ _. record { deck = s .deck; line = more b (s .line) })
@@ -34,7 +34,7 @@ abbrev pub scriptOf : Reader → Script
 scriptOf r = record { deck = r .deck; line = take (r .size) (r .line) }
 
 abbrev pub Reads : Reader → Type 0
-Reads r = r .size ≤ lineRoom
+Reads r = r .size ≤ inputRoom
 
 pub record Fresh (r : Reader) : Type 0 where
   pub within : Reads r

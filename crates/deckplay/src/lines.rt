@@ -8,12 +8,12 @@ ghost use Prim.Native.Nat.{_≤_};
 ghost use Rattle.deckplay.specs.Lines.{Reads, Fresh, Ends, Takes};
 
 // Of a line this many bytes are kept at most, which is one too many.
-const LINE_ROOM: usize = LINE_LIMIT + 1;
+const INPUT_ROOM: usize = LINE_LIMIT + 1;
 
 // A script that is being read: the deck, and the line so far.
 pub struct Reader {
     pub deck: Deck,
-    pub line: [u8; LINE_ROOM],
+    pub line: [u8; INPUT_ROOM],
     pub size: usize,
 }
 
@@ -23,7 +23,7 @@ pub fn start() -> Reader
 {
     Reader {
         deck: Deck::empty(),
-        line: [0u8; LINE_ROOM],
+        line: [0u8; INPUT_ROOM],
         size: 0,
     }
 }
@@ -60,7 +60,7 @@ pub fn take(r: Reader, b: u8) -> Reader
     let mut line = r.line;
     let size = r.size;
     let deck = r.deck;
-    if size < LINE_ROOM {
+    if size < INPUT_ROOM {
         line[size] = b;
         return Reader {
             deck,

@@ -41,8 +41,11 @@ pub none-at : (s : State) → Sorted Lower (s .steiner) → (p : Point) → ¬ L
 unfolding planar
 none-at s rise p n =
     degree-zero planar p (mst (points s))
-    (λ e i. ⊎-elim (λ q. n (subst⁻¹ (λ (z : Point). List·Memᴰ z (points s)) q (ends e i .0))) (λ q. n (subst⁻¹ (λ (z : Point). List·Memᴰ z (points s)) q (ends e i .1))))
+    (λ e i. ⊎-elim (other (ends e i .0)) (other (ends e i .1)))
   where
+    other : {q : Point} → List·Memᴰ q (points s) → ¬ (p ≡ q)
+    other i e = n (subst⁻¹ (λ (z : Point). List·Memᴰ z (points s)) e i)
+
     ends : (e : PlaneEdge) → List·Memᴰ e (mst (points s)) → List·Memᴰ (e .lo) (points s) × List·Memᴰ (e .hi) (points s)
     ends e i = unfold planar in mst-run-tree (points s) (points-rise s rise) .tree .ends e i
 
@@ -65,8 +68,8 @@ module _ (w : Working) (p : InOrder w) where
       sym (none-at (stateOf w) (arranged-placed (w .points) (p .arranged) .steinerRise) (pointOf k)
       (λ i. subst T (sym (held-has k t) ∙ e) (has-in lower lower-order (pointOf k) (points (stateOf w)) .1 i)))
 
-  pub degree-there : (k i n : ℕ) → T (has ltb k (take (w .npoints) (w .codes))) → i ≡ indexOf k (take (w .npoints) (w .codes)) → n ≡ degree keyGraph i (take (w .nkeys) (w .keys))
-      → n ≡ question.edgeCountAt (pointOf k) (stateOf w)
+  pub degree-there : (k i n : ℕ) → T (has ltb k (take (w .npoints) (w .codes))) → i ≡ indexOf k (take (w .npoints) (w .codes))
+      → n ≡ degree keyGraph i (take (w .nkeys) (w .keys)) → n ≡ question.edgeCountAt (pointOf k) (stateOf w)
   degree-there k i n h e f = f ∙ ap (λ (z : ℕ). degree keyGraph z (take (w .nkeys) (w .keys))) e ∙ held-degree w p k h
 
 -- The edge at a place of the listing order, or none beyond the last.

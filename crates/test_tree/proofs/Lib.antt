@@ -1,3 +1,1 @@
-pub mod Outcomes
-pub mod Passed
-pub mod Rows
+pub mod Answers

@@ -15,7 +15,7 @@ use Rattle.arrays.specs.Paste.{Pasted}
 -- A test says whether something holds.
 pub record Says (P : Type 0) (r : Bool) : Type 0 where
   pub sure : r ≡ true → P
-  pub not : r ≡ false → ¬ P
+  pub never : r ≡ false → ¬ P
 
 -- At most 127 points, each lower than the next.
 pub record Points (xs ys : List ℕ) : Type 0 where

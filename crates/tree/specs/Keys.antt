@@ -15,8 +15,8 @@ use Rattle.arrays.specs.Set.{union}
 use Rattle.model.specs.File.{numberOf}
 
 -- The longest edge: each of two coordinates of 16 bits differs by at most 65,535.
-abbrev pub longest : ℕ
-longest = 131070
+abbrev pub longestEdge : ℕ
+longestEdge = 131070
 
 -- An edge of length d between the points i and j, i the smaller: one comparison of keys compares lengths, then i, then j.
 abbrev pub key : ℕ → ℕ → ℕ → ℕ

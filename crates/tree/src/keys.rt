@@ -15,7 +15,7 @@ pub const NO_KEY: u64 = 4294967295;
 
 // The key of an edge of length d.
 pub fn key(d: u32, i: usize, j: usize) -> u64
-    requires { ⌜ (d ≤ spec.longest) × (i < spec.places) × (j < spec.places) ⌝ }
+    requires { ⌜ (d ≤ spec.longestEdge) × (i < spec.places) × (j < spec.places) ⌝ }
     ensures { λ r. ⌜ r ≡ spec.key d i j ⌝ }
 {
     (d as u64 * FACTOR + i as u64) * FACTOR + j as u64

@@ -8,12 +8,12 @@ use Prim.Native.Nat.{ℕ, _+_, _≤_, _<_}
 use native.Mathlib.Omega.{arith}
 use lib.Dec.{T, ltb, lt→ltb}
 use lib.ListN.{length, take, getD, length-map, List·getD-map}
-use lib.Seq.{ext-getD, getD-take, length-take-le}
+use lib.Seq.{ext-getD, getD-take}
 use Rattle.arrays.specs.Order.{Sorted}
 use Rattle.plane.specs.Point.{Point, inRange, lower, Lower}
 use Rattle.arrays.proofs.Order.{nat-order}
 use Rattle.plane.proofs.Order.{lower-order}
-use Rattle.arrays.specs.Set.{union, rising}
+use Rattle.arrays.specs.Set.{rising}
 use Rattle.model.specs.State.{points, Placed}
 use Rattle.arrays.proofs.Set.{union-in, union-sorted, rising-sorted, union-length}
 use Rattle.model.proofs.Candidate.{map-in}
@@ -39,8 +39,9 @@ Less a b = T (ltb a b)
 -- A table of a list's images is the list of images.
 pub tab-list : (f : ℕ → Point) (l : List ℕ) → tab (λ (i : ℕ). f (getD l i 0)) (length l) ≡ map f l
 tab-list f l =
-    ext-getD (f 0) (tab (λ (i : ℕ). f (getD l i 0)) (length l)) (map f l) (tab-length (λ (i : ℕ). f (getD l i 0)) (length l) ∙ sym (length-map l f))
-    (λ i h. tab-get (λ (j : ℕ). f (getD l j 0)) (length l) i (f 0) (omega (arith, h, tab-length (λ (j : ℕ). f (getD l j 0)) (length l))) ∙ sym (List·getD-map f l i 0))
+    let at : ℕ → Point = λ i. f (getD l i 0) in
+    ext-getD (f 0) (tab at (length l)) (map f l) (tab-length at (length l) ∙ sym (length-map l f))
+    (λ i h. tab-get at (length l) i (f 0) (omega (arith, h, tab-length at (length l))) ∙ sym (List·getD-map f l i 0))
 
 module _ (q : Points) (a : Arranged q) where
   abbrev all : List ℕ
@@ -114,15 +115,12 @@ module _ (q : Points) (a : Arranged q) where
         tab-same (held xs ys) (λ (i : ℕ). pointOf (getD all i 0)) n held-is ∙ ap (tab (λ (i : ℕ). pointOf (getD all i 0))) count-is
         ∙ tab-list pointOf all ∙ all-points
 
+    few : n ≤ 127
+    few = omega (arith, count-is, all-count, a .room)
+
     pub build-allowed : (room : ℕ) → room ≡ 136 → n ≤ length xs → n ≤ length ys → BuildRequires xs ys n room
     build-allowed room e hx hy =
-        record { inXs = hx; inYs = hy; few = few; fits = omega (arith, few′); rises = held-rises }
-      where
-        few′ : n ≤ 127
-        few′ = omega (arith, count-is, all-count, a .room)
-
-        few : n ≤ 128
-        few = omega (arith, few′)
+        record { inXs = hx; inYs = hy; few = omega (arith, few); fits = omega (arith, few); rises = held-rises }
 
     pub order-of : (keys₀ keys : List ℕ) (m : ℕ) → Pasted (treeKeys (held xs ys) n) keys₀ keys 0 m
         → InOrder (record { points = q; codes = codes; xs = xs; ys = ys; npoints = n; keys = keys; nkeys = m })
@@ -131,10 +129,10 @@ module _ (q : Points) (a : Arranged q) where
           arranged = a;
           codes = merged;
           count = sym (tab-length (held xs ys) n) ∙ ap length held-points;
-          few = omega (arith, count-is, all-count, a .room);
+          few = few;
           points = held-points;
           rises = held-rises;
           tree = front-take f;
           keyCount = front-count f;
-          keysFew = omega (arith, front-count f, count-is, all-count, a .room, keys-most (held xs ys) n (omega (arith, count-is, all-count, a .room)) held-rises);
+          keysFew = omega (arith, front-count f, few, keys-most (held xs ys) n (omega (arith, few)) held-rises);
         }

@@ -38,7 +38,8 @@ module _ (text : ℕ → List ℕ) (w n : ℕ) (l : List ℕ) (at : ℕ) where
       }
 
 -- The loops' ends: every item is written.
-pub first-end : (text : ℕ → List ℕ) (w n : ℕ) (l m : List ℕ) (at next i : ℕ) → PutFirst text w n l m at next i → n ≤ i → Pasted (text n) l m at next × (next ≤ at + w * n)
+pub first-end : (text : ℕ → List ℕ) (w n : ℕ) (l m : List ℕ) (at next i : ℕ) → PutFirst text w n l m at next i → n ≤ i
+    → Pasted (text n) l m at next × (next ≤ at + w * n)
 first-end text w n l m at next i p h =
     let e : i ≡ n = omega (arith, p .within) in
     (pasted-same (ap text e) (p .put), omega (arith, p .most, ap (λ (k : ℕ). w * k) e))

@@ -48,7 +48,8 @@ returns-3 c =
     let k = at-if .before .before .check .ensures in
     let e = not-false _ (at-if .if2 .left) in
     let out = at-if .before .before .before .before .before .args .out .now in
-    pasted-same (ap (λ (t : List ℕ). fitting 8192 out t) (ap listing (checked-sound _ _ k e .2) ∙ text-sound _ (sym (k .ok) ∙ e))) (at-list .list-working .ensures)
+    let text = ap listing (checked-sound _ _ k e .2) ∙ text-sound _ (sym (k .ok) ∙ e) in
+    pasted-same (ap (λ (t : List ℕ). fitting 8192 out t) text) (at-list .list-working .ensures)
 
 pub list-spec : {M : Type 1} → statement M
 list-spec =

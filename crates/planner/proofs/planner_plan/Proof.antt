@@ -23,15 +23,17 @@ returns c =
 
 run-to-end-requires : tie.Need-run-to-end-requires
 run-to-end-requires c κs =
-    let read = read-taken (readFile _) (read-possible _) (c .before .before .read-working .ensures) (c .before .refusal-number .ensures) (c .if1 .left) in
-    (read .1, read .2)
+    let read = c .before .before in
+    let taken = read-taken (readFile _) (read-possible _) (read .read-working .ensures) (c .before .refusal-number .ensures) (c .if1 .left) in
+    (taken .1, taken .2)
 
 write-working-requires : tie.Need-write-working-requires
 write-working-requires c κs =
     let run = c .before in
     let test = run .before in
-    let read = read-taken (readFile _) (read-possible _) (test .before .before .read-working .ensures) (test .before .refusal-number .ensures) (test .if1 .left) in
-    changed-valid (read .2) (run .run-to-end .ensures)
+    let read = test .before .before in
+    let taken = read-taken (readFile _) (read-possible _) (read .read-working .ensures) (test .before .refusal-number .ensures) (test .if1 .left) in
+    changed-valid (taken .2) (run .run-to-end .ensures)
 
 number-of-requires : tie.Need-number-of-requires
 number-of-requires c κs = search needs
@@ -45,8 +47,9 @@ returns-2 c =
     let write = c .before .before .before in
     let run = write .before .before in
     let test = run .before in
-    let read = read-taken (readFile _) (read-possible _) (test .before .before .read-working .ensures) (test .before .refusal-number .ensures) (test .if1 .left) in
-    answer-stored (readFile _) toEnd _ (read .0) (run .run-to-end .ensures .next) (c .number-of .ensures) (write .write-working .ensures)
+    let read = test .before .before in
+    let taken = read-taken (readFile _) (read-possible _) (read .read-working .ensures) (test .before .refusal-number .ensures) (test .if1 .left) in
+    answer-stored (readFile _) toEnd _ (taken .0) (run .run-to-end .ensures .next) (c .number-of .ensures) (write .write-working .ensures)
 
 pub planner-plan-spec : {M : Type 1} → statement M
 planner-plan-spec =

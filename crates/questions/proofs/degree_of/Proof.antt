@@ -14,8 +14,9 @@ slice-aggregate-has c = search needs
 
 has-requires : tie.Need-has-requires
 has-requires c κs =
-    let h : length (c .before .before .before .args .w .codes) ≡ 128 = search needs in
-    omega (arith, c .before .before .before .pre .0 .few, h)
+    let at-start = c .before .before .before in
+    let h : length (at-start .args .w .codes) ≡ 128 = search needs in
+    omega (arith, at-start .pre .0 .few, h)
 
 returns : tie.Need-returns
 returns c =
@@ -30,18 +31,23 @@ slice-aggregate-index-of c = search needs
 
 index-of-requires : tie.Need-index-of-requires
 index-of-requires c κs =
-    let h : length (c .before .before .before .before .before .before .before .args .w .codes) ≡ 128 = search needs in
-    omega (arith, c .before .before .before .before .before .before .before .pre .0 .few, h)
+    let at-start = c .before .before .before .before .before .before .before in
+    let h : length (at-start .args .w .codes) ≡ 128 = search needs in
+    omega (arith, at-start .pre .0 .few, h)
 
 degree-of-requires : tie.Need-degree-of-requires
 degree-of-requires c κs =
-    let h : length (c .before .before .before .before .before .before .before .before .args .w .keys) ≡ 136 = search needs in
-    omega (arith, c .before .before .before .before .before .before .before .before .pre .0 .keysFew, h)
+    let at-start = c .before .before .before .before .before .before .before .before in
+    let h : length (at-start .args .w .keys) ≡ 136 = search needs in
+    omega (arith, at-start .pre .0 .keysFew, h)
 
 returns-2 : tie.Need-returns-2
 returns-2 c =
-    let t = of-true (sym (c .before .before .before .before .before .has .ensures) ∙ not-false _ (c .before .before .before .before .if1 .left)) in
-    degree-there _ (c .before .before .before .before .before .before .before .before .before .pre .0) _ _ _ t (c .before .index-of .ensures) (c .degree-of .ensures)
+    let at-if = c .before .before .before .before in
+    let at-has = at-if .before in
+    let at-start = at-has .before .before .before .before in
+    let held = of-true (sym (at-has .has .ensures) ∙ not-false _ (at-if .if1 .left)) in
+    degree-there _ (at-start .pre .0) _ _ _ held (c .before .index-of .ensures) (c .degree-of .ensures)
 
 pub degree-of-spec : {M : Type 1} → statement M
 degree-of-spec =

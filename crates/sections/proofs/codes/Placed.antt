@@ -81,7 +81,9 @@ module _ (b : List ℕ) (d : Sections b) where
 
     -- What is left of check 5 where all points are in range.
     abbrev apart : Bool
-    apart = rising lower (fileState b .pins) && (rising lower (fileState b .steiner) && all (λ (p : Point). not (has lower p (fileState b .steiner))) (fileState b .pins))
+    apart =
+        let s = fileState b in
+        rising lower (s .pins) && (rising lower (s .steiner) && all (λ (p : Point). not (has lower p (s .steiner))) (s .pins))
 
     tests : {pins steiner : List ℕ} (old₀ old₁ : List ℕ) → pins ≡ decoded (pointsIn b 30 (u / 4)) old₀
         → steiner ≡ decoded (pointsIn b (30 + u) (v / 4)) old₁ → AllInRange (fileState b .pins) → AllInRange (fileState b .steiner)
@@ -89,7 +91,7 @@ module _ (b : List ℕ) (d : Sections b) where
     tests old₀ old₁ p q r s =
         ap₂ placedCodes (codes-taken old₀ (p ∙ ap (λ ps. decoded ps old₀) pins-are) r (pins-count ∙ ap (λ (z : ℕ). z / 4) (sym e)))
         (codes-taken old₁ (q ∙ ap (λ ps. decoded ps old₁) steiner-are) s (steiner-count ∙ ap (λ (z : ℕ). z / 4) (sym f)))
-        ∙ ap₂ _&&_ (rising-test (fileState b .pins) r) (ap₂ _&&_ (rising-test (fileState b .steiner) s) (apart-test (fileState b .pins) (fileState b .steiner) r s))
+        ∙ ap₂ _&&_ (rising-test _ r) (ap₂ _&&_ (rising-test _ s) (apart-test _ _ r s))
 
     pub decodes : {x y z : Bool} {pins steiner : List ℕ} → x ≡ all inRange (pointsIn b 30 (u / 4)) → y ≡ all inRange (pointsIn b (30 + u) (v / 4))
         → pins ≡ decoded (pointsIn b 30 (u / 4)) (replicate maxPins 0) → steiner ≡ decoded (pointsIn b (30 + u) (v / 4)) (replicate filePlaces 0)

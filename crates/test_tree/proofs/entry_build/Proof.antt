@@ -1,8 +1,7 @@
 -- `test_tree::entry_build` meets its contract.
 use native.Mathlib.Omega.{arith}
 use borrow.Author.Tests.{not-true, not-false}
-use Rattle.test_tree.proofs.Outcomes.{answer-taken, answer-refused}
-use Rattle.test_tree.proofs.Rows.{build-given}
+use Rattle.test_tree.proofs.Answers.{answer-taken, answer-refused, build-given}
 use borrow.Author.Needs.{needs}
 use Rattle.test_tree.proofs.entry_build.Statement.{statement}
 use Rattle.test_tree.proofs.entry_build.Tie as tie
@@ -11,7 +10,7 @@ accepts-requires : tie.Need-accepts-requires
 accepts-requires c κs = search needs
 
 returns : tie.Need-returns
-returns c = answer-refused (λ t. c .before .accepts .ensures .not (not-true _ (c .if1 .taken)) (t .0))
+returns c = answer-refused (λ t. c .before .accepts .ensures .never (not-true _ (c .if1 .taken)) (t .0))
 
 add-if2 : tie.Need-add-if2
 add-if2 c = search needs

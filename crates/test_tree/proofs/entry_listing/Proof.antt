@@ -1,6 +1,6 @@
 -- `test_tree::entry_listing` meets its contract.
 use native.Mathlib.Omega.{arith}
-use Rattle.test_tree.proofs.Outcomes.{answer-taken, answer-refused, list-all}
+use Rattle.test_tree.proofs.Answers.{answer-taken, answer-refused, list-all}
 use borrow.Author.Needs.{needs}
 use Rattle.test_tree.proofs.entry_listing.Statement.{statement}
 use Rattle.test_tree.proofs.entry_listing.Tie as tie

@@ -19,7 +19,9 @@ slice-aggregate-union-3 c = search needs
 union-requires : tie.Need-union-requires
 union-requires c κs =
     let p = c .before .before .before .before .before .pre in
-    (omega (arith, p .pinCodes .few, p .pinCodes .size), (omega (arith, p .steinerCodes .few, p .steinerCodes .size), (omega (arith, p .pinCodes .few, p .room), (p .pinCodes .rise, p .steinerCodes .rise))))
+    let pins = p .pinCodes in
+    let steiner = p .steinerCodes in
+    (omega (arith, pins .few, pins .size), (omega (arith, steiner .few, steiner .size), (omega (arith, pins .few, p .room), (pins .rise, steiner .rise))))
 
 slice-aggregate-unpack : tie.Need-slice-aggregate-unpack
 slice-aggregate-unpack c = search needs
@@ -32,8 +34,9 @@ slice-aggregate-unpack-3 c = search needs
 
 unpack-requires : tie.Need-unpack-requires
 unpack-requires c κs =
-    let p = c .before .before .before .before .before .before .before .before .before .before .pre in
-    let w = c .before .before .before .before .union .ensures in
+    let at-union = c .before .before .before .before in
+    let p = at-union .before .before .before .before .before .before .pre in
+    let w = at-union .union .ensures in
     let few = p .room in
     let n = all-count _ p in
     (omega (arith, few, n, front-count w), omega (arith, few, n, front-count w), omega (arith, few, n, front-count w))
@@ -49,18 +52,22 @@ slice-aggregate-build-3 c = search needs
 
 build-requires : tie.Need-build-requires
 build-requires c κs =
-    let p = c .before .before .before .before .before .before .before .before .before .before .before .before .before .before .before .before .pre in
-    let w = c .before .before .before .before .before .before .before .before .before .before .union .ensures in
-    let u = c .before .before .before .before .before .unpack .ensures in
+    let at-unpack = c .before .before .before .before .before in
+    let at-union = at-unpack .before .before .before .before .before in
+    let p = at-union .before .before .before .before .before .before .pre in
+    let w = at-union .union .ensures in
+    let u = at-unpack .unpack .ensures in
     let few = p .room in
     let n = all-count _ p in
     build-allowed _ p _ _ _ _ _ w u _ refl (omega (arith, few, n, front-count w)) (omega (arith, few, n, front-count w))
 
 returns : tie.Need-returns
 returns c =
-    let p = c .before .before .before .before .before .before .before .before .before .before .before .before .before .before .before .before .before .before .pre in
-    let w = c .before .before .before .before .before .before .before .before .before .before .before .before .union .ensures in
-    let u = c .before .before .before .before .before .before .before .unpack .ensures in
+    let at-unpack = c .before .before .before .before .before .before .before in
+    let at-union = at-unpack .before .before .before .before .before in
+    let p = at-union .before .before .before .before .before .before .pre in
+    let w = at-union .union .ensures in
+    let u = at-unpack .unpack .ensures in
     (order-of _ p _ _ _ _ _ w u _ _ _ (c .before .build .ensures), refl)
 
 pub arrange-spec : {M : Type 1} → statement M

@@ -1,11 +1,11 @@
 -- The edges of a working form as numbers: the ends of its keys are those of the state's edges in the listing order, and the number
 -- of a point is where its code stands among the codes of all points.
-use mathlib.Core.Path.{_≡_, refl, sym, ap, ap₂, _∙_, subst⁻¹}
+use mathlib.Core.Path.{_≡_, refl, sym, ap, _∙_, subst⁻¹}
 use mathlib.Core.Logic.{⊎-elim}
 use mathlib.Core.Option.{some}
 use mathlib.Core.List.{List, [], _∷_, _++_, map, List·Memᴰ, List·Memᴰ·head as head, List·Memᴰ·tail as tail}
 use mathlib.Core.List.{List·Memᴰ·cases-cons as cases, List·Memᴰ·not-nil as not-nil}
-use Prim.Native.Nat.{ℕ, zero, suc, _+_, _-_, _/_, _%_, _≤_, _<_}
+use Prim.Native.Nat.{ℕ, zero, suc, _+_, _-_, _/_, _%_, _<_}
 use native.Mathlib.Omega.{arith}
 use lib.Dec.{ltb}
 use lib.ListN.{length, take, getD, getElem?, replicate, length-map}
@@ -118,7 +118,8 @@ module _ (w : Working) (p : InOrder w) where
   module _ (row : List ℕ) (are : row ≡ edgeRow (stateOf w)) (i : ℕ) (h : i < w .nkeys) where
     item : (e : Edge) × (getElem? (listed (stateOf w)) i ≡ some e) × List·Memᴰ e (listed (stateOf w))
         × (getD (edgeRow (stateOf w)) i 0 ≡ endsAt (points (stateOf w)) e)
-    item = item-at (endsAt (points (stateOf w))) (listed (stateOf w)) (replicate (places - length (edgeNumbers (stateOf w))) 0) i (omega (arith, listed-length))
+    item =
+        item-at (endsAt (points (stateOf w))) (listed (stateOf w)) (replicate (places - length (edgeNumbers (stateOf w))) 0) i (omega (arith, listed-length))
 
     both-is : getD row i 0 ≡ endsAt (points (stateOf w)) (item .0)
     both-is = ap (λ (l : List ℕ). getD l i 0) are ∙ item .3
@@ -126,7 +127,8 @@ module _ (w : Working) (p : InOrder w) where
     pub both-within : (getD row i 0 / 128 < w .npoints) × (getD row i 0 % 128 < w .npoints)
     both-within = within (item .0) (item .2) (getD row i 0) both-is
 
-    pub edge-found : (n : ℕ) (e : CodedEdge) → e ≡ record { low = getD (w .codes) (getD row i 0 / 128) 0; high = getD (w .codes) (getD row i 0 % 128) 0; distance = n }
+    pub edge-found : (n : ℕ) (e : CodedEdge)
+        → e ≡ record { low = getD (w .codes) (getD row i 0 / 128) 0; high = getD (w .codes) (getD row i 0 % 128) 0; distance = n }
         → n ≡ edgeLength (edgeOf e) → EdgeAt (stateOf w) i e
     edge-found n e same long =
         record {

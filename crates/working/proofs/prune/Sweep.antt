@@ -48,7 +48,9 @@ pub found : (all keys : List ℕ) (t : List Edge) (l : List ℕ) → ((q : ℕ) 
     → Found l (lowestWeak t (map pointOf l)) (firstWeak all keys l)
 unfolding lowestWeak firstWeak
 found all keys t [] h = none-weak
-found all keys t (q ∷ l) h = go (leb 3 (edgesAt (pointOf q) t)) (leb 3 (degree keyGraph (indexOf q all) keys)) (ap (leb 3) (h q (head refl))) (found all keys t l (λ z i. h z (tail i)))
+found all keys t (q ∷ l) h =
+    go (leb 3 (edgesAt (pointOf q) t)) (leb 3 (degree keyGraph (indexOf q all) keys)) (ap (leb 3) (h q (head refl)))
+    (found all keys t l (λ z i. h z (tail i)))
   where
     up : {o : Option Point} {r : ℕ} → Found l o r → Found (q ∷ l) o (suc r)
     up none-weak = none-weak

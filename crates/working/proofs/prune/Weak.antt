@@ -1,17 +1,13 @@
 -- The search for the first Steiner point of at most two edges: what it passed, and what it finds in terms of the state.
-use mathlib.Core.Path.{_≡_, refl, sym, ap, _∙_, subst, subst⁻¹}
-use mathlib.Core.Logic.{_⊎_, inl, inr, ⊎-elim, _↔_}
-use mathlib.Core.Bool.{Bool, true, false, not}
-use mathlib.Core.Option.{Option, none, some}
-use mathlib.Core.List.{List, [], _∷_, map, List·Memᴰ, List·Memᴰ·head as head, List·Memᴰ·tail as tail}
-use Prim.Native.Nat.{ℕ, zero, suc, _+_, _≤_, _<_}
+use mathlib.Core.Path.{_≡_, sym, ap, _∙_}
+use mathlib.Core.List.{List, [], _∷_}
+use Prim.Native.Nat.{ℕ, suc, _+_, _≤_, _<_}
 use native.Mathlib.Numerals.{add-one}
 use native.Mathlib.Omega.{arith}
-use lib.Dec.{T, T-not, leb, leb→le, le→leb, nleb→lt, ltb}
+use lib.Dec.{leb, leb→le, nleb→lt}
 use lib.ListN.{length, take, drop, getD, drop-of-length-le}
 use lib.Seq.{drop-cons, getD-take, length-take-le}
 use Rattle.spanning.specs.Graph.{degree}
-use Rattle.arrays.specs.Test.{if}
 use Rattle.arrays.proofs.Test.{by-test}
 use Rattle.tree.specs.Keys.{keyGraph}
 use Rattle.arrays.specs.Array.{indexOf}
@@ -31,27 +27,32 @@ module _ (all keys steiner : List ℕ) (t : ℕ) where
       drop-cons (take t steiner) j 0 (omega (arith, length-take-le t steiner k))
       ∙ ap (λ (z : ℕ). z ∷ drop (suc j) (take t steiner)) (getD-take t steiner j 0 h)
 
-  pub strong-more : (j i d : ℕ) → Strong all keys steiner t j → j < t → t ≤ length steiner → i ≡ indexOf (getD steiner j 0) all → d ≡ degree keyGraph i keys → 3 ≤ d
-      → Strong all keys steiner t (j + 1)
-  unfolding firstWeak
-  strong-more j i d p h k ei ed three =
-      record {
-        within = omega arith;
-        rest =
-            p .rest ∙ ap (λ (l : List ℕ). j + firstWeak all keys l) (next j h k)
-            ∙ by-test (λ (z : ℕ). j + z ≡ (j + 1) + firstWeak all keys (drop (j + 1) (take t steiner))) (leb 3 (degree keyGraph (indexOf (getD steiner j 0) all) keys)) _ _
-            (λ u. omega (arith, ap (λ (z : ℕ). firstWeak all keys (drop z (take t steiner))) (add-one j)))
-            (λ u. absurd (omega (arith, nleb→lt 3 (degree keyGraph (indexOf (getD steiner j 0) all) keys) u, ed, ap (λ (z : ℕ). degree keyGraph z keys) ei)));
-      }
+  -- The point at place j has d edges.
+  module _ (j i d : ℕ) (p : Strong all keys steiner t j) (h : j < t) (k : t ≤ length steiner)
+      (ei : i ≡ indexOf (getD steiner j 0) all) (ed : d ≡ degree keyGraph i keys) where
+    abbrev edges : ℕ
+    edges = degree keyGraph (indexOf (getD steiner j 0) all) keys
 
-  pub strong-found : (j i d : ℕ) → Strong all keys steiner t j → j < t → t ≤ length steiner → i ≡ indexOf (getD steiner j 0) all → d ≡ degree keyGraph i keys → d ≤ 2
-      → j ≡ firstWeak all keys (take t steiner)
-  unfolding firstWeak
-  strong-found j i d p h k ei ed two =
-      sym (p .rest ∙ ap (λ (l : List ℕ). j + firstWeak all keys l) (next j h k)
-      ∙ by-test (λ (z : ℕ). j + z ≡ j) (leb 3 (degree keyGraph (indexOf (getD steiner j 0) all) keys)) _ _
-      (λ u. absurd (omega (arith, leb→le 3 (degree keyGraph (indexOf (getD steiner j 0) all) keys) u, ed, ap (λ (z : ℕ). degree keyGraph z keys) ei)))
-      (λ u. omega arith))
+    counted : d ≡ edges
+    counted = ed ∙ ap (λ (z : ℕ). degree keyGraph z keys) ei
+
+    pub strong-more : 3 ≤ d → Strong all keys steiner t (j + 1)
+    unfolding firstWeak
+    strong-more three =
+        record {
+          within = omega arith;
+          rest =
+              p .rest ∙ ap (λ (l : List ℕ). j + firstWeak all keys l) (next j h k)
+              ∙ by-test (λ (z : ℕ). j + z ≡ (j + 1) + firstWeak all keys (drop (j + 1) (take t steiner))) (leb 3 edges) _ _
+              (λ u. omega (arith, ap (λ (z : ℕ). firstWeak all keys (drop z (take t steiner))) (add-one j)))
+              (λ u. absurd (omega (arith, nleb→lt 3 edges u, counted)));
+        }
+
+    pub strong-found : d ≤ 2 → j ≡ firstWeak all keys (take t steiner)
+    unfolding firstWeak
+    strong-found two =
+        sym (p .rest ∙ ap (λ (l : List ℕ). j + firstWeak all keys l) (next j h k)
+        ∙ by-test (λ (z : ℕ). j + z ≡ j) (leb 3 edges) _ _ (λ u. absurd (omega (arith, leb→le 3 edges u, counted))) (λ u. omega arith))
 
   pub strong-end : (j : ℕ) → Strong all keys steiner t j → t ≤ j → t ≤ length steiner → j ≡ firstWeak all keys (take t steiner)
   unfolding firstWeak

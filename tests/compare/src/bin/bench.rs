@@ -63,6 +63,13 @@ const fn even(name: &'static str, decks: usize, sorted: usize, columns: i64) -> 
 /// How many times the last two ways run each deck.
 const TURNS: usize = 10;
 
+/// What a way finds and takes the second time of two, so that it finds the
+/// caches as it left them itself and not as another way did.
+fn warm<T>(mut way: impl FnMut() -> T) -> (T, f64) {
+    way();
+    timed(way)
+}
+
 /// A deck of pins and what the ways take for it, in nanoseconds.
 struct Run {
     pins: Vec<Point>,
@@ -73,6 +80,7 @@ struct Run {
     by_hand: f64,
     proved: f64,
     file: Vec<u8>,
+    alone: f64,
     planned: f64,
 }
 
@@ -87,25 +95,35 @@ impl Run {
             prim: 0.0,
             by_hand: f64::INFINITY,
             proved: f64::INFINITY,
+            alone: f64::INFINITY,
             planned: f64::INFINITY,
         }
     }
 
-    /// One turn of the last two ways and of planner_plan; their least times are
-    /// kept.
+    /// One turn of the last two ways; their least times are kept.
     fn turn(&mut self) -> Ended {
-        let mut out = [0; LONGEST];
-        let (run, proved) = timed(|| run_proved(black_box(&self.deck)));
-        let (found, by_hand) = timed(|| run_to_end(black_box(&self.pins)));
-        let (length, planned) = timed(|| plan(black_box(&self.file), black_box(&mut out)));
+        let (run, proved) = warm(|| run_proved(black_box(&self.deck)));
+        let (found, by_hand) = warm(|| run_to_end(black_box(&self.pins)));
         self.proved = self.proved.min(proved);
         self.by_hand = self.by_hand.min(by_hand);
-        self.planned = self.planned.min(planned);
         let ended = ended(&run);
         assert_eq!(found, ended, "by hand, and the planner");
-        let written = read(&out[..length]).expect("a deck file");
-        assert_eq!(written.steiner, ended.taps, "planner_plan, and the planner");
         ended
+    }
+
+    /// The last way and planner_plan in turns; their least times are kept.
+    fn plan_turns(&mut self, expected: &Ended) {
+        let mut out = [0; LONGEST];
+        let mut length = 0;
+        for _ in 0..TURNS {
+            let (_, alone) = warm(|| run_proved(black_box(&self.deck)));
+            let (written, planned) = warm(|| plan(black_box(&self.file), black_box(&mut out)));
+            self.alone = self.alone.min(alone);
+            self.planned = self.planned.min(planned);
+            length = written;
+        }
+        let written = read(&out[..length]).expect("a deck file");
+        assert_eq!(written.steiner, expected.taps, "planner_plan, and the planner");
     }
 
     /// All ways on one deck, in turns; the first one only if asked for.
@@ -123,6 +141,7 @@ impl Run {
         for _ in 1..TURNS {
             assert_eq!(self.turn(), expected);
         }
+        self.plan_turns(&expected);
     }
 }
 
@@ -159,11 +178,12 @@ fn measure(case: &Case, random: &mut Random) -> String {
         prim / proved,
         proved / by_hand
     );
+    let alone = milliseconds(&runs, |run| run.alone);
     let planned = milliseconds(&runs, |run| run.planned);
     format!(
-        "| {} | {proved:.3} | {planned:.3} | {:.2} |",
+        "| {} | {alone:.3} | {planned:.3} | {:.2} |",
         case.name,
-        planned / proved
+        planned / alone
     )
 }
 

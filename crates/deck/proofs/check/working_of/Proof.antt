@@ -48,9 +48,8 @@ returns-3 c =
     let weak = c .before .before in
     let made = weak .before .arrange .ensures in
     let tested = weak .before .before in
-    accepted _ _ _ refl
-    (points-pass _ _ made _ (weak .lowest-weak .ensures) (c .if2 .left) (of-true (sym (tested .before .is-arranged .ensures) ∙ not-false _ (tested .if1 .left))))
-    (made .0) (made .1)
+    let ordered = of-true (sym (tested .before .is-arranged .ensures) ∙ not-false _ (tested .if1 .left)) in
+    accepted _ _ _ refl (points-pass _ _ made _ (weak .lowest-weak .ensures) (c .if2 .left) ordered) (made .0) (made .1)
 
 pub working-of-spec : {M : Type 1} → statement M
 working-of-spec =

@@ -31,8 +31,8 @@ returns-2 : tie.Need-returns-2
 returns-2 c =
     let at-points = c .before .before .before in
     let a = at-points .before .before .before .before in
-    read-as (last-invalid (a .args .b .now) (a .pre .0) (a .pre .1 .1 .1) (a .pre .1 .0) _ (at-points .points-working .ensures) (not-true _ (c .before .if2 .taken)))
-    (c .refuse2 .ensures)
+    let invalid = not-true _ (c .before .if2 .taken) in
+    read-as (last-invalid (a .args .b .now) (a .pre .0) (a .pre .1 .1 .1) (a .pre .1 .0) _ (at-points .points-working .ensures) invalid) (c .refuse2 .ensures)
 
 is-plain-requires : tie.Need-is-plain-requires
 is-plain-requires c κs = search needs

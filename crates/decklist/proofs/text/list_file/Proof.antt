@@ -44,7 +44,8 @@ list-working-requires : tie.Need-list-working-requires
 list-working-requires c κs =
     let run = c .before in
     let test = run .before in
-    let taken = read-taken (readFile _) (read-possible _) (test .before .before .read-working .ensures) (test .before .refusal-number .ensures) (test .if2 .left) in
+    let read = test .before .before in
+    let taken = read-taken (readFile _) (read-possible _) (read .read-working .ensures) (test .before .refusal-number .ensures) (test .if2 .left) in
     changed-valid (taken .2) (run .run-to-end .ensures)
 
 same-length-2 : tie.Need-same-length-2

@@ -18,7 +18,8 @@ returns c =
     let at-signed-field = c .before .before in
     let at-to-signed = at-signed-field .before in
     let at-start = at-to-signed .before .before .before in
-    coordinate-put _ _ _ _ _ _ (record { sfits = at-to-signed .to-signed .ok }) (at-to-signed .to-signed .ensures) (at-signed-field .signed-field .ensures .0) (at-start .fits .u .fits)
+    let signed = at-to-signed .to-signed in
+    coordinate-put _ _ _ _ _ _ (record { sfits = signed .ok }) (signed .ensures) (at-signed-field .signed-field .ensures .0) (at-start .fits .u .fits)
 
 pub coordinate-field-spec : {M : Type 1} → statement M
 coordinate-field-spec =

@@ -1,5 +1,4 @@
 -- `listing::rows::run_lines` meets its contract. The invariant: the lines of the edges passed are written.
-use mathlib.Core.Path.{_≡_, ap}
 use Prim.Native.Nat.{_-_}
 use native.Mathlib.Omega.{arith}
 use borrow.Author.Needs.{needs}
@@ -58,8 +57,9 @@ loop-again c =
     let s = stateOf (at-start .args .w) in
     let few = edges-few _ (at-start .pre .1 .1) in
     let inv = at-loop .loop .inv in
+    let line = at-line .run-line in
     first-more (runText (listed s)) 53 _ _ _ _ _ _ _ _ _ inv (at-if .if1 .taken) (run-more s _ _ (at-line .before .edge-at .ensures))
-    (omega (arith, inv .most, inv .same, few, edge-count _ (at-start .pre .1 .0), at-if .if1 .taken)) (at-line .run-line .ensures .0) (at-line .run-line .ensures .1) (at-line .run-line .kept .0)
+    (omega (arith, inv .most, inv .same, few, edge-count _ (at-start .pre .1 .0), at-if .if1 .taken)) (line .ensures .0) (line .ensures .1) (line .kept .0)
 
 same-length : tie.Need-same-length Inv-loop μ-loop
 same-length c = c .before .before .loop .inv .same

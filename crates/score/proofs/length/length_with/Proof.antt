@@ -34,7 +34,7 @@ located c = c .before .before .before .before .before .before .before .before .b
 -- The length with the place and the gain are the tree's length and FAR.
 same : (c : tie.After-gain-at)
     → let a = start (located c) .args in
-    lengthWith (a .xs .now) (a .ys .now) (a .n) (a .x) (a .y) + c .gain-at .result ≡ far + a .length
+    lengthWith (a .xs .now) (a .ys .now) (a .n) (a .x) (a .y) + c .gain-at .result ≡ far + a .total
 same c =
     let l = located c in
     omega (arith, c .gain-at .ensures, length-is (start l .pre .0) (prepared l) (omega arith) (c .before .before .before .nearest .ensures))

@@ -4,7 +4,7 @@ use Prim.Native.Nat.{_-_, _*_}
 use lib.ListN.{take, drop}
 use Rattle.arrays.proofs.same.Alike.{Alike}
 use Rattle.sections.specs.Bytes.{edgeBytes}
-use Rattle.sections.proofs.Comparing.{edges-none, edges-more, edges-fail-first, edges-fail-second, edges-end}
+use Rattle.sections.proofs.edges.Bytes.{edges-none, edges-more, edges-fail-first, edges-fail-second, edges-end}
 use borrow.Author.Needs.{needs}
 use native.Mathlib.Omega.{arith}
 use Rattle.sections.proofs.edges.same_edges.Statement.{statement}
@@ -18,7 +18,8 @@ abbrev μ-loop : tie.MeasureT-loop
 
 loop-holds : tie.Need-loop-holds Inv-loop μ-loop
 loop-holds c =
-    edges-none _ _ _ _ (c .before .before .pre .0) (c .before .before .pre .1)
+    let given = c .before .before .pre in
+    edges-none _ _ _ _ (given .0) (given .1)
 
 mul-k : tie.Need-mul-k Inv-loop μ-loop
 mul-k c = search needs
@@ -40,7 +41,10 @@ wide-requires c κs = search needs
 
 returns : tie.Need-returns Inv-loop μ-loop
 returns c =
-    edges-fail-first _ _ _ _ (c .before .before .before .before .before .before .before .before .pre .0) (c .before .before .before .before .before .before .before .before .pre .1) _ (c .before .before .before .before .before .loop .inv) (omega arith) (λ e. c .if1 .taken (c .before .wide .ensures .0 ∙ e))
+    let at-loop = c .before .before .before .before .before in
+    let given = at-loop .before .before .before .pre in
+    edges-fail-first _ _ _ _ (given .0) (given .1) _ (at-loop .loop .inv) (omega arith)
+    (λ e. c .if1 .taken (c .before .wide .ensures .0 ∙ e))
 
 mul-wide-2 : tie.Need-mul-wide-2 Inv-loop μ-loop
 mul-wide-2 c = search needs
@@ -59,7 +63,10 @@ wide-requires-2 c κs = search needs
 
 returns-2 : tie.Need-returns-2 Inv-loop μ-loop
 returns-2 c =
-    edges-fail-second _ _ _ _ (c .before .before .before .before .before .before .before .before .before .before .before .pre .0) (c .before .before .before .before .before .before .before .before .before .before .before .pre .1) _ (c .before .before .before .before .before .before .before .before .loop .inv) (omega arith) (omega arith) (λ e. c .if2 .taken (c .before .wide2 .ensures .0 ∙ e))
+    let at-loop = c .before .before .before .before .before .before .before .before in
+    let given = at-loop .before .before .before .pre in
+    edges-fail-second _ _ _ _ (given .0) (given .1) _ (at-loop .loop .inv) (omega arith) (omega arith)
+    (λ e. c .if2 .taken (c .before .wide2 .ensures .0 ∙ e))
 
 add-i : tie.Need-add-i Inv-loop μ-loop
 add-i c = search needs
@@ -69,11 +76,15 @@ loop-less c = search needs
 
 loop-again : tie.Need-loop-again Inv-loop μ-loop
 loop-again c =
-    edges-more _ _ _ _ (c .before .before .before .before .before .before .before .before .before .before .before .pre .0) (c .before .before .before .before .before .before .before .before .before .before .before .pre .1) _ (c .before .before .before .before .before .before .before .before .loop .inv) (omega arith) (omega arith) (omega arith)
+    let at-loop = c .before .before .before .before .before .before .before .before in
+    let given = at-loop .before .before .before .pre in
+    edges-more _ _ _ _ (given .0) (given .1) _ (at-loop .loop .inv) (omega arith) (omega arith) (omega arith)
 
 returns-3 : tie.Need-returns-3 Inv-loop μ-loop
 returns-3 c =
-    edges-end _ _ _ _ (c .before .before .before .before .pre .0) (c .before .before .before .before .pre .1) _ (c .before .loop .inv) (c .loop-test .left)
+    let at-loop = c .before in
+    let given = at-loop .before .before .before .pre in
+    edges-end _ _ _ _ (given .0) (given .1) _ (at-loop .loop .inv) (c .loop-test .left)
 
 pub same-edges-spec : {M : Type 1} → statement M
 same-edges-spec =

@@ -1,7 +1,7 @@
 -- `sections::header::is_headed` meets its contract: one test after the other.
 use mathlib.Core.Path.{sym, _∙_}
 use borrow.Author.Tests.{not-true, not-false}
-use Rattle.sections.proofs.Heading.{head-short, head-long, head-other, head-count}
+use Rattle.sections.proofs.header.Checks.{head-short, head-long, head-other, head-count}
 use borrow.Author.Needs.{needs}
 use lib.Seq.{length-take-le}
 use native.Mathlib.Omega.{arith}

@@ -1,5 +1,5 @@
 -- `sections::header::is_laid_out` meets its contract: one test after the other.
-use Rattle.sections.proofs.Heading.{layout-first, layout-second, layout-third, layout-end}
+use Rattle.sections.proofs.header.Checks.{layout-first, layout-second, layout-third, layout-end}
 use borrow.Author.Needs.{needs}
 use native.Mathlib.Omega.{arith}
 use Rattle.sections.proofs.header.is_laid_out.Statement.{statement}
@@ -16,7 +16,11 @@ number4-requires-3 c κs = search needs
 
 returns : tie.Need-returns
 returns c =
-    layout-first (c .before .before .before .before .before .args .b .now) _ _ _ 0 (c .before .number43 .ensures .0) (c .before .before .before .number4 .ensures .0) (c .before .before .number42 .ensures .0) (c .if1 .taken)
+    let at-first = c .before in
+    let at-third = at-first .before in
+    let at-second = at-third .before in
+    let b = at-second .before .before .args .b .now in
+    layout-first b _ _ _ 0 (at-first .number43 .ensures .0) (at-second .number4 .ensures .0) (at-third .number42 .ensures .0) (c .if1 .taken)
 
 number4-requires-4 : tie.Need-number4-requires-4
 number4-requires-4 c κs = search needs
@@ -26,7 +30,12 @@ add-if2 c = search needs
 
 returns-2 : tie.Need-returns-2
 returns-2 c =
-    layout-second (c .before .before .before .before .before .before .before .args .b .now) _ _ _ _ (c .before .before .before .number43 .ensures .0) (c .before .before .before .before .before .number4 .ensures .0) (c .before .before .before .before .number42 .ensures .0) (omega arith) (c .before .number44 .ensures .0) (c .if2 .taken)
+    let at-first = c .before .before .before in
+    let at-third = at-first .before in
+    let at-second = at-third .before in
+    let b = at-second .before .before .args .b .now in
+    layout-second b _ _ _ _ (at-first .number43 .ensures .0) (at-second .number4 .ensures .0) (at-third .number42 .ensures .0)
+    (omega arith) (c .before .number44 .ensures .0) (c .if2 .taken)
 
 number4-requires-5 : tie.Need-number4-requires-5
 number4-requires-5 c κs = search needs
@@ -36,7 +45,13 @@ add-if3 c = search needs
 
 returns-3 : tie.Need-returns-3
 returns-3 c =
-    layout-third (c .before .before .before .before .before .before .before .before .before .args .b .now) _ _ _ _ (c .before .before .before .before .before .number43 .ensures .0) (c .before .before .before .before .before .before .before .number4 .ensures .0) (c .before .before .before .before .before .before .number42 .ensures .0) (omega arith) (c .before .before .before .number44 .ensures .0) (omega arith) _ (c .before .number45 .ensures .0) (c .if3 .taken)
+    let at-pins = c .before .before .before in
+    let at-first = at-pins .before .before in
+    let at-third = at-first .before in
+    let at-second = at-third .before in
+    let b = at-second .before .before .args .b .now in
+    layout-third b _ _ _ _ (at-first .number43 .ensures .0) (at-second .number4 .ensures .0) (at-third .number42 .ensures .0)
+    (omega arith) (at-pins .number44 .ensures .0) (omega arith) _ (c .before .number45 .ensures .0) (c .if3 .taken)
 
 number4-requires-6 : tie.Need-number4-requires-6
 number4-requires-6 c κs = search needs
@@ -46,7 +61,14 @@ add-result c = search needs
 
 returns-4 : tie.Need-returns-4
 returns-4 c =
-    layout-end (c .before .before .before .before .before .before .before .before .before .before .args .b .now) _ _ _ _ (c .before .before .before .before .before .before .number43 .ensures .0) (c .before .before .before .before .before .before .before .before .number4 .ensures .0) (c .before .before .before .before .before .before .before .number42 .ensures .0) (omega arith) (c .before .before .before .before .number44 .ensures .0) (omega arith) _ (c .before .before .number45 .ensures .0) (omega arith) _ (c .number46 .ensures .0)
+    let at-steiner = c .before .before in
+    let at-pins = at-steiner .before .before in
+    let at-first = at-pins .before .before in
+    let at-third = at-first .before in
+    let at-second = at-third .before in
+    let b = at-second .before .before .args .b .now in
+    layout-end b _ _ _ _ (at-first .number43 .ensures .0) (at-second .number4 .ensures .0) (at-third .number42 .ensures .0)
+    (omega arith) (at-pins .number44 .ensures .0) (omega arith) _ (at-steiner .number45 .ensures .0) (omega arith) _ (c .number46 .ensures .0)
 
 pub is-laid-out-spec : {M : Type 1} → statement M
 is-laid-out-spec =

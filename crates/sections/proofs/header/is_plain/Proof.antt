@@ -1,5 +1,5 @@
 -- `sections::header::is_plain` meets its contract: one test after the other.
-use Rattle.sections.proofs.Heading.{plain-steiner, plain-edges}
+use Rattle.sections.proofs.header.Checks.{plain-steiner, plain-edges}
 use borrow.Author.Needs.{needs}
 use native.Mathlib.Omega.{arith}
 use Rattle.sections.proofs.header.is_plain.Statement.{statement}

@@ -1,5 +1,5 @@
 -- `sections::header::is_whole` meets its contract: one test after the other.
-use Rattle.sections.proofs.Heading.{whole-pins, whole-steiner, whole-edges}
+use Rattle.sections.proofs.header.Checks.{whole-pins, whole-steiner, whole-edges}
 use borrow.Author.Needs.{needs}
 use native.Mathlib.Omega.{arith}
 use Rattle.sections.proofs.header.is_whole.Statement.{statement}
@@ -17,14 +17,19 @@ number4-requires-2 c κs = search needs
 
 returns-2 : tie.Need-returns-2
 returns-2 c =
-    whole-steiner (c .before .before .before .before .before .args .b .now) _ (c .before .before .before .number4 .ensures .0) (omega arith) _ (c .before .number42 .ensures .0) (c .if2 .taken)
+    let at-pins = c .before .before .before in
+    let b = at-pins .before .before .args .b .now in
+    whole-steiner b _ (at-pins .number4 .ensures .0) (omega arith) _ (c .before .number42 .ensures .0) (c .if2 .taken)
 
 number4-requires-3 : tie.Need-number4-requires-3
 number4-requires-3 c κs = search needs
 
 returns-3 : tie.Need-returns-3
 returns-3 c =
-    whole-edges (c .before .before .before .before .before .before .args .b .now) _ (c .before .before .before .before .number4 .ensures .0) (omega arith) _ (c .before .before .number42 .ensures .0) (omega arith) _ (c .number43 .ensures .0)
+    let at-steiner = c .before .before in
+    let at-pins = at-steiner .before .before in
+    let b = at-pins .before .before .args .b .now in
+    whole-edges b _ (at-pins .number4 .ensures .0) (omega arith) _ (at-steiner .number42 .ensures .0) (omega arith) _ (c .number43 .ensures .0)
 
 pub is-whole-spec : {M : Type 1} → statement M
 is-whole-spec =

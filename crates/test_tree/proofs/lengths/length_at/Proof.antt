@@ -1,6 +1,6 @@
 -- `test_tree::lengths::length_at` meets its contract.
 use borrow.Author.Needs.{needs}
-use Rattle.test_tree.proofs.Rows.{length-alone}
+use Rattle.test_tree.proofs.lengths.Rows.{length-alone}
 use Rattle.test_tree.proofs.lengths.length_at.Statement.{statement}
 use Rattle.test_tree.proofs.lengths.length_at.Tie as tie
 

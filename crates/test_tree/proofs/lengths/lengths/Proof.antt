@@ -4,7 +4,7 @@ use native.Mathlib.Omega.{arith}
 use borrow.Author.Needs.{needs}
 use Rattle.arrays.proofs.paste.Parts.{front-take}
 use Rattle.score.proofs.TreeKeys.{tree-filling}
-use Rattle.test_tree.proofs.Rows.{keys-few, tree-measured}
+use Rattle.test_tree.proofs.lengths.Rows.{keys-few, tree-measured}
 use Rattle.test_tree.proofs.lengths.lengths.Statement.{statement}
 use Rattle.test_tree.proofs.lengths.lengths.Tie as tie
 

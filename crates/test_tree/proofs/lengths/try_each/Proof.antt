@@ -8,7 +8,7 @@ use borrow.Author.Needs.{needs}
 use lib.ListN.{length, drop}
 use Rattle.regions.specs.Rays.{places, tableSize}
 use Rattle.test_tree.specs.Answers.{lengthsWith}
-use Rattle.test_tree.proofs.Rows.{row-none, row-more}
+use Rattle.test_tree.proofs.lengths.Rows.{row-none, row-more}
 use Rattle.test_tree.proofs.lengths.try_each.Statement.{statement}
 use Rattle.test_tree.proofs.lengths.try_each.Tie as tie
 

@@ -1,8 +1,7 @@
 -- `test_tree::points::accepts` meets its contract.
 use mathlib.Core.Path.{refl}
 use native.Mathlib.Omega.{arith}
-use Rattle.test_tree.proofs.Passed.{says-no}
-use Rattle.test_tree.proofs.Outcomes.{points-say}
+use Rattle.test_tree.proofs.points.Rising.{says-no, points-say}
 use borrow.Author.Needs.{needs}
 use Rattle.test_tree.proofs.points.accepts.Statement.{statement}
 use Rattle.test_tree.proofs.points.accepts.Tie as tie

@@ -1,7 +1,6 @@
 -- `working::change::insert` meets its contract: a pin joins, and a sweep follows.
 use mathlib.Core.Path.{ap, _∙_}
 use Rattle.model.specs.State.{insert, remove, prune}
-use borrow.Author.Needs.{needs}
 use Rattle.working.proofs.change.insert.Statement.{statement}
 use Rattle.working.proofs.change.insert.Tie as tie
 

@@ -1,7 +1,6 @@
 -- `working::change::remove` meets its contract: a pin leaves, and a sweep follows.
 use mathlib.Core.Path.{ap, _∙_}
 use Rattle.model.specs.State.{insert, remove, prune}
-use borrow.Author.Needs.{needs}
 use Rattle.working.proofs.change.remove.Statement.{statement}
 use Rattle.working.proofs.change.remove.Tie as tie
 

@@ -1,7 +1,6 @@
 -- `working::change::with_steiner` meets its contract: a Steiner point joins, and a sweep follows.
 use mathlib.Core.Path.{ap, _∙_}
 use Rattle.model.specs.State.{insert, remove, prune}
-use borrow.Author.Needs.{needs}
 use Rattle.working.proofs.change.with_steiner.Statement.{statement}
 use Rattle.working.proofs.change.with_steiner.Tie as tie
 

@@ -26,9 +26,12 @@ cast-result c = search needs
 
 returns : tie.Need-returns
 returns c =
-    let at-y = c .before .before .before in
+    let at-y2 = c .before in
+    let at-x2 = at-y2 .before in
+    let at-y = at-x2 .before in
+    let at-x = at-y .before in
     c .distance .ensures .0
-    ∙ (λ i. dist (pointAt (at-y .before .x-of .ensures i) (at-y .y-of .ensures i)) (pointAt (c .before .before .x-of2 .ensures i) (c .before .y-of2 .ensures i)))
+    ∙ (λ i. dist (pointAt (at-x .x-of .ensures i) (at-y .y-of .ensures i)) (pointAt (at-x2 .x-of2 .ensures i) (at-y2 .y-of2 .ensures i)))
 
 pub distance-of-spec : {M : Type 1} → statement M
 distance-of-spec =

@@ -30,8 +30,11 @@ degree-of-requires c κs = search needs
 
 returns : tie.Need-returns Inv-loop μ-loop
 returns c =
-    let l = c .before .before .before .before .before in
-    strong-found _ _ _ _ _ _ _ (l .loop .inv) (omega arith) (l .before .before .before .before .pre .2) (c .before .before .index-of .ensures) (c .before .degree-of .ensures) (omega arith)
+    let at-degree = c .before in
+    let at-index = at-degree .before in
+    let at-loop = at-index .before .before .before in
+    let given = at-loop .before .before .before .before .pre in
+    strong-found _ _ _ _ _ _ _ (at-loop .loop .inv) (omega arith) (given .2) (at-index .index-of .ensures) (at-degree .degree-of .ensures) (omega arith)
 
 add-j : tie.Need-add-j Inv-loop μ-loop
 add-j c = search needs
@@ -41,8 +44,11 @@ loop-less c = search needs
 
 loop-again : tie.Need-loop-again Inv-loop μ-loop
 loop-again c =
-    let l = c .before .before .before .before .before in
-    strong-more _ _ _ _ _ _ _ (l .loop .inv) (omega arith) (l .before .before .before .before .pre .2) (c .before .before .index-of .ensures) (c .before .degree-of .ensures) (omega arith)
+    let at-degree = c .before in
+    let at-index = at-degree .before in
+    let at-loop = at-index .before .before .before in
+    let given = at-loop .before .before .before .before .pre in
+    strong-more _ _ _ _ _ _ _ (at-loop .loop .inv) (omega arith) (given .2) (at-index .index-of .ensures) (at-degree .degree-of .ensures) (omega arith)
 
 returns-2 : tie.Need-returns-2 Inv-loop μ-loop
 returns-2 c = strong-end _ _ _ _ _ (c .before .loop .inv) (c .loop-test .left) (c .before .before .before .before .before .pre .2)

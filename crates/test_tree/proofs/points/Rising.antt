@@ -1,24 +1,27 @@
--- Points that are passed one after the other: that they rise so far, or do not.
+-- Points that are looked at one after the other: that they rise so far, or do not.
 use mathlib.Core.Path.{_≡_, sym, _∙_, subst}
 use mathlib.Core.Bool.{Bool, true, false}
 use Prim.Native.Nat.{ℕ, _+_, _-_, _≤_, _<_}
 use native.Mathlib.Decide.{decLt}
 use native.Mathlib.Omega.{arith}
+use mathlib.Core.List.{List}
 use lib.Dec.{T}
+use lib.ListN.{length}
 use Rattle.plane.specs.Point.{Point, lower, Lower}
 use Rattle.plane.proofs.Order.{lower-order}
+use Rattle.tree.specs.Held.{held}
 use Rattle.tree.specs.Build.{Rises}
-use Rattle.test_tree.specs.Answers.{Says}
+use Rattle.test_tree.specs.Answers.{Says, Points}
 
 true-not-false : {b : Bool} {P : Type 0} → b ≡ true → b ≡ false → P
 true-not-false p q = absurd (subst T (sym p ∙ q) tt)
 
 -- A test that passed, and one that did not.
 pub says-yes : {P : Type 0} {r : Bool} → r ≡ true → P → Says P r
-says-yes e p = record { sure = λ _. p; not = λ f. true-not-false e f }
+says-yes e p = record { sure = λ _. p; never = λ f. true-not-false e f }
 
 pub says-no : {P : Type 0} {r : Bool} → r ≡ false → ¬ P → Says P r
-says-no e n = record { sure = λ t. true-not-false t e; not = λ _. n }
+says-no e n = record { sure = λ t. true-not-false t e; never = λ _. n }
 
 -- No two of one point.
 pub rises-one : (at : ℕ → Point) → Rises at 1
@@ -44,3 +47,8 @@ rises-more at i h r last j k l m = go (decLt k i) (decLt j (i - 1))
 -- A point that is not higher than the last.
 pub rises-not : (at : ℕ → Point) (n i : ℕ) → 1 ≤ i → i < n → lower (at (i - 1)) (at i) ≡ false → ¬ Rises at n
 rises-not at n i h l e r = subst T e (r (i - 1) i (omega arith) l)
+
+-- Points of as many x as y, few enough: it is left whether they rise.
+pub points-say : (xs ys : List ℕ) (r : Bool) → length xs ≡ length ys → length xs ≤ 127 → Says (Rises (held xs ys) (length xs)) r → Says (Points xs ys) r
+points-say xs ys r e h s =
+    record { sure = λ t. record { same = e; few = h; rises = s .sure t }; never = λ f p. s .never f (p .rises) }

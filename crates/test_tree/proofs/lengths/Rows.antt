@@ -12,7 +12,7 @@ use Rattle.arrays.specs.Set.{put, union}
 use Rattle.model.specs.Tree.{pairs, edges, mst, treeLength}
 use Rattle.tree.specs.Held.{held}
 use Rattle.tree.specs.Keys.{weight, tab, treeKeys}
-use Rattle.tree.specs.Build.{BuildRequires, lengthWith}
+use Rattle.tree.specs.Build.{lengthWith}
 use Rattle.arrays.specs.Paste.{Pasted}
 use Rattle.tree.proofs.Tab.{tab-length}
 use Rattle.tree.proofs.Lengths.{rising-total}
@@ -29,7 +29,8 @@ unfolding tab put treeLength mst edges pairs union kruskal total
 length-alone xs ys n x y e = rw e refl
 
 -- A row of values at the front of an array, with one value more.
-pub row-more : (f : ℕ → ℕ) (old new : List ℕ) (i v : ℕ) → i < length old → new ≡ tab f i ++ drop i old → v ≡ f i → set new i v ≡ tab f (i + 1) ++ drop (i + 1) old
+pub row-more : (f : ℕ → ℕ) (old new : List ℕ) (i v : ℕ) → i < length old → new ≡ tab f i ++ drop i old → v ≡ f i
+    → set new i v ≡ tab f (i + 1) ++ drop (i + 1) old
 row-more f old new i v h e ev =
     ap (λ (l : List ℕ). set l i v) (e ∙ ap (λ (l : List ℕ). tab f i ++ l) (drop-cons old i 0 h))
     ∙ set-at (tab f i) (getD old i 0) (drop (suc i) old) v i (tab-length f i)
@@ -43,11 +44,6 @@ row-more f old new i v h e ev =
 
 pub row-none : (f : ℕ → ℕ) (old : List ℕ) → old ≡ tab f 0 ++ drop 0 old
 row-none f old = unfold tab in refl
-
--- What building asks, of points that were checked.
-pub build-given : (xs ys : List ℕ) (room : ℕ) → Points xs ys → length xs + 8 ≤ room → BuildRequires xs ys (length xs) room
-build-given xs ys room p h =
-    record { inXs = omega arith; inYs = omega (arith, p .same); few = omega (arith, p .few); fits = h; rises = p .rises }
 
 -- The number of keys is small.
 pub keys-few : (xs ys before keys : List ℕ) (m : ℕ) → Points xs ys → Pasted (treeKeys (held xs ys) (length xs)) before keys 0 m → m ≤ 127

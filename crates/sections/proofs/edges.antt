@@ -1,0 +1,2 @@
+-- What the proof of the section of edges cites.
+pub mod Bytes

@@ -1,0 +1,2 @@
+-- What the proofs of the lengths share.
+pub mod Rows

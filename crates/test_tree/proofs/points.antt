@@ -1,0 +1,2 @@
+-- What the proofs of the checks of points share.
+pub mod Rising
