@@ -15,13 +15,13 @@ use Rattle.model.proofs.Session.{start-valid, valid-session}
 use Rattle.arrays.proofs.Test.{true-of}
 use Rattle.deck.specs.declared.Outcome.{Outcome}
 use Rattle.calls.specs.declared.Reply.the-variants.{Finished}
-use Rattle.questions.specs.declared.Answer.{Answer}
 use Rattle.deck.specs.Form.{deckOf, sound}
 use Rattle.calls.specs.Changes.{replyOf}
 use Rattle.deck.specs.Calls.{answer, called}
 use Rattle.deck.specs.Questions.{asked}
-use Rattle.questions.specs.Answers.{lengthAnswer, edgeAtAnswer}
-use Rattle.deck.specs.Session.{deckAfter, replies, reckoned, DeckRoundsTo, ended, added, SessionDeck, DeckSessions}
+use Rattle.questions.specs.Answers.{Question, ofLength, ofEdge, answerTo}
+use Rattle.deck.specs.Session.{deckAfter, replies, reckoned, DeckRoundsTo, ended, added}
+use Rattle.deck.specs.SessionDeck.{SessionDeck, DeckSessions}
 use Rattle.deck.proofs.Form.{state-deck, deck-sound, sound-is}
 use Rattle.deck.proofs.Calls.{called-sound}
 use Rattle.deck.proofs.Questions.{asked-sound}
@@ -42,8 +42,8 @@ module _ (s : State) (v : Valid s) where
   unfolding answer
   reply-valid c = ap (λ (o : Outcome). o .reply) (called-valid c)
 
-  pub asked-valid : (f : State → Answer) → asked (deckOf s) f ≡ f s
-  asked-valid f = sym (asked-sound (deckOf s) f valid-passes) ∙ ap f (state-deck s (v .placed))
+  pub asked-valid : (q : Question) → asked (deckOf s) q ≡ answerTo q s
+  asked-valid q = sym (asked-sound (deckOf s) q valid-passes) ∙ ap (answerTo q) (state-deck s (v .placed))
 
 -- A list of calls.
 pub after-deck : (calls : List call.Call) (s : State) → Valid s → deckAfter (deckOf s) calls ≡ deckOf (call.stateAfter s calls)
@@ -91,8 +91,8 @@ valid-deck s v =
       sound = deck-sound s v;
       state = state-deck s (v .placed);
       session = m;
-      lengthIs = asked-valid s v lengthAnswer;
-      edge = λ i. asked-valid s v (edgeAtAnswer i);
+      lengthIs = asked-valid s v ofLength;
+      edge = λ i. asked-valid s v (ofEdge i);
       finish-exact = (λ e. m .finish-exact .0 (finish-deck s v .0 e), λ f. finish-deck s v .1 (m .finish-exact .1 f));
       count = finish s .count;
       counted = reply-valid s v call.runToEnd;

@@ -3,3 +3,4 @@ pub mod Check
 pub mod Form
 pub mod Questions
 pub mod Session
+pub mod SessionDeck

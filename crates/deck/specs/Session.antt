@@ -1,23 +1,15 @@
 -- Sessions on decks: one claim about whole lists of calls, each handed the deck that the one before it left.
 use mathlib.Core.Path.{_≡_}
-use mathlib.Core.Logic.{_↔_}
-use mathlib.Core.List.{List, [], _∷_, List·Memᴰ}
-use Prim.Native.Nat.{ℕ, suc, _≤_}
+use mathlib.Core.List.{List, [], _∷_}
+use Prim.Native.Nat.{ℕ, suc}
 use lib.IntN.{ℤ}
-use Rattle.plane.specs.Point.{Point}
-use Rattle.model.specs.State.{State, points}
-use Rattle.model.specs.Question as question
+use Rattle.model.specs.State.{State}
 use Rattle.model.specs.Call as call
-use Rattle.model.specs.Session as model
 use Rattle.deck.specs.declared.Deck.{Deck}
 use Rattle.calls.specs.declared.Reply.{Reply}
-use Rattle.calls.specs.declared.Reply.the-variants.{Finished, Tap, Rounds}
-use Rattle.questions.specs.declared.Answer.the-variants.{Length}
-use Rattle.deck.specs.Form.{deckOf, stateOf, Sound}
+use Rattle.calls.specs.declared.Reply.the-variants.{Finished, Tap}
 use Rattle.calls.specs.Changes.{replyOf}
 use Rattle.deck.specs.Calls.{called}
-use Rattle.deck.specs.Questions.{asked}
-use Rattle.questions.specs.Answers.{lengthAnswer, edgeAtAnswer}
 
 -- The deck after a list of calls, and their replies. `called` is what each method of the deck answers, for every deck handed in.
 unfoldable pub deckAfter : Deck → List call.Call → Deck
@@ -38,28 +30,3 @@ pub data DeckRoundsTo : Deck → ℕ → Deck → Type 0 where
   ended : {d : Deck} → called d call.oneRound .reply ≡ Finished → DeckRoundsTo d 0 d
   added : {d e : Deck} {k : ℕ} {x y : ℤ} {fall : ℕ} → called d call.oneRound .reply ≡ Tap x y fall
       → DeckRoundsTo (called d call.oneRound .next) k e → DeckRoundsTo d (suc k) e
-
--- What holds of a deck d that a list of calls leads to, s being the points reckoned.
-pub record SessionDeck (d : Deck) (s : State) : Type 0 where
-  -- it is sound, and holds the pins and taps that document 01 reckons
-  pub sound : Sound d
-  pub state : stateOf d ≡ s
-  -- of them: the tree is least among all trees over them (`least`), and the rest of the model's claim
-  pub session : model.SessionState s
-  -- the deck's tree is that tree: its length and its edges, as the questions answer them
-  pub lengthIs : asked d lengthAnswer ≡ Length (question.lengthOfState s)
-  pub edge : (i : ℕ) → asked d (edgeAtAnswer i) ≡ edgeAtAnswer i s
-  -- a round answers finished exactly if no one more point anywhere on the integer plane would shorten the tree
-  pub finish-exact : (called d call.oneRound .reply ≡ Finished) ↔ ((q : Point) → ¬ List·Memᴰ q (points s) → model.NoShorter s q)
-  -- the run to the end hands back the deck that rounds alone lead to, and answers how many added a tap, at most one for each centimetre
-  pub count : ℕ
-  pub counted : called d call.runToEnd .reply ≡ Rounds count
-  pub rounds-end : DeckRoundsTo d count (called d call.runToEnd .next)
-  pub rounds-few : count ≤ question.lengthOfState s
-
--- The claim: after any list of calls, refused ones too, from an empty deck or an accepted file, the deck is as said, and so is
--- every reply.
-abbrev pub DeckSessions : Type 0
-DeckSessions =
-    (s : State) → model.StartState s → (calls : List call.Call)
-    → SessionDeck (deckAfter (deckOf s) calls) (call.stateAfter s calls) × (replies (deckOf s) calls ≡ reckoned s calls)

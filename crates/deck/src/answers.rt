@@ -3,7 +3,7 @@ use super::Deck;
 use super::check::check;
 use questions::Answer;
 ghost use mathlib.Core.Path.{_≡_};
-ghost use Rattle.questions.specs.Answers.{lengthAnswer, countsAnswer, edgeAtAnswer, degreeAnswer};
+ghost use Rattle.questions.specs.Answers.{ofLength, ofCounts, ofEdge, ofDegree};
 ghost use Rattle.deck.specs.Form.{sound};
 ghost use Rattle.deck.specs.Questions.{asked};
 
@@ -18,7 +18,7 @@ impl Deck {
 
     // The length of the deck's tree.
     pub fn length(self) -> Answer
-        ensures { λ r. ⌜ r ≡ asked self lengthAnswer ⌝ }
+        ensures { λ r. ⌜ r ≡ asked self ofLength ⌝ }
     {
         let c = check(self);
         if !c.ok {
@@ -29,7 +29,7 @@ impl Deck {
 
     // The counts of pins, Steiner points and edges.
     pub fn counts(self) -> Answer
-        ensures { λ r. ⌜ r ≡ asked self countsAnswer ⌝ }
+        ensures { λ r. ⌜ r ≡ asked self ofCounts ⌝ }
     {
         let c = check(self);
         if !c.ok {
@@ -40,7 +40,7 @@ impl Deck {
 
     // The edge at a place in the listing order, places from 0.
     pub fn edge_at(self, i: usize) -> Answer
-        ensures { λ r. ⌜ r ≡ asked self (edgeAtAnswer i) ⌝ }
+        ensures { λ r. ⌜ r ≡ asked self (ofEdge i) ⌝ }
     {
         let c = check(self);
         if !c.ok {
@@ -51,7 +51,7 @@ impl Deck {
 
     // The number of edges at a point, 0 where none is held.
     pub fn degree_at(self, x: i32, y: i32) -> Answer
-        ensures { λ r. ⌜ r ≡ asked self (degreeAnswer (record { x = x; y = y })) ⌝ }
+        ensures { λ r. ⌜ r ≡ asked self (ofDegree (record { x = x; y = y })) ⌝ }
     {
         let c = check(self);
         if !c.ok {

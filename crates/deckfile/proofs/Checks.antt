@@ -13,7 +13,7 @@ use Rattle.model.specs.Refusal.{check, firstFailed}
 use Rattle.model.specs.State.{maxPins, placed}
 use Rattle.model.specs.File.{Read, deck, refusal, readBy, readFile, offset, size, headed, laidOut, whole, fileState, holdsDeck}
 use Rattle.sections.specs.Layout.{Sections}
-use Rattle.deckfile.specs.Reading.{lastAnswer}
+use Rattle.deckfile.specs.ReadWorking.{lastAnswer}
 use Rattle.sections.proofs.codes.Placed.{pins-count}
 
 -- What a test answered, by its definition.

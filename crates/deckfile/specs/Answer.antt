@@ -1,10 +1,12 @@
 -- What an entry for other programs answers, and what it leaves in the lent buffer, by the model alone: a deck is read, a list of
 -- calls is made on it, and it is written.
+use mathlib.Core.Path.{_≡_}
 use mathlib.Core.List.{List, _++_}
-use Prim.Native.Nat.{ℕ}
+use Prim.Native.Nat.{ℕ, _≤_, _<_}
 use lib.ListN.{length, drop}
+use Rattle.model.specs.State.{State}
 use Rattle.model.specs.Call.{Call, stateAfter}
-use Rattle.model.specs.File.{Read, deck, refusal}
+use Rattle.model.specs.File.{Read, deck, refusal, fileOf}
 use Rattle.deckfile.specs.declared.Written.{Written}
 use Rattle.deckfile.specs.declared.Written.the-variants.{Refused, Length}
 use Rattle.deckfile.specs.Writing.{stored}
@@ -26,3 +28,16 @@ answerBuffer r calls l = rewritten r calls l (λ _. l) (λ file. file ++ drop (l
 unfoldable pub writtenNumber : Written → ℕ
 writtenNumber (Refused n) = n
 writtenNumber (Length n) = n
+
+-- The claim on an entry, for every start (a file read, or no file), every list of calls and every buffer.
+pub record Entered (r : Read) (calls : List Call) (l : List ℕ) : Type 0 where
+  -- a file turned down: its number, and every byte as it was
+  pub turnedDown : (n : ℕ) → r ≡ refusal n → (answerNumber r calls l ≡ n) × (answerBuffer r calls l ≡ l)
+  -- a file taken, and room for the file after the calls: its length, and exactly its bytes in front
+  pub fits : (s : State) → r ≡ deck s → length (fileOf (stateAfter s calls)) ≤ length l
+      → (answerNumber r calls l ≡ length (fileOf (stateAfter s calls)))
+      × (answerBuffer r calls l ≡ fileOf (stateAfter s calls) ++ drop (length (fileOf (stateAfter s calls))) l)
+  -- no room for it: 12, and every byte as it was
+  pub short : (s : State) → r ≡ deck s → length l < length (fileOf (stateAfter s calls)) → (answerNumber r calls l ≡ 12) × (answerBuffer r calls l ≡ l)
+  -- so a number below 30 is a refusal
+  pub least : (s : State) → r ≡ deck s → 30 ≤ length (fileOf (stateAfter s calls))

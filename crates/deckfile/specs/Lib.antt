@@ -1,4 +1,5 @@
 pub mod Answer
+pub mod ReadWorking
 pub mod Reading
 pub mod RoundTrip
 pub mod Writing

@@ -26,7 +26,8 @@ ghost use mathlib.Core.Path.{_≡_};
 ghost use Rattle.model.specs.State.{Valid};
 ghost use Rattle.model.specs.File.{readFile};
 ghost use Rattle.working.specs.InOrder.{InOrder, stateOf};
-ghost use Rattle.deckfile.specs.Reading.{reading, ReadTo};
+ghost use Rattle.deckfile.specs.Reading.{reading};
+ghost use Rattle.deckfile.specs.ReadWorking.{ReadTo};
 ghost use Rattle.deckfile.specs.Writing.{storedAnswer, storedBuffer, written, bufferAfter};
 
 // What writing answers: a refusal by its number, or the length of the file.

@@ -29,7 +29,7 @@ ghost use Rattle.points.specs.Coded.{maxSteiner};
 ghost use Rattle.working.specs.InOrder.{InOrder, stateOf};
 ghost use Rattle.sections.specs.Layout.{Sections, FewPins};
 ghost use Rattle.sections.specs.Codes.{Decodes};
-ghost use Rattle.deckfile.specs.Reading.{ReadTo, WorkingFor, lastAnswer};
+ghost use Rattle.deckfile.specs.ReadWorking.{ReadTo, WorkingFor, lastAnswer};
 
 // The bytes that the most Steiner points of a deck take.
 const STEINER_ROOM: usize = MAX_STEINER * POINT_SIZE;

@@ -17,7 +17,7 @@ pub record Script : Type 0 where
   pub line : List ℕ
 
 abbrev pub inputRoom : ℕ
-inputRoom = 2001
+inputRoom = 4001
 
 -- The end of a line, and one more byte: a line feed (10) ends a line. Of a line `inputRoom` bytes are kept, which are an error already.
 abbrev pub ended : Script → Script
@@ -28,6 +28,11 @@ more b l = if (ltb (length l) inputRoom) (λ _. l ++ (b ∷ [])) (λ _. l)
 
 unfoldable pub taken : Script → ℕ → Script
 taken s b = if (eqb b 10) (λ _. ended s) (λ _. record { deck = s .deck; line = more b (s .line) })
+
+-- All bytes of a list, one after the other.
+unfoldable pub takenAll : Script → List ℕ → Script
+takenAll s [] = s
+takenAll s (b ∷ bs) = takenAll (taken s b) bs
 
 -- What the program keeps of it.
 abbrev pub scriptOf : Reader → Script
@@ -47,3 +52,30 @@ pub record Ends (r s : Reader) : Type 0 where
 pub record Takes (r : Reader) (b : ℕ) (s : Reader) : Type 0 where
   pub within : Reads s
   pub script : scriptOf s ≡ taken (scriptOf r) b
+
+pub record TakesAll (r : Reader) (bytes : List ℕ) (s : Reader) : Type 0 where
+  pub within : Reads s
+  pub script : scriptOf s ≡ takenAll (scriptOf r) bytes
+
+-- The lines of an input, each ended by a line feed, and what stands behind the last; of each as much as is kept.
+pub record Lines : Type 0 where
+  pub whole : List (List ℕ)
+  pub rest : List ℕ
+
+abbrev pub before : List ℕ → Lines → Lines
+before l ls = record { whole = l ∷ ls .whole; rest = ls .rest }
+
+unfoldable pub linesFrom : List ℕ → List ℕ → Lines
+linesFrom l [] = record { whole = []; rest = l }
+linesFrom l (b ∷ bs) = if (eqb b 10) (λ _. before l (linesFrom [] bs)) (λ _. linesFrom (more b l) bs)
+
+-- The deck after these lines, each played on the deck that the one before it left.
+unfoldable pub playedAll : Deck → List (List ℕ) → Deck
+playedAll d [] = d
+playedAll d (l ∷ ls) = playedAll (played d l .next) ls
+
+-- The claim: taking the bytes of an input plays its lines, and leaves what stands behind the last.
+abbrev pub LinesPlayed : Type 0
+LinesPlayed =
+    (d : Deck) (input : List ℕ) → let ls = linesFrom [] input in
+    takenAll (record { deck = d; line = [] }) input ≡ record { deck = playedAll d (ls .whole); line = ls .rest }

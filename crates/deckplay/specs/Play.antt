@@ -17,7 +17,7 @@ use Rattle.questions.specs.declared.Answer.the-variants as answer
 use Rattle.deck.specs.Form.{stateOf, sound}
 use Rattle.deck.specs.Calls.{called}
 use Rattle.deck.specs.Questions.{asked}
-use Rattle.questions.specs.Answers.{lengthAnswer, countsAnswer, edgeAtAnswer, degreeAnswer}
+use Rattle.questions.specs.Answers.{ofLength, ofCounts, ofEdge, ofDegree}
 use Rattle.deckfile.specs.Reading.{reading}
 use Rattle.script.specs.declared.Command.{Command}
 use Rattle.script.specs.declared.Command.the-variants as command
@@ -64,10 +64,10 @@ lineOf d b (command.Add x y) = changes (called d (call.add (record { x = x; y = 
 lineOf d b (command.Withdraw x y) = changes (called d (call.withdraw (record { x = x; y = y })))
 lineOf d b command.Round = changes (called d call.oneRound)
 lineOf d b command.Finish = changes (called d call.runToEnd)
-lineOf d b command.Length = stays d (answerText (asked d lengthAnswer))
-lineOf d b command.Counts = stays d (answerText (asked d countsAnswer))
-lineOf d b (command.Run i) = stays d (answerText (asked d (edgeAtAnswer i)))
-lineOf d b (command.Degree x y) = stays d (answerText (asked d (degreeAnswer (record { x = x; y = y }))))
+lineOf d b command.Length = stays d (answerText (asked d ofLength))
+lineOf d b command.Counts = stays d (answerText (asked d ofCounts))
+lineOf d b (command.Run i) = stays d (answerText (asked d (ofEdge i)))
+lineOf d b (command.Degree x y) = stays d (answerText (asked d (ofDegree (record { x = x; y = y }))))
 lineOf d b (command.Octant x y) = stays d (octantText x y)
 lineOf d b command.List = stays d (joinedLines (deckText d))
 

@@ -3,8 +3,6 @@ use super::answer::ANSWER_ROOM;
 use super::answer::play;
 use deck::Deck;
 use script::LINE_LIMIT;
-ghost use mathlib.Core.Path.{_≡_};
-ghost use Prim.Native.Nat.{_≤_};
 ghost use Rattle.deckplay.specs.Lines.{Reads, Fresh, Ends, Takes};
 
 // Of a line this many bytes are kept at most, which is one too many.

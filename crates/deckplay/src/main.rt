@@ -6,7 +6,7 @@ use lines::Reader;
 use lines::end;
 use lines::start;
 use lines::take;
-ghost use Rattle.deckplay.specs.Lines.{Reads};
+ghost use Rattle.deckplay.specs.Lines.{Reads, TakesAll};
 
 // How many bytes are read at a time.
 const CHUNK: usize = 4096;
@@ -14,7 +14,7 @@ const CHUNK: usize = 4096;
 // Takes the bytes that were read.
 fn take_all(r: Reader, bytes: &[u8]) -> Reader
     requires { ⌜ Reads r ⌝ }
-    ensures { λ s. ⌜ Reads s ⌝ }
+    ensures { λ s. ⌜ TakesAll r (now (bytes .entry)) s ⌝ }
 {
     let mut s = r;
     let mut i = 0;

@@ -1,47 +1,50 @@
 -- The three demands, proved from the definitions that the contracts name.
 use mathlib.Core.Path.{_≡_, refl, sym, ap, _∙_}
 use mathlib.Core.Logic.{inl, inr}
-use mathlib.Core.Bool.{true, false}
+use mathlib.Core.Bool.{false}
 use mathlib.Core.Option.{Option, none, some}
-use mathlib.Core.List.{List}
+use mathlib.Core.List.{List, []}
 use Prim.Native.Nat.{ℕ}
 use native.Mathlib.Omega.{arith}
-use lib.ListN.{length}
-use Rattle.arrays.proofs.Test.{false-of, true-of}
+use Rattle.arrays.proofs.Test.{false-of}
 use Rattle.model.specs.State.{State}
 use Rattle.model.specs.Round.{RoundAnswer, finished, tap, round}
 use Rattle.model.specs.Call as call
 use Rattle.model.specs.Session as model
-use Rattle.model.specs.File.{Read, deck, refusal as refusing-file, readFile, fileOf}
-use Rattle.model.proofs.Step.{step-valid}
+use Rattle.model.specs.File.{Read, deck, refusal as refusing-file, readFile}
 use Rattle.model.proofs.FileAnswer.{Possible, taken, refused, read-possible}
 use Rattle.deck.specs.declared.Deck.{Deck}
-use Rattle.deck.specs.declared.Outcome.{Outcome}
 use Rattle.calls.specs.declared.Reply.the-variants as reply
 use Rattle.deck.specs.Form.{deckOf, stateOf, Sound, sound}
 use Rattle.calls.specs.Changes.{replyOf}
 use Rattle.deck.specs.Calls.{answer, called}
-use Rattle.deck.proofs.Form.{deck-sound, sound-is}
-use Rattle.deck.proofs.Calls.{called-unsound, called-sound}
-use Rattle.deck.proofs.Questions.{asked-unsound, asked-sound}
+use Rattle.deck.proofs.Form.{sound-is}
+use Rattle.deck.proofs.Calls.{called-unsound}
+use Rattle.deck.proofs.Questions.{asked-unsound}
+use Rattle.questions.specs.Answers.{ofCounts, ofEdge, ofDegree}
+use Rattle.questions.proofs.Answers.{counts-are, beyond-last, none-held}
 use Rattle.deck.proofs.Session.{deck-sessions}
 use Rattle.deckfile.specs.Reading.{readOutcome, reading}
 use Rattle.deckfile.proofs.Stored.{write-unsound, write-short, write-fits}
 use Rattle.deckfile.proofs.RoundTrip.{written-then-read, full-back, plain-full}
-use Rattle.deckfile.proofs.answer.Entry.{answer-taken, answer-kept}
+use Rattle.deckfile.proofs.answer.Entry.{entered}
 use Rattle.planner.specs.Entry.{toEnd}
 use Rattle.replay.proofs.Claim.{replayed}
+use Rattle.deck.specs.Session.{deckAfter, replies, reckoned}
+use Rattle.deck.specs.SessionDeck.{SessionDeck}
+use mathlib.Core.Bool.{Bool}
+use borrow.Author.Tests.{le-leb}
+use lib.ListN.{length}
+use Rattle.arrays.specs.Test.{if}
+use Rattle.model.specs.Listing.{listingOfFile}
+use Rattle.listing.specs.Whole.{listingRoom}
+use Rattle.listing.proofs.Text.{text-refused, text-deck}
+use Rattle.demands.proofs.Sessions.{after-calls, bounds}
+use Rattle.demands.proofs.Method.{passes, calls-model, next-is, reply-is, next-sound, answered, runs-are-tree, round-of, sweeps-of, end-of}
 use Rattle.demands.specs.Demands.{InCase, FileAnswer, Demand1, Demand2, StartDeck, fresh, file, Demand3}
 
-module _ (d : Deck) where
-  unsound : ¬ Sound d → sound d ≡ false
-  unsound n = false-of (sound d) (λ t. n (sound-is d .0 t))
-
-  passes : Sound d → sound d ≡ true
-  passes s = true-of (sound d) (sound-is d .1 s)
-
-  pub calls-model : Sound d → (c : call.Call) → called d c ≡ answer (call.step (stateOf d) c)
-  calls-model s c = sym (called-sound d c (passes s))
+unsound : (d : Deck) → ¬ Sound d → sound d ≡ false
+unsound d n = false-of (sound d) (λ t. n (sound-is d .0 t))
 
 -- A call that is refused, in its case.
 refused-unless : (o : Option ℕ) (s : State) (f : Unit {0} → State) (n : ℕ) → replyOf (call.unless o s f .reply) ≡ reply.Refused n
@@ -62,22 +65,10 @@ refused-case s (call.withdraw p) n e = refused-unless (call.removeRefusal p s) s
 refused-case s call.oneRound n e = absurd (never-refused (round s .answer) n e)
 refused-case s call.runToEnd n e = let z : _≡_ {A = ℕ} 0 1 = cc in absurd (omega arith)
 
-module _ (d : Deck) (s : Sound d) where
-  next-is : (c : call.Call) → called d c .next ≡ deckOf (call.step (stateOf d) c .next)
-  unfolding answer
-  next-is c = ap (λ (o : Outcome). o .next) (calls-model d s c)
-
-  reply-is : (c : call.Call) → called d c .reply ≡ replyOf (call.step (stateOf d) c .reply)
-  unfolding answer
-  reply-is c = ap (λ (o : Outcome). o .reply) (calls-model d s c)
-
-  next-sound : (c : call.Call) → Sound (called d c .next)
-  next-sound c = rw (next-is c) (deck-sound (call.step (stateOf d) c .next) (step-valid (stateOf d) c (s .valid)))
-
-  refused-call : (c : call.Call) (n : ℕ) → called d c .reply ≡ reply.Refused n → (called d c .next ≡ d) × InCase (stateOf d) c n
-  refused-call c n e =
-      let r = refused-case (stateOf d) c n (sym (reply-is c) ∙ e) in
-      (next-is c ∙ ap deckOf (r .0) ∙ sym (s .same), r .1)
+refused-call : (d : Deck) (s : Sound d) (c : call.Call) (n : ℕ) → called d c .reply ≡ reply.Refused n → (called d c .next ≡ d) × InCase (stateOf d) c n
+refused-call d s c n e =
+    let r = refused-case (stateOf d) c n (sym (reply-is d s c) ∙ e) in
+    (next-is d s c ∙ ap deckOf (r .0) ∙ sym (s .same), r .1)
 
 file-answer : (b : List ℕ) → FileAnswer (reading b)
 unfolding readOutcome
@@ -92,7 +83,7 @@ demand1 =
     record {
       file = file-answer;
       unsoundCall = λ d c n. sym (called-unsound d c (unsound d n));
-      unsoundQuestion = λ d f n. sym (asked-unsound d f (unsound d n));
+      unsoundQuestion = λ d q n. sym (asked-unsound d q (unsound d n));
       unsoundWriting = λ d l n. let w = write-unsound d l (unsound d n) in (sym (w .0), sym (w .1));
       nextSound = next-sound;
       refusedCall = refused-call;
@@ -101,16 +92,27 @@ demand1 =
     }
 
 pub demand2 : Demand2
-unfolding call.step call.stateAfter
 demand2 =
     record {
       calls = calls-model;
-      questions = λ d s f. sym (asked-sound d f (passes d s));
+      tree = runs-are-tree;
+      round = round-of;
+      sweeps = sweeps-of;
+      end = end-of;
+      questions = answered;
+      counts = λ d s. answered d s ofCounts ∙ counts-are (stateOf d) (s .valid .placed);
+      noEdge = λ d s i. let b = beyond-last (stateOf d) (s .valid .placed) i in
+          (λ e. b .0 (sym (answered d s (ofEdge i)) ∙ e), λ h. answered d s (ofEdge i) ∙ b .1 h);
+      noPoint = λ d s p n. answered d s (ofDegree p) ∙ none-held (stateOf d) (s .valid .placed) p n;
       writtenRead = written-then-read;
       fullWrittenBack = full-back;
       plainWrittenFull = plain-full;
-      planned = λ b l s e h. let a = answer-taken (readFile b) (read-possible b) toEnd l s e h in (a .long, a .front);
-      turnedDown = λ b l h. answer-kept (readFile b) (read-possible b) toEnd l h;
+      planned = λ b l. entered (readFile b) (read-possible b) toEnd l;
+      listed = λ b. record {
+        turnedDown = λ n e. sym (text-refused b n e);
+        taken = λ s e. sym (text-deck b s e);
+        whole = λ out h. ap (λ (t : Bool). if t (λ _. listingOfFile b) (λ _. [])) (le-leb listingRoom (length out) h);
+      };
     }
 
 -- Every start is one of the claim on decks.
@@ -119,12 +121,18 @@ unfolding readOutcome
 start-deck fresh = (model.fresh, refl)
 start-deck (file b e) = (model.file b e, ap (λ (r : Read). readOutcome r .next) e)
 
+session : {d : Deck} {s : State} → StartDeck d s → (calls : List call.Call)
+    → SessionDeck (deckAfter d calls) (call.stateAfter s calls) × (replies d calls ≡ reckoned s calls)
+session {d} {s} start calls =
+    let p = start-deck start in
+    let q : d ≡ deckOf s = p .1 in
+    rw q (deck-sessions s (p .0) calls)
+
 pub demand3 : Demand3
 demand3 =
     record {
-      lists = λ {d} {s} start calls.
-          let p = start-deck start in
-          let q : d ≡ deckOf s = p .1 in
-          rw q (deck-sessions s (p .0) calls);
+      lists = λ start calls. after-calls _ _ (session start calls .0);
+      replied = λ start calls. session start calls .1;
+      bounded = λ start calls. bounds _ _ (session start calls .0);
       replayed = replayed;
     }

@@ -2,29 +2,36 @@
 -- `written` and `bufferAfter` (deckfile::write), `called` (each call on a deck), `asked` (each question), `answerNumber` and `answerBuffer`
 -- (planner_plan and replay_calls). That every function ends, and touches nothing else, is part of what is proved of each.
 use mathlib.Core.Path.{_≡_}
-use mathlib.Core.Logic.{_⊎_}
+use mathlib.Core.Logic.{_⊎_, _↔_}
 use mathlib.Core.Option.{some}
-use mathlib.Core.List.{List, _++_}
-use Prim.Native.Nat.{ℕ, _≤_, _<_}
+use mathlib.Core.List.{List, _++_, List·Memᴰ}
+use Prim.Native.Nat.{ℕ, _-_, _≤_, _<_}
 use lib.ListN.{length, drop}
-use Rattle.model.specs.State.{State, empty, Valid}
+use Rattle.plane.specs.Point.{Point}
+use Rattle.plane.specs.Edge.{Edge}
+use Rattle.model.specs.State.{State, empty, points, Valid}
 use Rattle.model.specs.Round.{finish}
 use Rattle.model.specs.Call as call
-use Rattle.model.specs.File.{deck, readFile, fileOf, longest}
+use Rattle.model.specs.Listing.{listing, refusedLine, listingOfFile}
+use Rattle.model.specs.File.{deck, refusal, readFile, fileOf}
 use Rattle.deck.specs.declared.Deck.{Deck}
 use Rattle.deck.specs.declared.Outcome.{Outcome}
 use Rattle.calls.specs.declared.Reply.the-variants as reply
-use Rattle.questions.specs.declared.Answer.{Answer}
 use Rattle.questions.specs.declared.Answer.the-variants as question
 use Rattle.deck.specs.Form.{deckOf, stateOf, Sound}
 use Rattle.deck.specs.Calls.{answer, refusedOutcome, called}
+use Rattle.questions.specs.Answers.{Question, ofCounts, ofEdge, ofDegree, answerTo}
 use Rattle.deck.specs.Questions.{asked}
-use Rattle.deck.specs.Session.{deckAfter, replies, reckoned, SessionDeck}
+use Rattle.deck.specs.Session.{deckAfter, replies, reckoned}
 use Rattle.deckfile.specs.declared.Written.the-variants as writing
 use Rattle.deckfile.specs.Reading.{reading, acceptedDeck, refusedFile}
 use Rattle.deckfile.specs.Writing.{written, bufferAfter}
 use Rattle.deckfile.specs.RoundTrip.{WrittenRead, FullWrittenBack, PlainWrittenFull}
-use Rattle.deckfile.specs.Answer.{answerNumber, answerBuffer}
+use Rattle.deckfile.specs.Answer.{Entered}
+use Rattle.demands.specs.Sessions.{AfterCalls, Bounds}
+use Rattle.demands.specs.Method.{RunsAreTree, RoundOf, SweepsOf, EndOf}
+use Rattle.ascii.specs.Text.{fitting}
+use Rattle.listing.specs.Whole.{listingRoom}
 use Rattle.planner.specs.Entry.{toEnd}
 use Rattle.replay.specs.Claim.{Replayed}
 
@@ -46,7 +53,7 @@ pub record Demand1 : Type 0 where
   pub file : (b : List ℕ) → FileAnswer (reading b)
   -- any deck that is not sound: 11 before all else, and the deck or the buffer as it was
   pub unsoundCall : (d : Deck) (c : call.Call) → ¬ Sound d → called d c ≡ refusedOutcome d 11
-  pub unsoundQuestion : (d : Deck) (f : State → Answer) → ¬ Sound d → asked d f ≡ question.Refused 11
+  pub unsoundQuestion : (d : Deck) (q : Question) → ¬ Sound d → asked d q ≡ question.Refused 11
   pub unsoundWriting : (d : Deck) (l : List ℕ) → ¬ Sound d → (written d l ≡ writing.Refused 11) × (bufferAfter d l ≡ l)
   -- any other: the next deck is sound, and a refused call hands back the deck unchanged
   pub nextSound : (d : Deck) → Sound d → (c : call.Call) → Sound (called d c .next)
@@ -57,28 +64,45 @@ pub record Demand1 : Type 0 where
   pub longBuffer : (d : Deck) (l : List ℕ) → Sound d → length (fileOf (stateOf d)) ≤ length l
       → (written d l ≡ writing.Length (length (fileOf (stateOf d)))) × (bufferAfter d l ≡ fileOf (stateOf d) ++ drop (length (fileOf (stateOf d))) l)
 
+-- What the listing program writes for a list of bytes (`listingOfFile`, by the contract of decklist's `list_file`).
+pub record ListingOf (b : List ℕ) : Type 0 where
+  pub turnedDown : (n : ℕ) → readFile b ≡ refusal n → listingOfFile b ≡ refusedLine n
+  pub taken : (s : State) → readFile b ≡ deck s → listingOfFile b ≡ listing (finish s .final)
+  -- its buffer has room for it, so that nothing is cut
+  pub whole : (out : List ℕ) → listingRoom ≤ length out → fitting listingRoom out (listingOfFile b) ≡ listingOfFile b
+
 -- Demand 2: every answer is the one that the published method gives, as document 01 reads it.
 pub record Demand2 : Type 0 where
   pub calls : (d : Deck) → Sound d → (c : call.Call) → called d c ≡ answer (call.step (stateOf d) c)
-  pub questions : (d : Deck) → Sound d → (f : State → Answer) → asked d f ≡ f (stateOf d)
+  -- the published method, as document 01 reads it, by relations (Method.antt): THE tree, the choice of a round, the sweeps, the end
+  pub tree : (d : Deck) → Sound d → (t : List Edge) × RunsAreTree d t
+  pub round : (d : Deck) → Sound d → RoundOf d
+  pub sweeps : (d : Deck) → Sound d → SweepsOf d
+  pub end : (d : Deck) → Sound d → EndOf d
+  pub questions : (d : Deck) → Sound d → (q : Question) → asked d q ≡ answerTo q (stateOf d)
+  -- what the answers are of: the counts, the edges there are, and a point that is not held
+  pub counts : (d : Deck) → Sound d
+      → asked d ofCounts ≡ question.Counts (length (stateOf d .pins)) (length (stateOf d .steiner)) (length (points (stateOf d)) - 1)
+  pub noEdge : (d : Deck) → Sound d → (i : ℕ) → (asked d (ofEdge i) ≡ question.NoEdge) ↔ (length (points (stateOf d)) - 1 ≤ i)
+  pub noPoint : (d : Deck) → Sound d → (p : Point) → ¬ List·Memᴰ p (points (stateOf d)) → asked d (ofDegree p) ≡ question.Degree 0
   -- "Written out and read in is the same deck; a full file read in and written out is the same file."
   pub writtenRead : WrittenRead
   pub fullWrittenBack : FullWrittenBack
   pub plainWrittenFull : PlainWrittenFull
-  -- the C entry: "the length written, always 30 or more, or the refusal's number", which is less
-  pub planned : (b l : List ℕ) (s : State) → readFile b ≡ deck s → longest ≤ length l
-      → (30 ≤ answerNumber (readFile b) toEnd l)
-      × (answerBuffer (readFile b) toEnd l ≡ fileOf (finish s .final) ++ drop (answerNumber (readFile b) toEnd l) l)
-  pub turnedDown : (b l : List ℕ) → answerNumber (readFile b) toEnd l < 30 → answerBuffer (readFile b) toEnd l ≡ l
+  -- the C entry (read, run to the end, write), for every file and every buffer of any size
+  pub planned : (b l : List ℕ) → Entered (readFile b) toEnd l
+  -- the listing program, for every list of bytes
+  pub listed : (b : List ℕ) → ListingOf b
 
 -- "from an empty deck or an accepted file", with the points that document 01 reckons from.
 pub data StartDeck : Deck → State → Type 0 where
   fresh : StartDeck (deckOf empty) empty
   file : (b : List ℕ) {s : State} → readFile b ≡ deck s → StartDeck (reading b .next) s
 
--- Demand 3: one claim about whole lists of calls (`SessionDeck` says what holds of the deck after the list), on the methods and on
--- the bytes that replay_calls writes.
+-- Demand 3: one claim about whole lists of calls that change a deck, refused ones too (`AfterCalls` says what holds of the deck after the
+-- list, `Bounds` what the program needs besides), and of replay_calls, for every file, every list of calls in bytes and every buffer.
 pub record Demand3 : Type 0 where
-  pub lists : {d : Deck} {s : State} → StartDeck d s → (calls : List call.Call)
-      → SessionDeck (deckAfter d calls) (call.stateAfter s calls) × (replies d calls ≡ reckoned s calls)
-  pub replayed : Replayed
+  pub lists : {d : Deck} {s : State} → StartDeck d s → (calls : List call.Call) → AfterCalls (deckAfter d calls) (call.stateAfter s calls)
+  pub replied : {d : Deck} {s : State} → StartDeck d s → (calls : List call.Call) → replies d calls ≡ reckoned s calls
+  pub bounded : {d : Deck} {s : State} → StartDeck d s → (calls : List call.Call) → Bounds (call.stateAfter s calls)
+  pub replayed : (b calls l : List ℕ) → Replayed b calls l

@@ -1,5 +1,5 @@
 -- The text of a deck by whether it is sound, and the listing of a working form from its three parts.
-use mathlib.Core.Path.{_≡_, sym, ap}
+use mathlib.Core.Path.{_≡_, refl, sym, ap}
 use mathlib.Core.Bool.{Bool, true, false}
 use mathlib.Core.List.{List, _++_}
 use Prim.Native.Nat.{ℕ}
@@ -7,7 +7,10 @@ use Rattle.arrays.specs.Test.{if}
 use Rattle.arrays.specs.Paste.{Pasted}
 use Rattle.arrays.proofs.paste.Parts.{pasted-same}
 use Rattle.model.specs.Question as question
-use Rattle.model.specs.Listing.{listing, tapLines, runLines, refusedLine}
+use Rattle.model.specs.State.{State}
+use Rattle.model.specs.Round.{finish}
+use Rattle.model.specs.File.{deck, refusal, readFile}
+use Rattle.model.specs.Listing.{listing, tapLines, runLines, refusedLine, listingOfFile}
 use Rattle.points.proofs.Coded.{pins-count, steiner-count}
 use Rattle.working.specs.declared.Working.{Working}
 use Rattle.working.specs.InOrder as work
@@ -32,3 +35,12 @@ listing-put w p n e =
     pasted-same
     (λ i. headText (sym (pins-count (w .points) (p .arranged)) i) (sym (steiner-count (w .points) (p .arranged)) i) (e i)
     ++ (tapLines (work.stateOf w .steiner) ++ runLines (question.listed (work.stateOf w))))
+
+-- The text of a file, by what reading it gives.
+pub text-refused : (b : List ℕ) (n : ℕ) → readFile b ≡ refusal n → refusedLine n ≡ listingOfFile b
+unfolding listingOfFile
+text-refused b n e = rw e refl
+
+pub text-deck : (b : List ℕ) (s : State) → readFile b ≡ deck s → listing (finish s .final) ≡ listingOfFile b
+unfolding listingOfFile
+text-deck b s e = rw e refl

@@ -68,10 +68,6 @@ written-read s v =
           v .few,
         )
 
--- A plain file is written out as the full file of the same deck.
-pub plain-written-full : (b : List ℕ) (s : State) → readFile b ≡ deck s → readFile (fileOf s) ≡ deck s
-plain-written-full b s e = written-read s (file-valid b s e)
-
 no-byte : (l : List ℕ) → length l ≡ 0 → l ≡ []
 no-byte [] e = refl
 no-byte (a ∷ l) e = absurd (omega arith)

@@ -1,10 +1,11 @@
 -- What each question answers: the working form and its edges in the listing order give what the model's questions give.
 use mathlib.Core.Path.{_≡_, refl, sym, ap, _∙_, subst, subst⁻¹}
-use mathlib.Core.Logic.{⊎-elim}
+use mathlib.Core.Logic.{⊎-elim, _↔_}
 use mathlib.Core.Bool.{false}
-use mathlib.Core.Option.{none}
+use mathlib.Core.Option.{none, some}
 use mathlib.Core.List.{List, [], _∷_, List·Memᴰ}
-use Prim.Native.Nat.{ℕ, zero, suc, _-_, _≤_}
+use Prim.Native.Nat.{ℕ, zero, suc, _-_, _≤_, _<_}
+use native.Mathlib.Decide.{decLe}
 use native.Mathlib.Omega.{arith}
 use lib.Dec.{T, ltb}
 use lib.ListN.{length, take, getElem?}
@@ -16,10 +17,11 @@ use Rattle.plane.specs.Edge.{Edge as PlaneEdge, planar}
 use Rattle.plane.proofs.Order.{lower-order}
 use Rattle.arrays.specs.Set.{has}
 use Rattle.model.specs.Tree.{mst, edgesAt}
-use Rattle.model.specs.State.{State, points, Valid}
+use Rattle.model.specs.State.{State, points, Placed, Valid}
 use Rattle.model.specs.Question as question
 use Rattle.arrays.proofs.Set.{has-in}
-use Rattle.model.proofs.Tree.{mst-run-tree}
+use Rattle.model.proofs.Tree.{mst-run-tree, tree-edges}
+use Rattle.model.proofs.FileSize.{listed-count}
 use Rattle.model.proofs.Prune.{points-in, points-rise}
 use Rattle.tree.specs.Keys.{keyGraph}
 use Rattle.arrays.specs.Array.{indexOf}
@@ -33,8 +35,8 @@ use Rattle.working.proofs.prune.Sweep.{held-degree}
 use Rattle.working.proofs.edges.Numbers.{edge-count, listed-length}
 use Rattle.working.specs.declared.edges.CodedEdge.{CodedEdge}
 use Rattle.working.specs.Edges.{edgeOf, EdgeAt}
-use Rattle.questions.specs.declared.Answer.the-variants.{Counts, Edge, NoEdge}
-use Rattle.questions.specs.Answers.{countsAnswer, codedAnswer, edgeOrNone}
+use Rattle.questions.specs.declared.Answer.the-variants.{Counts, Edge, NoEdge, Degree}
+use Rattle.questions.specs.Answers.{countsAnswer, codedAnswer, edgeAnswer, edgeOrNone, edgeAtAnswer, degreeAnswer}
 
 -- No edge is at a point that is not held.
 pub none-at : (s : State) → Sorted Lower (s .steiner) → (p : Point) → ¬ List·Memᴰ p (points s) → edgesAt p (mst (points s)) ≡ 0
@@ -87,3 +89,33 @@ unfolding edgeOrNone
 edge-there s i e f =
     let p = edgeOf e in
     ap (Edge (p .lo .x) (p .lo .y) (p .hi .x) (p .hi .y)) (f .measured) ∙ ap edgeOrNone (sym (f .there))
+
+-- The counts, the places that have an edge, and a point that is not held, by the points alone: a tree has one edge less than points.
+module _ (s : State) (p : Placed s) where
+  edge-number : question.edgeCount s ≡ length (points s) - 1
+  edge-number = tree-edges (points s) (points-rise s (p .steinerRise))
+
+  pub counts-are : countsAnswer s ≡ Counts (length (s .pins)) (length (s .steiner)) (length (points s) - 1)
+  counts-are = ap (Counts (length (s .pins)) (length (s .steiner))) edge-number
+
+  pub beyond-last : (i : ℕ) → (edgeAtAnswer i s ≡ NoEdge) ↔ (length (points s) - 1 ≤ i)
+  unfolding edgeOrNone
+  beyond-last i = (
+    λ e. go (decLe (length (question.listed s)) i) e,
+    λ h. ap edgeOrNone (beyond (question.listed s) i (omega (arith, listed-count s p, edge-number, h))),
+  )
+    where
+      within : {A : Type 0} (l : List A) (i : ℕ) → i < length l → (a : A) × (getElem? l i ≡ some a)
+      within [] i h = absurd (omega arith)
+      within (a ∷ l) zero h = (a, refl)
+      within (a ∷ l) (suc i) h = within l i (omega arith)
+
+      go : Dec (length (question.listed s) ≤ i) → edgeAtAnswer i s ≡ NoEdge → length (points s) - 1 ≤ i
+      go (yes h) e = omega (arith, listed-count s p, edge-number, h)
+      go (no n) e =
+          let m = within (question.listed s) i (omega arith) in
+          let q : edgeAnswer (m .0) ≡ NoEdge = sym (ap edgeOrNone (m .1)) ∙ e in
+          absurd (let z : _≡_ {A = ℕ} 0 1 = cc in omega arith)
+
+  pub none-held : (q : Point) → ¬ List·Memᴰ q (points s) → degreeAnswer q s ≡ Degree 0
+  none-held q n = ap Degree (none-at s (p .steinerRise) q n)

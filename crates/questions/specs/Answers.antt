@@ -37,3 +37,17 @@ edgeAtAnswer i s = edgeOrNone (question.edgeAtPlace i s)
 -- "the number of runs at a point (0 where none is held)"
 abbrev pub degreeAnswer : Point → State → Answer
 degreeAnswer p s = Degree (question.edgeCountAt p s)
+
+-- A question as data: the length, the counts, the edge at a place, the number of edges at a point.
+pub data Question : Type 0 where
+  ofLength : Question
+  ofCounts : Question
+  ofEdge : ℕ → Question
+  ofDegree : Point → Question
+
+-- Its answer for a state.
+abbrev pub answerTo : Question → State → Answer
+answerTo ofLength s = lengthAnswer s
+answerTo ofCounts s = countsAnswer s
+answerTo (ofEdge i) s = edgeAtAnswer i s
+answerTo (ofDegree p) s = degreeAnswer p s

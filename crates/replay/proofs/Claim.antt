@@ -1,8 +1,15 @@
 -- The claim on lists of calls in bytes: that of every entry, at the calls that the bytes say.
-use Rattle.deckfile.proofs.answer.Entry.{answer-taken}
+use mathlib.Core.List.{List}
+use Prim.Native.Nat.{ℕ}
+use Rattle.model.proofs.FileAnswer.{possible-valid}
+use Rattle.deckfile.proofs.answer.Entry.{entered, answer-read}
 use Rattle.replay.specs.Calls.{callsOf, startOf}
 use Rattle.replay.specs.Claim.{Replayed}
 use Rattle.replay.proofs.FirstDeck.{start-possible}
 
-pub replayed : Replayed
-replayed b calls l s e h = let a = answer-taken (startOf b) (start-possible b) (callsOf calls) l s e h in (a .back, a .front)
+pub replayed : (b calls l : List ℕ) → Replayed b calls l
+replayed b calls l =
+    record {
+      entered = entered (startOf b) (start-possible b) (callsOf calls) l;
+      back = λ s e. answer-read s (possible-valid (startOf b) (start-possible b) s e) (callsOf calls);
+    }

@@ -1,21 +1,18 @@
 -- The claim on lists of calls in bytes, on what `replay_calls` answers and leaves by its contract.
 use mathlib.Core.Path.{_≡_}
-use mathlib.Core.List.{List, _++_}
-use Prim.Native.Nat.{ℕ, _≤_}
-use lib.ListN.{length, drop}
+use mathlib.Core.List.{List}
+use Prim.Native.Nat.{ℕ}
 use Rattle.model.specs.State.{State}
 use Rattle.model.specs.Call.{stateAfter}
-use Rattle.model.specs.File.{deck, fileOf, longest}
+use Rattle.model.specs.File.{deck, fileOf}
 use Rattle.deck.specs.Form.{deckOf}
 use Rattle.deck.specs.Session.{deckAfter}
 use Rattle.deckfile.specs.Reading.{reading, acceptedDeck}
-use Rattle.deckfile.specs.Answer.{answerNumber, answerBuffer}
+use Rattle.deckfile.specs.Answer.{Entered}
 use Rattle.replay.specs.Calls.{callsOf, startOf}
 
--- From a file that is taken, or no bytes: the file of the points reckoned stands at the front of the buffer, every byte past it is
--- kept, and it is read as the deck after the calls.
-abbrev pub Replayed : Type 0
-Replayed =
-    (b calls l : List ℕ) (s : State) → startOf b ≡ deck s → longest ≤ length l
-    → (reading (fileOf (stateAfter s (callsOf calls))) ≡ acceptedDeck (deckAfter (deckOf s) (callsOf calls)))
-    × (answerBuffer (startOf b) (callsOf calls) l ≡ fileOf (stateAfter s (callsOf calls)) ++ drop (answerNumber (startOf b) (callsOf calls) l) l)
+-- For every file, or no bytes, every list of bytes and every buffer: what every entry does at the calls that the bytes say; and the
+-- file that it writes is read as the deck after the calls.
+pub record Replayed (b calls l : List ℕ) : Type 0 where
+  pub entered : Entered (startOf b) (callsOf calls) l
+  pub back : (s : State) → startOf b ≡ deck s → reading (fileOf (stateAfter s (callsOf calls))) ≡ acceptedDeck (deckAfter (deckOf s) (callsOf calls))

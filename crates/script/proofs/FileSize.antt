@@ -56,14 +56,14 @@ file-short line = go (isHex (second (wordsOf line)))
     go false = omega arith
 
 -- A line that is a command is at most 2,000 bytes long.
-read-long : (line : List ℕ) → commandOf line ≡ Read → length line ≤ 2000
+read-long : (line : List ℕ) → commandOf line ≡ Read → length line ≤ 4000
 unfolding commandOf
-read-long line e = go (ltb 2000 (length line)) (ltb-false 2000 (length line)) e
+read-long line e = go (ltb 4000 (length line)) (ltb-false 4000 (length line)) e
   where
-    go : (t : Bool) → (t ≡ false → length line ≤ 2000)
-        → if t (λ _. Error) (λ _. if (isBlank line) (λ _. Blank) (λ _. ofWords (wordsOf line))) ≡ Read → length line ≤ 2000
+    go : (t : Bool) → (t ≡ false → length line ≤ 4000)
+        → if t (λ _. Error) (λ _. if (isBlank line) (λ _. Blank) (λ _. ofWords (wordsOf line))) ≡ Read → length line ≤ 4000
     go true f g = let z : _≡_ {A = ℕ} 0 1 = cc in absurd (omega arith)
     go false f g = f refl
 
-pub read-fits : (line : List ℕ) → commandOf line ≡ Read → length (fileOf line) ≤ 1000
+pub read-fits : (line : List ℕ) → commandOf line ≡ Read → length (fileOf line) ≤ 2000
 read-fits line e = omega (arith, file-short line, read-long line e)

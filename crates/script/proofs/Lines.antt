@@ -79,22 +79,22 @@ is-blank (b ∷ l) n = refl
 
 -- A line by its length and its first byte.
 module _ (line : List ℕ) where
-  pub too-long : 2000 < length line → Error ≡ commandOf line
+  pub too-long : 4000 < length line → Error ≡ commandOf line
   unfolding commandOf
-  too-long h = rw (lt-ltb 2000 (length line) h) refl
+  too-long h = rw (lt-ltb 4000 (length line) h) refl
 
-  pub blank-empty : length line ≤ 2000 → length line ≡ 0 → Blank ≡ commandOf line
+  pub blank-empty : length line ≤ 4000 → length line ≡ 0 → Blank ≡ commandOf line
   unfolding commandOf
-  blank-empty h e = rw (le-ltb 2000 (length line) h, empty line e) refl
+  blank-empty h e = rw (le-ltb 4000 (length line) h, empty line e) refl
     where
       empty : (l : List ℕ) → length l ≡ 0 → isBlank l ≡ true
       empty [] z = refl
       empty (b ∷ l) z = absurd (omega arith)
 
-  pub blank-comment : length line ≤ 2000 → ¬ (length line ≡ 0) → getD line 0 0 ≡ 35 → Blank ≡ commandOf line
+  pub blank-comment : length line ≤ 4000 → ¬ (length line ≡ 0) → getD line 0 0 ≡ 35 → Blank ≡ commandOf line
   unfolding commandOf
-  blank-comment h n e = rw (le-ltb 2000 (length line) h, is-blank line n, eq-eqb (getD line 0 0) 35 e) refl
+  blank-comment h n e = rw (le-ltb 4000 (length line) h, is-blank line n, eq-eqb (getD line 0 0) 35 e) refl
 
-  pub by-words : length line ≤ 2000 → ¬ (length line ≡ 0) → ¬ (getD line 0 0 ≡ 35) → (r : Command) → r ≡ ofWords (wordsOf line) → r ≡ commandOf line
+  pub by-words : length line ≤ 4000 → ¬ (length line ≡ 0) → ¬ (getD line 0 0 ≡ 35) → (r : Command) → r ≡ ofWords (wordsOf line) → r ≡ commandOf line
   unfolding commandOf
-  by-words h n e r f = rw (le-ltb 2000 (length line) h, is-blank line n, ne-eqb (getD line 0 0) 35 e) f
+  by-words h n e r f = rw (le-ltb 4000 (length line) h, is-blank line n, ne-eqb (getD line 0 0) 35 e) f

@@ -21,7 +21,7 @@ use Rattle.words.specs.Hex.{isHex, pairs}
 
 -- The most bytes of a line, and of a deck file.
 abbrev pub lineLimit : ℕ
-lineLimit = 2000
+lineLimit = 4000
 
 abbrev pub longestFile : ℕ
 longestFile = 784

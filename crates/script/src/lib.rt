@@ -34,7 +34,7 @@ pub enum Command {
 }
 
 // The most bytes of a line; a longer one is an error.
-pub const LINE_LIMIT: usize = 2000;
+pub const LINE_LIMIT: usize = 4000;
 
 // The most bytes of a deck file, the capacity of `write` where none is given.
 pub const LONGEST_FILE: u32 = 784;

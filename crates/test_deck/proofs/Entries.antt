@@ -7,11 +7,11 @@ use mir.Syntax.{w32}
 use mir.Val.{SFits}
 use mir.ValLaws.{toZ-ofZ}
 use Rattle.arrays.proofs.Signed.{read}
-use Rattle.model.specs.State.{State}
 use Rattle.model.specs.Call.{Call}
 use Rattle.deck.specs.declared.Deck.{Deck}
 use Rattle.deck.specs.declared.Outcome.{Outcome}
 use Rattle.questions.specs.declared.Answer.{Answer}
+use Rattle.questions.specs.Answers.{Question}
 use Rattle.deck.specs.Calls.{called}
 use Rattle.deck.specs.Questions.{asked}
 use Rattle.test_deck.specs.declared.parts.Parts.{Parts}
@@ -28,6 +28,6 @@ pub of-call : {d e : Deck} {a b : Call} {o : Outcome} {w : List ℕ} {p : Parts}
 of-call {w = w} {p = p} u v x h = subst (λ (o : Outcome). Holds o w p) (x ∙ (λ i. called (u i) (v i))) h
 
 -- The parts put are those of the answer to the question on that deck.
-pub of-question : {d e : Deck} {f g : State → Answer} {a : Answer} {p q : Parts} → e ≡ d → g ≡ f → a ≡ asked e g → q ≡ partsOfAnswer a → p ≡ q
+pub of-question : {d e : Deck} {f g : Question} {a : Answer} {p q : Parts} → e ≡ d → g ≡ f → a ≡ asked e g → q ≡ partsOfAnswer a → p ≡ q
     → p ≡ partsOfAnswer (asked d f)
 of-question u v x y z = z ∙ y ∙ ap partsOfAnswer (x ∙ (λ i. asked (u i) (v i)))

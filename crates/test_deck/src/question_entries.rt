@@ -6,7 +6,7 @@ use super::words::deck_in;
 ghost use mathlib.Core.Path.{_≡_};
 ghost use Rattle.deck.specs.Form.{sound};
 ghost use Rattle.deck.specs.Questions.{asked};
-ghost use Rattle.questions.specs.Answers.{lengthAnswer, countsAnswer, edgeAtAnswer, degreeAnswer};
+ghost use Rattle.questions.specs.Answers.{ofLength, ofCounts, ofEdge, ofDegree};
 ghost use Rattle.test_deck.specs.Words.{deckIn};
 ghost use Rattle.test_deck.specs.Parts.{partsIn, partsOfAnswer};
 
@@ -27,7 +27,7 @@ pub extern "C" fn entry_length(
     places: &mut [i32; 4],
 ) -> u8
     ensures { λ r. ⌜ partsIn r (now (numbers .exit)) (now (places .exit))
-        ≡ partsOfAnswer (asked (deckIn (now (words .entry))) lengthAnswer) ⌝ }
+        ≡ partsOfAnswer (asked (deckIn (now (words .entry))) ofLength) ⌝ }
 {
     let d = deck_in(*words);
     put_parts(parts_of_answer(d.length()), numbers, places)
@@ -41,7 +41,7 @@ pub extern "C" fn entry_counts(
     places: &mut [i32; 4],
 ) -> u8
     ensures { λ r. ⌜ partsIn r (now (numbers .exit)) (now (places .exit))
-        ≡ partsOfAnswer (asked (deckIn (now (words .entry))) countsAnswer) ⌝ }
+        ≡ partsOfAnswer (asked (deckIn (now (words .entry))) ofCounts) ⌝ }
 {
     let d = deck_in(*words);
     put_parts(parts_of_answer(d.counts()), numbers, places)
@@ -56,7 +56,7 @@ pub extern "C" fn entry_edge_at(
     places: &mut [i32; 4],
 ) -> u8
     ensures { λ r. ⌜ partsIn r (now (numbers .exit)) (now (places .exit))
-        ≡ partsOfAnswer (asked (deckIn (now (words .entry))) (edgeAtAnswer i)) ⌝ }
+        ≡ partsOfAnswer (asked (deckIn (now (words .entry))) (ofEdge i)) ⌝ }
 {
     let d = deck_in(*words);
     put_parts(parts_of_answer(d.edge_at(i)), numbers, places)
@@ -72,7 +72,7 @@ pub extern "C" fn entry_degree_at(
     places: &mut [i32; 4],
 ) -> u8
     ensures { λ r. ⌜ partsIn r (now (numbers .exit)) (now (places .exit))
-        ≡ partsOfAnswer (asked (deckIn (now (words .entry))) (degreeAnswer (record { x = x; y = y }))) ⌝ }
+        ≡ partsOfAnswer (asked (deckIn (now (words .entry))) (ofDegree (record { x = x; y = y }))) ⌝ }
 {
     let d = deck_in(*words);
     put_parts(parts_of_answer(d.degree_at(x, y)), numbers, places)

@@ -8,7 +8,7 @@ use crate::session::{call, counts, degree_at, edge_at, length};
 use crate::session::{Call, Reply, State};
 
 /// The longest line of a script, without its line feed.
-pub const LONGEST_LINE: usize = 2_000;
+pub const LONGEST_LINE: usize = 4_000;
 
 /// The answers to a script, a line feed after each, from the empty deck. The
 /// bytes after the last line feed are a line too, if there are any.

@@ -123,10 +123,15 @@ fn lines() {
     assert_eq!(play(b"counts\r\n  counts  \n"), "counts 0 0 0\n".repeat(2));
     assert_eq!(play(b"\xff\ncounts\n"), "error\ncounts 0 0 0\n");
     let long = |length: usize| format!("add 1 1{}\nlength\n", " ".repeat(length - 7));
-    assert_eq!(play(long(2_000).as_bytes()), "ok\nlength 0\n");
-    assert_eq!(play(long(2_001).as_bytes()), "error\nlength 0\n");
-    let comment = format!("#{}\n", "x".repeat(2_000));
+    assert_eq!(play(long(4_000).as_bytes()), "ok\nlength 0\n");
+    assert_eq!(play(long(4_001).as_bytes()), "error\nlength 0\n");
+    let comment = format!("#{}\n", "x".repeat(4_000));
     assert_eq!(play(comment.as_bytes()), "error\n");
+    // A file of any length that a line can hold is read, and one over the limit refused as a file.
+    for bytes in [785, 1_000, 1_997] {
+        let line = format!("read {}\n", "00".repeat(bytes));
+        assert_eq!(play(line.as_bytes()), "refused 1\n");
+    }
 }
 
 #[test]

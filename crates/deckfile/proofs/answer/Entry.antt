@@ -3,15 +3,15 @@
 use mathlib.Core.Path.{_≡_, refl, sym, ap, _∙_, subst⁻¹}
 use mathlib.Core.Bool.{Bool, true, false}
 use mathlib.Core.List.{List, _++_}
-use Prim.Native.Nat.{ℕ, _≤_, _<_}
+use Prim.Native.Nat.{ℕ}
 use native.Mathlib.Omega.{arith}
 use lib.Dec.{leb}
 use lib.ListN.{length, drop}
-use borrow.Author.Tests.{le-leb}
+use borrow.Author.Tests.{le-leb, lt-leb}
 use Rattle.arrays.specs.Test.{if}
 use Rattle.model.specs.State.{State, Valid}
 use Rattle.model.specs.Call.{Call, stateAfter}
-use Rattle.model.specs.File.{Read, deck, refusal, fileOf, longest}
+use Rattle.model.specs.File.{Read, deck, refusal, fileOf}
 use Rattle.model.proofs.Step.{step-valid, after-valid}
 use Rattle.model.proofs.FileAnswer.{Possible, taken, refused, possible-valid}
 use Rattle.model.proofs.FileSize.{file-size}
@@ -29,10 +29,11 @@ use Rattle.deck.proofs.Form.{state-deck}
 use Rattle.deck.proofs.Session.{valid-passes, after-deck}
 use Rattle.deckfile.specs.declared.Written.the-variants.{Refused, Length}
 use Rattle.deckfile.specs.declared.Written.{Written}
-use Rattle.deckfile.specs.Reading.{readOutcome, reading, acceptedDeck, stateRead, replyRead, ReadTo}
+use Rattle.deckfile.specs.Reading.{readOutcome, reading, acceptedDeck}
+use Rattle.deckfile.specs.ReadWorking.{stateRead, replyRead, ReadTo}
 use Rattle.deckfile.specs.Writing.{stored, storedAnswer, storedBuffer, written, bufferAfter}
 use Rattle.deckfile.proofs.Stored.{write-stored}
-use Rattle.deckfile.specs.Answer.{rewritten, answerNumber, answerBuffer, writtenNumber}
+use Rattle.deckfile.specs.Answer.{rewritten, answerNumber, answerBuffer, writtenNumber, Entered}
 
 -- The answer of storing, as one number.
 pub number-stored : (s : State) (l : List ℕ) → writtenNumber (storedAnswer s l) ≡ stored s l (λ n. n) length
@@ -90,43 +91,29 @@ pub answer-stored : (r : Read) (calls : List Call) (l : List ℕ) {s t : State} 
 unfolding rewritten
 answer-stored r calls l {s} {t} e q em w = rw e rw (sym q) (em ∙ ap writtenNumber (w .0) ∙ number-stored t l, w .1)
 
--- A file that is taken, and a buffer that has room for every file: the file of the state after the calls stands in front, and is
--- read as the deck after the calls.
-pub record Rewritten (r : Read) (calls : List Call) (l : List ℕ) (s : State) : Type 0 where
-  pub long : 30 ≤ answerNumber r calls l
-  pub front : answerBuffer r calls l ≡ fileOf (stateAfter s calls) ++ drop (answerNumber r calls l) l
-  pub back : reading (fileOf (stateAfter s calls)) ≡ acceptedDeck (deckAfter (deckOf s) calls)
+-- The file after the calls, by whether there is room for it.
+module _ (s : State) (calls : List Call) (l : List ℕ) where
+  abbrev file : List ℕ
+  file = fileOf (stateAfter s calls)
 
-pub answer-taken : (r : Read) → Possible r → (calls : List Call) (l : List ℕ) (s : State) → r ≡ deck s → longest ≤ length l
-    → Rewritten r calls l s
-unfolding rewritten readOutcome
-answer-taken r p calls l s e h = rw e (on-state (possible-valid r p s e))
-  where
-    at : State
-    at = stateAfter s calls
+  by-room : {t : Bool} → leb (length file) (length l) ≡ t
+      → (answerNumber (deck s) calls l ≡ if t (λ _. length file) (λ _. 12))
+      × (answerBuffer (deck s) calls l ≡ if t (λ _. file ++ drop (length file) l) (λ _. l))
+  unfolding rewritten
+  by-room e =
+      (ap (λ (t : Bool). if t (λ _. length file) (λ _. 12)) e, ap (λ (t : Bool). if t (λ _. file ++ drop (length file) l) (λ _. l)) e)
 
-    fits : Valid at → {A : Type 0} (refuse : ℕ → A) (done : List ℕ → A) → stored at l refuse done ≡ done (fileOf at)
-    fits v refuse done =
-        ap (λ (t : Bool). if t (λ _. done (fileOf at)) (λ _. refuse 12))
-        (le-leb (length (fileOf at)) (length l) (omega (arith, file-size at v .1, h)))
-
-    on-state : Valid s → Rewritten (deck s) calls l s
-    on-state v =
-        let w = after-valid calls s v in
-        let count = fits w (λ n. n) length in
-        record {
-          long = subst⁻¹ (λ (n : ℕ). 30 ≤ n) count (file-size at w .0);
-          front = fits w (λ _. l) (λ file. file ++ drop (length file) l) ∙ ap (λ (n : ℕ). fileOf at ++ drop n l) (sym count);
-          back = ap readOutcome (written-read at w) ∙ ap acceptedDeck (sym (after-deck calls s v));
-        }
-
--- An answer below 30 is a refusal, and leaves the buffer.
-pub answer-kept : (r : Read) → Possible r → (calls : List Call) (l : List ℕ) → answerNumber r calls l < 30 → answerBuffer r calls l ≡ l
+pub entered : (r : Read) → Possible r → (calls : List Call) (l : List ℕ) → Entered r calls l
 unfolding rewritten
-answer-kept (deck s) (taken v) calls l h = go (leb (length (fileOf (stateAfter s calls))) (length l)) h
-  where
-    go : (t : Bool) → if t (λ _. length (fileOf (stateAfter s calls))) (λ _. 12) < 30
-        → if t (λ _. fileOf (stateAfter s calls) ++ drop (length (fileOf (stateAfter s calls))) l) (λ _. l) ≡ l
-    go true k = absurd (omega (arith, k, file-size (stateAfter s calls) (after-valid calls s v) .0))
-    go false k = refl
-answer-kept (refusal n) p calls l h = refl
+entered r p calls l =
+    record {
+      turnedDown = λ n e. rw e (refl, refl);
+      fits = λ s e h. rw e (by-room s calls l (le-leb (length (file s calls l)) (length l) h));
+      short = λ s e h. rw e (by-room s calls l (lt-leb (length (file s calls l)) (length l) h));
+      least = λ s e. file-size (stateAfter s calls) (after-valid calls s (possible-valid r p s e)) .0;
+    }
+
+-- The file after the calls is read as the deck after the calls.
+pub answer-read : (s : State) → Valid s → (calls : List Call) → reading (fileOf (stateAfter s calls)) ≡ acceptedDeck (deckAfter (deckOf s) calls)
+unfolding readOutcome
+answer-read s v calls = ap readOutcome (written-read (stateAfter s calls) (after-valid calls s v)) ∙ ap acceptedDeck (sym (after-deck calls s v))

@@ -38,7 +38,8 @@ use Rattle.sections.specs.declared.codes.FilePoints.{FilePoints}
 use Rattle.sections.specs.Bytes.{edgeBytes}
 use Rattle.sections.specs.Codes.{filePlaces, Decodes}
 use Rattle.sections.specs.Layout.{Sections, FewPins}
-use Rattle.deckfile.specs.Reading.{readOutcome, stateRead, replyRead, ReadTo, WorkingFor, lastAnswer}
+use Rattle.deckfile.specs.Reading.{readOutcome}
+use Rattle.deckfile.specs.ReadWorking.{stateRead, replyRead, ReadTo, WorkingFor, lastAnswer}
 use Rattle.sections.proofs.codes.Placed.{pins-count, steiner-count}
 use Rattle.deckfile.proofs.Runs.{edges-are, edges-long}
 

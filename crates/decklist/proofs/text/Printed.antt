@@ -10,14 +10,14 @@ use Rattle.io.specs.Counts.{Counts}
 use Rattle.arrays.specs.Test.{if}
 use Rattle.model.specs.State.{State}
 use Rattle.model.specs.Call as call
-use Rattle.model.specs.Round.{finish}
 use Rattle.model.specs.File.{Read, deck, refusal, readFile}
 use Rattle.model.specs.Listing.{listing, refusedLine, listingOfFile}
 use Rattle.arrays.specs.Paste.{Pasted}
 use Rattle.calls.specs.Changes.{refusalNumber}
 use Rattle.calls.specs.declared.Changed.{Changed}
-use Rattle.deckfile.specs.Reading.{replyRead, ReadTo}
+use Rattle.deckfile.specs.ReadWorking.{replyRead, ReadTo}
 use Rattle.ascii.specs.Text.{fitting}
+use Rattle.listing.proofs.Text.{text-refused, text-deck}
 
 -- Nothing is within a slice.
 pub none-counted : (l : List ℕ) → Counts 0 l
@@ -30,15 +30,7 @@ roomy m before after t u r h k e f =
     subst (λ (l : List ℕ). Pasted l before after 0 r)
     (ap (λ (b : Bool). if b (λ _. t) (λ _. [])) (le-leb m (length before) (omega arith) ∙ sym (le-leb 8192 (length before) k)) ∙ ap (fitting 8192 before) e) f
 
--- The text of a file, by what reading it gives.
-text-refused : (b : List ℕ) (n : ℕ) → readFile b ≡ refusal n → refusedLine n ≡ listingOfFile b
-unfolding listingOfFile
-text-refused b n e = rw e refl
-
-text-deck : (b : List ℕ) (s : State) → readFile b ≡ deck s → listing (finish s .final) ≡ listingOfFile b
-unfolding listingOfFile
-text-deck b s e = rw e refl
-
+-- What is printed, by what reading the file gave.
 pub printed-refusal : (b : List ℕ) {c : Changed} (n : ℕ) → ReadTo (readFile b) c → n ≡ refusalNumber (c .reply) → ¬ (n ≡ 0) → refusedLine n ≡ listingOfFile b
 unfolding refusalNumber replyRead
 printed-refusal b n r e h = go (readFile b) refl (e ∙ ap refusalNumber (r .reply))

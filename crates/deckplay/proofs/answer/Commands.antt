@@ -13,7 +13,7 @@ use Rattle.deck.specs.declared.Outcome.{Outcome}
 use Rattle.questions.specs.declared.Answer.{Answer}
 use Rattle.deck.specs.Calls.{called}
 use Rattle.deck.specs.Questions.{asked}
-use Rattle.questions.specs.Answers.{lengthAnswer, countsAnswer, edgeAtAnswer, degreeAnswer}
+use Rattle.questions.specs.Answers.{ofLength, ofCounts, ofEdge, ofDegree}
 use Rattle.deckfile.specs.Reading.{reading}
 use Rattle.script.specs.declared.Command.{Command}
 use Rattle.script.specs.declared.Command.the-variants as command
@@ -55,15 +55,15 @@ module _ (d : Deck) (b : List ℕ) where
   unfolding lineOf
   finish-line o e = ap changes e
 
-  pub length-line : (a : Answer) → a ≡ asked d lengthAnswer → stays d (answerText a) ≡ lineOf d b command.Length
+  pub length-line : (a : Answer) → a ≡ asked d ofLength → stays d (answerText a) ≡ lineOf d b command.Length
   unfolding lineOf
   length-line a e = ap (λ (z : Answer). stays d (answerText z)) e
 
-  pub counts-line : (a : Answer) → a ≡ asked d countsAnswer → stays d (answerText a) ≡ lineOf d b command.Counts
+  pub counts-line : (a : Answer) → a ≡ asked d ofCounts → stays d (answerText a) ≡ lineOf d b command.Counts
   unfolding lineOf
   counts-line a e = ap (λ (z : Answer). stays d (answerText z)) e
 
-  pub run-line : (i : ℕ) (a : Answer) → a ≡ asked d (edgeAtAnswer i) → stays d (answerText a) ≡ lineOf d b (command.Run i)
+  pub run-line : (i : ℕ) (a : Answer) → a ≡ asked d (ofEdge i) → stays d (answerText a) ≡ lineOf d b (command.Run i)
   unfolding lineOf
   run-line i a e = ap (λ (z : Answer). stays d (answerText z)) e
 
@@ -81,10 +81,10 @@ module _ (d : Deck) (b : List ℕ) where
     unfolding lineOf
     withdraw-line o e = ap changes (e ∙ read-two (λ (u v : ℤ). called d (call.withdraw (point u v))) x y fx fy)
 
-    pub degree-line : (a : Answer) → a ≡ asked d (degreeAnswer (point (read x) (read y))) → stays d (answerText a) ≡ lineOf d b (command.Degree x y)
+    pub degree-line : (a : Answer) → a ≡ asked d (ofDegree (point (read x) (read y))) → stays d (answerText a) ≡ lineOf d b (command.Degree x y)
     unfolding lineOf
     degree-line a e =
-        ap (λ (z : Answer). stays d (answerText z)) (e ∙ read-two (λ (u v : ℤ). asked d (degreeAnswer (point u v))) x y fx fy)
+        ap (λ (z : Answer). stays d (answerText z)) (e ∙ read-two (λ (u v : ℤ). asked d (ofDegree (point u v))) x y fx fy)
 
     pub octant-line : stays d (octantText (read x) (read y)) ≡ lineOf d b (command.Octant x y)
     unfolding lineOf

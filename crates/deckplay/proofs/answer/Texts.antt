@@ -68,9 +68,9 @@ pub listing-room : (after : List ℕ) (r : ℕ) → length after ≡ 8192 → r 
 listing-room after r e h k = omega (arith, e, h, k)
 
 -- The bytes of a file in an array of 1,000.
-pub filled-file : (l after : List ℕ) (r : ℕ) → Pasted (take (length {A = ℕ} (replicate 1000 0)) l) (replicate 1000 0) after 0 r
-    → length l ≤ 1000 → take r after ≡ l
-filled-file l after r f h = front-take (front-whole f (omega (arith, h, length-replicate {A = ℕ} 1000 0)))
+pub filled-file : (l after : List ℕ) (r : ℕ) → Pasted (take (length {A = ℕ} (replicate 2000 0)) l) (replicate 2000 0) after 0 r
+    → length l ≤ 2000 → take r after ≡ l
+filled-file l after r f h = front-take (front-whole f (omega (arith, h, length-replicate {A = ℕ} 2000 0)))
 
 -- No answer.
 pub plays-nothing : (d : Deck) (l : List ℕ) → Plays (record { next = d; text = [] }) l l (record { next = d; size = 0 })

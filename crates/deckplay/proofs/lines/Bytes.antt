@@ -1,10 +1,9 @@
 -- One more byte of a script, as the program keeps its line in an array.
-use mathlib.Core.Path.{_≡_, refl, sym, ap, ap₂, _∙_}
-use mathlib.Core.Bool.{Bool, true, false}
+use mathlib.Core.Path.{_≡_, sym, ap, _∙_}
+use mathlib.Core.Bool.{Bool}
 use mathlib.Core.List.{List, [], _∷_, _++_, append-assoc}
 use Prim.Native.Nat.{ℕ, suc, _+_, _≤_, _<_}
 use native.Mathlib.Omega.{arith}
-use lib.Dec.{ltb, eqb}
 use lib.ListN.{length, take, drop, set, length-append}
 use lib.Seq.{length-take-le, take-at, set-split}
 use borrow.Author.Tests.{eq-eqb, ne-eqb, lt-ltb, le-ltb}
@@ -24,7 +23,7 @@ pub line-ends : (r : Reader) {before after : List ℕ} (p : Played) → Plays (p
     → Ends r (record { deck = p .next; line = r .line; size = 0 })
 line-ends r p f = record { within = omega arith; script = λ i. record { deck = f .next i; line = [] } }
 
-module _ (r : Reader) (b : ℕ) (full : length (r .line) ≡ 2001) (within : Reads r) where
+module _ (r : Reader) (b : ℕ) (full : length (r .line) ≡ 4001) (within : Reads r) where
   abbrev l : List ℕ
   l = take (r .size) (r .line)
 
@@ -43,13 +42,13 @@ module _ (r : Reader) (b : ℕ) (full : length (r .line) ≡ 2001) (within : Rea
   take-end s e f = record { within = f .within; script = f .script ∙ ap (chosen (more b l)) (sym (eq-eqb b 10 e)) }
 
   -- Another byte, of which there is room for one more.
-  pub take-more : ¬ (b ≡ 10) → r .size < 2001 → Takes r b (record { deck = r .deck; line = set (r .line) (r .size) b; size = r .size + 1 })
+  pub take-more : ¬ (b ≡ 10) → r .size < 4001 → Takes r b (record { deck = r .deck; line = set (r .line) (r .size) b; size = r .size + 1 })
   unfolding taken chosen lineBy
   take-more n h =
       record {
         within = omega arith;
         script =
-            (λ i. record { deck = r .deck; line = (longer ∙ ap lineBy (sym (lt-ltb (length l) 2001 (omega (arith, held, h))))) i })
+            (λ i. record { deck = r .deck; line = (longer ∙ ap lineBy (sym (lt-ltb (length l) 4001 (omega (arith, held, h))))) i })
             ∙ ap (chosen (more b l)) (sym (ne-eqb b 10 n));
       }
     where
@@ -63,12 +62,12 @@ module _ (r : Reader) (b : ℕ) (full : length (r .line) ≡ 2001) (within : Rea
       longer = ap (take (r .size + 1)) split ∙ take-at (l ++ (b ∷ [])) rest (r .size + 1) (omega (arith, length-append l (b ∷ []), held))
 
   -- Another byte, where there is no more room.
-  pub take-past : ¬ (b ≡ 10) → 2001 ≤ r .size → Takes r b r
+  pub take-past : ¬ (b ≡ 10) → 4001 ≤ r .size → Takes r b r
   unfolding taken chosen lineBy
   take-past n h =
       record {
         within = within;
         script =
-            (λ i. record { deck = r .deck; line = ap lineBy (sym (le-ltb (length l) 2001 (omega (arith, held, h)))) i })
+            (λ i. record { deck = r .deck; line = ap lineBy (sym (le-ltb (length l) 4001 (omega (arith, held, h)))) i })
             ∙ ap (chosen (more b l)) (sym (ne-eqb b 10 n));
       }

@@ -1,6 +1,5 @@
 -- `deckplay::main` is safe and ends: the line so far stays within its array, and the turns are counted down.
 use mathlib.Core.Path.{_≡_}
-use native.Mathlib.Omega.{arith}
 use lib.ListN.{length}
 use borrow.Author.Needs.{needs}
 use Rattle.deckplay.specs.Lines.{Reads}

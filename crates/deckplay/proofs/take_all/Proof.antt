@@ -1,25 +1,25 @@
--- `deckplay::take_all` meets its contract. The invariant: the line so far is within its array.
+-- `deckplay::take_all` meets its contract. The invariant: the bytes passed are taken.
 use Prim.Native.Nat.{_-_}
 use lib.ListN.{length}
 use borrow.Author.Needs.{needs}
-use Rattle.deckplay.specs.Lines.{Reads}
+use Rattle.deckplay.proofs.Input.{TakenTo, taken-none, taken-more, taken-end}
 use Rattle.deckplay.proofs.take_all.Statement.{statement}
 use Rattle.deckplay.proofs.take_all.Tie as tie
 
 abbrev Inv-loop : tie.InvT-loop
-Inv-loop bytes s₀ i₀ s i = Reads s
+Inv-loop bytes s₀ i₀ s i = TakenTo s₀ bytes s i
 
 abbrev μ-loop : tie.MeasureT-loop
 μ-loop bytes s₀ i₀ s i = length bytes - i
 
 loop-holds : tie.Need-loop-holds Inv-loop μ-loop
-loop-holds c = c .before .pre
+loop-holds c = taken-none _ _ (c .before .pre)
 
 shared-slice-read-take : tie.Need-shared-slice-read-take Inv-loop μ-loop
 shared-slice-read-take c = search needs
 
 take-requires : tie.Need-take-requires Inv-loop μ-loop
-take-requires c κs = c .before .before .loop .inv
+take-requires c κs = c .before .before .loop .inv .reads
 
 add-i : tie.Need-add-i Inv-loop μ-loop
 add-i c = search needs
@@ -28,10 +28,12 @@ loop-less : tie.Need-loop-less Inv-loop μ-loop
 loop-less c = search needs
 
 loop-again : tie.Need-loop-again Inv-loop μ-loop
-loop-again c = c .take .ensures .within
+loop-again c =
+    let at-test = c .before .before in
+    taken-more _ _ _ _ _ (at-test .before .loop .inv) (at-test .loop-test .taken) (c .take .ensures)
 
 returns : tie.Need-returns Inv-loop μ-loop
-returns c = c .before .loop .inv
+returns c = taken-end _ _ _ _ (c .before .loop .inv) (c .loop-test .left)
 
 pub take-all-spec : {M : Type 1} → statement M
 take-all-spec =

@@ -1,6 +1,6 @@
 -- `deck::Deck::counts` meets its contract: the check, then the question on the working form.
 use borrow.Author.Tests.{not-true, not-false}
-use Rattle.questions.specs.Answers.{countsAnswer}
+use Rattle.questions.specs.Answers.{ofCounts}
 use Rattle.deck.proofs.Calls.{checked-sound}
 use Rattle.deck.proofs.Questions.{refused-answer, asked-by}
 use borrow.Author.Needs.{needs}
@@ -24,7 +24,7 @@ returns-2 : tie.Need-returns-2
 returns-2 c =
     let at-if = c .before in
     let at-check = at-if .before .before in
-    asked-by _ _ (at-check .check .ensures) (not-false _ (at-if .if1 .left)) countsAnswer _ (c .counts .ensures)
+    asked-by _ _ (at-check .check .ensures) (not-false _ (at-if .if1 .left)) ofCounts _ (c .counts .ensures)
 
 pub counts-spec : {M : Type 1} → statement M
 counts-spec = tie.close (tie.spec check-requires returns counts-requires returns-2)

@@ -4,7 +4,7 @@ use borrow.Author.Tests.{not-true, not-false}
 use Rattle.plane.specs.Point.{Point, point}
 use Rattle.working.specs.InOrder as work
 use Rattle.arrays.proofs.Signed.{read-two}
-use Rattle.questions.specs.Answers.{degreeAnswer}
+use Rattle.questions.specs.Answers.{degreeAnswer, ofDegree}
 use Rattle.deck.proofs.Calls.{checked-valid}
 use Rattle.deck.proofs.Questions.{refused-answer, asked-by}
 use borrow.Author.Needs.{needs}
@@ -30,7 +30,7 @@ returns-2 c =
     let at-check = at-if .before .before in
     let at-start = at-check .before in
     let p : Point = record { x = at-start .args .x; y = at-start .args .y } in
-    asked-by _ _ (at-check .check .ensures) (not-false _ (at-if .if1 .left)) (degreeAnswer p) _
+    asked-by _ _ (at-check .check .ensures) (not-false _ (at-if .if1 .left)) (ofDegree p) _
     (c .degree-at .ensures
     ∙ ap (λ (q : Point). degreeAnswer q (work.stateOf (at-check .check .result .working))) (read-two point _ _ (at-start .fits .x) (at-start .fits .y)))
 

@@ -1,6 +1,6 @@
 -- `deck::Deck::edge_at` meets its contract: the check, then the question on the working form.
 use borrow.Author.Tests.{not-true, not-false}
-use Rattle.questions.specs.Answers.{edgeAtAnswer}
+use Rattle.questions.specs.Answers.{ofEdge}
 use Rattle.deck.proofs.Calls.{checked-sound}
 use Rattle.deck.proofs.Questions.{refused-answer, asked-by}
 use borrow.Author.Needs.{needs}
@@ -25,7 +25,7 @@ returns-2 c =
     let at-if = c .before in
     let at-check = at-if .before .before in
     let at-start = at-check .before in
-    asked-by _ _ (at-check .check .ensures) (not-false _ (at-if .if1 .left)) (edgeAtAnswer (at-start .args .i)) _ (c .edge-at .ensures)
+    asked-by _ _ (at-check .check .ensures) (not-false _ (at-if .if1 .left)) (ofEdge (at-start .args .i)) _ (c .edge-at .ensures)
 
 pub edge-at-spec : {M : Type 1} → statement M
 edge-at-spec = tie.close (tie.spec check-requires returns edge-at-requires returns-2)

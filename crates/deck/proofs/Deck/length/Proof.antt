@@ -1,6 +1,6 @@
 -- `deck::Deck::length` meets its contract: the check, then the question on the working form.
 use borrow.Author.Tests.{not-true, not-false}
-use Rattle.questions.specs.Answers.{lengthAnswer}
+use Rattle.questions.specs.Answers.{ofLength}
 use Rattle.deck.proofs.Calls.{checked-sound}
 use Rattle.deck.proofs.Questions.{refused-answer, asked-by}
 use borrow.Author.Needs.{needs}
@@ -24,7 +24,7 @@ returns-2 : tie.Need-returns-2
 returns-2 c =
     let at-if = c .before in
     let at-check = at-if .before .before in
-    asked-by _ _ (at-check .check .ensures) (not-false _ (at-if .if1 .left)) lengthAnswer _ (c .length .ensures)
+    asked-by _ _ (at-check .check .ensures) (not-false _ (at-if .if1 .left)) ofLength _ (c .length .ensures)
 
 pub length-spec : {M : Type 1} → statement M
 length-spec = tie.close (tie.spec check-requires returns length-requires returns-2)

@@ -1,7 +1,5 @@
 -- `deckplay::answer::read` meets its contract: the bytes of the line fit, so reading them is reading the file.
-use mathlib.Core.Path.{_≡_, refl, sym, ap, _∙_}
-use native.Mathlib.Omega.{arith}
-use lib.ListN.{length}
+use mathlib.Core.Path.{ap, _∙_}
 use Rattle.script.proofs.FileSize.{read-fits}
 use Rattle.deckfile.specs.Reading.{reading}
 use Rattle.deckplay.specs.Play.{changes}

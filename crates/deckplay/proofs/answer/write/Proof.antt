@@ -1,5 +1,5 @@
 -- `deckplay::answer::write` meets its contract: the buffer lent is the front of one for the longest file.
-use mathlib.Core.Path.{_≡_, refl, sym, ap, _∙_}
+use mathlib.Core.Path.{refl, sym, ap, _∙_}
 use lib.Seq.{length-take-le}
 use Rattle.deckplay.specs.Play.{stays, writeText}
 use Rattle.deckplay.proofs.answer.Texts.{plays, plays-same}

@@ -10,13 +10,13 @@ use Rattle.deckplay.proofs.lines.end.Tie as tie
 
 array-share-prefix-line : tie.Need-array-share-prefix-line
 array-share-prefix-line c =
-    let h : length (c .before .before .args .r .line) ≡ 2001 = search needs in
+    let h : length (c .before .before .args .r .line) ≡ 4001 = search needs in
     omega (arith, c .before .before .pre, h)
 
 slice-aggregate-play : tie.Need-slice-aggregate-play
 slice-aggregate-play c =
     let at-start = c .before .before .before in
-    let h : length (at-start .args .r .line) ≡ 2001 = search needs in
+    let h : length (at-start .args .r .line) ≡ 4001 = search needs in
     sym (length-take-le (at-start .args .r .size) (at-start .args .r .line) (omega (arith, at-start .pre, h)))
 
 slice-aggregate-play-2 : tie.Need-slice-aggregate-play-2

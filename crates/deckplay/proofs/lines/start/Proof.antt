@@ -1,5 +1,4 @@
 -- `deckplay::lines::start` meets its contract.
-use borrow.Author.Needs.{needs}
 use Rattle.deckplay.proofs.lines.Bytes.{fresh}
 use Rattle.deckplay.proofs.lines.start.Statement.{statement}
 use Rattle.deckplay.proofs.lines.start.Tie as tie

@@ -11,7 +11,7 @@ end-requires c κs = search needs
 
 returns : tie.Need-returns
 returns c =
-    let h : length (c .before .before .args .r .line) ≡ 2001 = search needs in
+    let h : length (c .before .before .args .r .line) ≡ 4001 = search needs in
     take-end _ _ h (c .before .before .pre) _ (c .before .if1 .taken) (c .end .ensures)
 
 array-write-line : tie.Need-array-write-line
@@ -22,12 +22,12 @@ add-t10 c = search needs
 
 returns-2 : tie.Need-returns-2
 returns-2 c =
-    let h : length (c .before .before .before .before .args .r .line) ≡ 2001 = search needs in
+    let h : length (c .before .before .before .before .args .r .line) ≡ 4001 = search needs in
     take-more _ _ h (c .before .before .before .before .pre) (c .before .before .before .if1 .left) (c .if2 .taken)
 
 returns-3 : tie.Need-returns-3
 returns-3 c =
-    let h : length (c .before .before .before .before .args .r .line) ≡ 2001 = search needs in
+    let h : length (c .before .before .before .before .args .r .line) ≡ 4001 = search needs in
     take-past (c .before .before .before .before .args .r) _ h (c .before .before .before .before .pre) (c .before .before .before .if1 .left) (c .if2 .left)
 
 pub take-spec : {M : Type 1} → statement M

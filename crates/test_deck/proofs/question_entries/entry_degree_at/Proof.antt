@@ -1,6 +1,6 @@
 -- `test_deck::question_entries::entry_degree_at` meets its contract: the answer is that of the deck in the words.
 use mathlib.Core.Path.{ap}
-use Rattle.questions.specs.Answers.{degreeAnswer}
+use Rattle.questions.specs.Answers.{ofDegree}
 use Rattle.plane.specs.Point.{point}
 use Rattle.arrays.proofs.Signed.{read-two}
 use Rattle.test_deck.proofs.Entries.{of-question}
@@ -13,7 +13,7 @@ returns c =
     let a = c .before .before .before in
     let q = a .before in
     let f = q .before .before .before .fits in
-    of-question (q .before .deck-in .ensures) (ap degreeAnswer (read-two point _ _ (f .x) (f .y))) (q .degree-at .ensures)
+    of-question (q .before .deck-in .ensures) (ap ofDegree (read-two point _ _ (f .x) (f .y))) (q .degree-at .ensures)
     (a .parts-of-answer .ensures)
     (c .put-parts .ensures)
 
