@@ -1,60 +1,62 @@
-# run: the listing of a sample deck. test: the gate; the last line is the verdict of the prover. tests: the tests alone, once the
-# prover has passed. library: the planner for C. replay_library: lists of calls for C. programs: the programs in target/bin. bench:
-# the time of a run to the end, by the planner and by others. table_1: the averages of document 004's Table 1. fuzz: files changed
-# at random, to the planner for C.
-.PHONY: run test tests reference_tests compare_tests gate_tests bench table_1 reference programs entries library replay_library fuzz \
+# What each target does: make help.
+.PHONY: help run test tests reference_tests compare_tests gate_tests bench table_1 reference programs entries library replay_library fuzz \
 	libfuzzer
+
+.DEFAULT_GOAL := run
 
 SAMPLE = samples/example.deck
 
-run: programs
+help: ## this list
+	@grep -E '^[a-z_0-9]+:.* ## ' Makefile | sed 's/:.* ## /\t/' | expand -t 16
+
+run: programs ## the listing of a sample deck
 	@target/bin/decklist < $(SAMPLE)
 
 # The programs, proved and linked to target/bin.
-programs:
+programs: ## the programs, proved and linked to target/bin
 	@rt check decklist deckplay >&2
 
-reference:
+reference: ## the independent implementation
 	@cd tests/reference && cargo build --release --offline --quiet
 
 # The planner for C.
-library:
+library: ## the planner for C: target/staticlib/libplanner.a
 	rt staticlib planner
 
 # Lists of calls for C.
-replay_library:
+replay_library: ## lists of calls for C: target/staticlib/libreplay.a
 	rt staticlib replay
 
 # The proved functions as libraries for the tests in Rust. One after the other, since each looks through what is proved already.
-entries:
+entries: ## the proved functions as libraries for the tests
 	rt staticlib test_tree
 	rt staticlib test_deck
 	rt staticlib planner
 	rt staticlib replay
 
 # The prover over every crate, then the tests on what it proved.
-test:
+test: ## the gate: the prover over every crate, then the tests; the last line is the verdict
 	sh tests/gate/gate.sh $(MAKE) -s tests
 
 # The libraries are linked beside the tests that need none of them; the programs are in target/bin already.
-tests:
+tests: ## the tests alone, once the prover has passed
 	$(MAKE) -s -j2 -O entries gate_tests
 	$(MAKE) -s compare_tests
 
-reference_tests:
+reference_tests: ## the tests of the independent implementation
 	cd tests/reference && cargo test --release --offline --quiet
 
-compare_tests:
+compare_tests: ## the proved functions against it
 	cd tests/compare && cargo test --release --offline --quiet
 
 # That the gate fails when it must.
-gate_tests: reference_tests
+gate_tests: reference_tests ## that the gate fails when it must
 	sh tests/gate/failures.sh
 
-bench: entries
+bench: entries ## the time of a run to the end, by the planner and by others
 	cd tests/compare && cargo run --release --offline --quiet --bin bench
 
-table_1: entries
+table_1: entries ## the averages of document 004, Table 1
 	cd tests/compare && cargo run --release --offline --quiet --bin table_1
 
 # Some 20 seconds of deck files changed at random; tests/fuzz/check.c says what must hold. Not a part of test.
@@ -62,13 +64,13 @@ ROUNDS = 150000
 FUZZ_FLAGS = -std=c11 -Wall -Wextra -Werror -O1 -g -Iinclude -fno-sanitize-recover=undefined
 FUZZ_SOURCES = tests/fuzz/plan.c tests/fuzz/mutate.c tests/fuzz/check.c
 
-fuzz: library
+fuzz: library ## deck files changed at random, to the planner for C
 	mkdir -p target/fuzz
 	gcc $(FUZZ_FLAGS) -fsanitize=address,undefined $(FUZZ_SOURCES) target/staticlib/libplanner.a -o target/fuzz/plan
 	target/fuzz/plan $(ROUNDS) samples/*.deck
 
 # The same demands with changes by libFuzzer, where clang has it.
-libfuzzer: library
+libfuzzer: library ## the same with changes by libFuzzer, where clang has it
 	mkdir -p target/fuzz/corpus
 	clang $(FUZZ_FLAGS) -fsanitize=fuzzer,address,undefined tests/fuzz/check.c target/staticlib/libplanner.a -o target/fuzz/libfuzzer
 	target/fuzz/libfuzzer -max_total_time=20 -max_len=1024 -artifact_prefix=target/fuzz/ target/fuzz/corpus samples

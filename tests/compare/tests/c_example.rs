@@ -9,7 +9,7 @@ use reference::file::write;
 use reference::generate::{good_file, Random, KINDS};
 use std::fs::{self, File};
 use std::path::{Path, PathBuf};
-use std::process::Command;
+use std::process::{Command, Stdio};
 
 /// A path in the repository.
 fn at(path: &str) -> PathBuf {
@@ -59,13 +59,61 @@ fn run(program: &Path, file: &Path) -> Expected {
 #[test]
 fn the_headers() {
     for name in ["include/planner.h", "include/replay.h"] {
-        let compiled = Command::new("gcc")
-            .args(["-std=c11", "-Wall", "-Wextra", "-Werror"])
-            .args(["-fsyntax-only", "-x", "c"])
-            .arg(at(name))
-            .status();
-        assert!(compiled.expect("gcc").success(), "{name}");
+        for (standard, language) in [("-std=c11", "c"), ("-std=c++11", "c++")] {
+            let compiled = Command::new("gcc")
+                .args([standard, "-Wall", "-Wextra", "-Werror"])
+                .args(["-fsyntax-only", "-x", language])
+                .arg(at(name))
+                .status();
+            assert!(compiled.expect("gcc").success(), "{name} as {language}");
+        }
     }
+}
+
+/// Builds the program that calls a library on a thread with the stack stated.
+fn build_stack(name: &str, library: &str, flags: &[&str]) -> PathBuf {
+    let program = scratch(name);
+    let built = Command::new("gcc")
+        .args(["-std=c11", "-Wall", "-Wextra", "-Werror", "-pthread"])
+        .args(flags)
+        .arg("-I")
+        .args([at("include"), at("tests/compare/c/stack.c")])
+        .arg(at(library))
+        .arg("-o")
+        .arg(&program)
+        .status();
+    assert!(built.expect("gcc").success());
+    program
+}
+
+#[test]
+fn the_stack_stated() {
+    let plan = build_stack("plan_stack", "target/staticlib/libplanner.a", &[]);
+    let replay = build_stack("replay_stack", "target/staticlib/libreplay.a", &["-DREPLAY"]);
+    let path = scratch("stack.deck");
+    let mut random = Random::new(83);
+    let mut files = vec![write(&comb(62))];
+    files.extend(KINDS.map(|kind| good_file(&mut random, kind, 64)));
+    for file in &files {
+        fs::write(&path, file).expect("a file written");
+        for program in [&plan, &replay] {
+            let input = File::open(&path).expect("the file");
+            let status = Command::new(program).stdin(input).status();
+            assert!(status.expect("a run").success(), "{program:?}");
+        }
+    }
+}
+
+#[test]
+fn what_cannot_be_read_or_written() {
+    let program = build("plan_broken");
+    let full = File::options().write(true).open("/dev/full").expect("a full device");
+    let input = File::open(at("samples/example.deck")).expect("a sample");
+    let status = Command::new(&program).stdin(input).stdout(full).stderr(Stdio::null()).status();
+    assert_eq!(status.expect("a run").code(), Some(101));
+    let folder = File::open(at("samples")).expect("a folder");
+    let status = Command::new(&program).stdin(folder).stderr(Stdio::null()).status();
+    assert_eq!(status.expect("a run").code(), Some(100));
 }
 
 #[test]
