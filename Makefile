@@ -53,8 +53,11 @@ compare_tests: ## the proved functions against it
 gate_tests: reference_tests ## that the gate fails when it must
 	sh tests/gate/failures.sh
 
+# Functions and loops at even addresses: else a way gets some parts in a hundred slower or faster by where it stands in the program.
+ALIGNED = -C llvm-args=-align-all-functions=6 -C llvm-args=-align-all-nofallthru-blocks=5
+
 bench: entries ## the time of a run to the end, by the planner and by others
-	cd tests/compare && cargo run --release --offline --quiet --bin bench
+	cd tests/compare && RUSTFLAGS="$(ALIGNED)" CARGO_TARGET_DIR=target/aligned cargo run --release --offline --quiet --bin bench
 
 table_1: entries ## the averages of document 004, Table 1
 	cd tests/compare && cargo run --release --offline --quiet --bin table_1
