@@ -4,6 +4,7 @@
 
 #include "check.h"
 
+/* A file, or any bytes. */
 struct file {
     size_t length;
     uint8_t bytes[MOST_BYTES];

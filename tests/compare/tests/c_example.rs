@@ -2,39 +2,41 @@
 //! plans the samples as the reference does, and passes on the number of a
 //! refusal.
 
-use compare::plans::{planned, Expected};
-use compare::starts::comb;
+use compare::binding::programs::in_repository as at;
+use compare::check::entries::{planned, Expected};
 use reference::damage::damaged;
+use reference::examples::comb;
 use reference::file::write;
 use reference::generate::{good_file, Random, KINDS};
+use reference::refusals::{Refusals, OF_FILE};
 use std::fs::{self, File};
 use std::path::{Path, PathBuf};
 use std::process::{Command, Stdio};
-
-/// A path in the repository.
-fn at(path: &str) -> PathBuf {
-    Path::new(env!("CARGO_MANIFEST_DIR"))
-        .join("../..")
-        .join(path)
-}
 
 /// A path in the folder for what tests write.
 fn scratch(name: &str) -> PathBuf {
     Path::new(env!("CARGO_TARGET_TMPDIR")).join(name)
 }
 
-/// Builds the example to a program of this name.
-fn build(name: &str) -> PathBuf {
+/// Builds a program of this name from a source and a library of the repository.
+fn build(name: &str, source: &str, library: &str, flags: &[&str]) -> PathBuf {
     let program = scratch(name);
     let built = Command::new("gcc")
-        .args(["-std=c11", "-Wall", "-Wextra", "-Werror", "-I"])
-        .args([at("include"), at("examples/plan_file.c")])
-        .arg(at("target/staticlib/libplanner.a"))
+        .args(["-std=c11", "-Wall", "-Wextra", "-Werror"])
+        .args(flags)
+        .arg("-I")
+        .args([at("include"), at(source)])
+        .arg(at("target/staticlib").join(library))
         .arg("-o")
         .arg(&program)
         .status();
     assert!(built.expect("gcc").success());
     program
+}
+
+/// Builds the example to a program of this name.
+fn build_example(name: &str) -> PathBuf {
+    build(name, "examples/plan_file.c", "libplanner.a", &[])
 }
 
 /// What the program writes for a file, or the number with which it refuses it.
@@ -70,26 +72,12 @@ fn the_headers() {
     }
 }
 
-/// Builds the program that calls a library on a thread with the stack stated.
-fn build_stack(name: &str, library: &str, flags: &[&str]) -> PathBuf {
-    let program = scratch(name);
-    let built = Command::new("gcc")
-        .args(["-std=c11", "-Wall", "-Wextra", "-Werror", "-pthread"])
-        .args(flags)
-        .arg("-I")
-        .args([at("include"), at("tests/compare/c/stack.c")])
-        .arg(at(library))
-        .arg("-o")
-        .arg(&program)
-        .status();
-    assert!(built.expect("gcc").success());
-    program
-}
-
 #[test]
 fn the_stack_stated() {
-    let plan = build_stack("plan_stack", "target/staticlib/libplanner.a", &[]);
-    let replay = build_stack("replay_stack", "target/staticlib/libreplay.a", &["-DREPLAY"]);
+    let source = "tests/compare/c/stack.c";
+    let plan = build("plan_stack", source, "libplanner.a", &["-pthread"]);
+    let flags = ["-pthread", "-DREPLAY"];
+    let replay = build("replay_stack", source, "libreplay.a", &flags);
     let path = scratch("stack.deck");
     let mut random = Random::new(83);
     let mut files = vec![write(&comb(62))];
@@ -106,19 +94,29 @@ fn the_stack_stated() {
 
 #[test]
 fn what_cannot_be_read_or_written() {
-    let program = build("plan_broken");
-    let full = File::options().write(true).open("/dev/full").expect("a full device");
+    let program = build_example("plan_broken");
+    let full = File::options()
+        .write(true)
+        .open("/dev/full")
+        .expect("a full device");
     let input = File::open(at("samples/example.deck")).expect("a sample");
-    let status = Command::new(&program).stdin(input).stdout(full).stderr(Stdio::null()).status();
+    let status = Command::new(&program)
+        .stdin(input)
+        .stdout(full)
+        .stderr(Stdio::null())
+        .status();
     assert_eq!(status.expect("a run").code(), Some(101));
     let folder = File::open(at("samples")).expect("a folder");
-    let status = Command::new(&program).stdin(folder).stderr(Stdio::null()).status();
+    let status = Command::new(&program)
+        .stdin(folder)
+        .stderr(Stdio::null())
+        .status();
     assert_eq!(status.expect("a run").code(), Some(100));
 }
 
 #[test]
 fn the_samples() {
-    let program = build("plan_samples");
+    let program = build_example("plan_samples");
     let mut planned_decks = 0;
     for file in fs::read_dir(at("samples")).expect("the samples") {
         let path = file.expect("a sample").path();
@@ -135,22 +133,26 @@ fn the_samples() {
 
 #[test]
 fn files_taken_and_refused() {
-    let program = build("plan_files");
+    let program = build_example("plan_files");
     let mut random = Random::new(79);
     let longest = write(&comb(62));
     let mut files = vec![vec![], longest.clone(), [&longest[..], &[0]].concat()];
     files.push([&longest[..], &[0; 9_000]].concat());
     files.extend(KINDS.map(|kind| good_file(&mut random, kind, 9)));
-    for number in 1..=6 {
+    for number in OF_FILE {
         files.push(damaged(&mut random, &[number]));
     }
-    let mut refused = [0; 7];
+    let mut seen = Refusals::default();
     let path = scratch("plan_files.deck");
     for file in &files {
         let expected = planned(file);
         fs::write(&path, file).expect("a file written");
         assert_eq!(run(&program, &path), expected);
-        refused[expected.err().unwrap_or(0) as usize] += 1;
+        if let Err(number) = expected {
+            seen.see(number);
+        }
     }
-    assert_eq!(refused, [8, 4, 1, 1, 1, 1, 1]);
+    // With the longest file and one of each kind, 8 are taken.
+    assert_eq!(files.len() - seen.total(), 8);
+    seen.are_exactly(&OF_FILE, 1);
 }

@@ -1,74 +1,64 @@
 //! The listing program prints what the reference prints, for whole and damaged
 //! files, files of every length and random bytes.
 
-use compare::files::{any_bytes, resized};
-use compare::starts::comb;
+use compare::check::programs::{refusal_of, same_listing};
+use compare::input::files::{any_bytes, resized};
 use reference::damage::damaged;
+use reference::examples::comb;
 use reference::file::write;
 use reference::generate::{good_file, Random, KINDS};
-use reference::listing::list_program;
-use std::io::Write;
-use std::path::Path;
-use std::process::{Command, Stdio};
+use reference::refusals::{Refusals, OF_FILE};
 
-/// What the program prints for a file.
-fn printed(file: &[u8]) -> String {
-    let program = Path::new(env!("CARGO_MANIFEST_DIR")).join("../../target/bin/decklist");
-    let mut child = Command::new(program)
-        .stdin(Stdio::piped())
-        .stdout(Stdio::piped())
-        .spawn()
-        .expect("run `rt check decklist` in the repository first");
-    let mut input = child.stdin.take().expect("its input");
-    // The program reads 785 bytes at most, so the end of a longer file may find no reader.
-    let _ = input.write_all(file);
-    drop(input);
-    let output = child.wait_with_output().expect("its output");
-    assert!(output.status.success());
-    String::from_utf8(output.stdout).expect("text")
-}
-
-/// Compares a file, and says whether the program refused it.
-fn same(file: &[u8]) -> bool {
-    let expected = list_program(file);
-    assert_eq!(printed(file), expected, "{file:?}");
-    expected.starts_with("refused")
+/// Lists a file by both. Returns the number by which it is refused, if it is.
+fn refusal(file: &[u8]) -> Option<u8> {
+    refusal_of(same_listing(file).trim_end())
 }
 
 #[test]
 fn whole_files() {
     let mut random = Random::new(81);
+    let mut taps = 0;
     for kind in KINDS {
         for _ in 0..100 {
-            assert!(!same(&good_file(&mut random, kind, 12)));
+            let text = same_listing(&good_file(&mut random, kind, 12));
+            assert!(text.starts_with("deck "), "{text}");
+            taps += text.lines().filter(|line| line.starts_with("tap ")).count();
         }
     }
-    assert!(!same(&write(&comb(62))));
+    assert!(taps > 500, "only {taps} taps");
+    assert!(same_listing(&write(&comb(62))).starts_with("deck 64 62 "));
 }
 
 #[test]
 fn damaged_files() {
     let mut random = Random::new(82);
-    for first in 1..=6 {
+    let mut seen = Refusals::default();
+    for first in OF_FILE {
         for second in first..=6 {
             for _ in 0..20 {
                 let file = damaged(&mut random, &[first, second]);
-                assert_eq!(printed(&file), format!("refused {first}\n"));
-                assert!(same(&file));
+                assert_eq!(refusal(&file), Some(first), "{first} and {second}");
+                seen.see(first);
             }
         }
     }
+    seen.are_exactly(&OF_FILE, 20);
 }
 
 #[test]
 fn every_length() {
     let mut random = Random::new(83);
-    let mut refused = 0;
+    let mut seen = Refusals::default();
     for length in 0..=800 {
         let file = good_file(&mut random, KINDS[length % KINDS.len()], 12);
-        refused += usize::from(same(&resized(&mut random, &file, length)));
-        refused += usize::from(same(&any_bytes(&mut random, length)));
+        let resized = resized(&mut random, &file, length);
+        for bytes in [resized, any_bytes(&mut random, length)] {
+            if let Some(number) = refusal(&bytes) {
+                seen.see(number);
+            }
+        }
     }
-    assert!(refused > 1_500);
-    assert!(same(&vec![0; 100_000]));
+    // A file that is cut or goes on is refused by its start or by its table.
+    seen.are_exactly(&[1, 2], 600);
+    assert_eq!(refusal(&vec![0; 100_000]), Some(1));
 }

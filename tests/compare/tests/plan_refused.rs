@@ -1,14 +1,15 @@
 //! The planner for C on damaged files: the number of the refusal is that of the
-//! first damage in document 01's order, and nothing is written.
+//! first damage in the order of SPEC 8.2, and nothing is written.
 
-use compare::damaged_trees::{edges, other_trees, roles, weak_points};
-use compare::deck::Deck;
-use compare::files::of_deck;
-use compare::plans::Seen;
-use compare::points::crossings;
-use compare::starts::comb;
+use compare::binding::deck::Deck;
+use compare::check::entries::Seen;
+use compare::input::damaged_trees::{edges, other_trees, roles, weak_points};
+use compare::input::files::of_deck;
+use compare::input::points::crossings;
 use reference::damage::damaged;
+use reference::examples::comb;
 use reference::generate::{full_state, good_file, Random, KINDS};
+use reference::refusals::{NO_ROOM, OF_FILE};
 use reference::session::{finish, State};
 use std::collections::BTreeMap;
 
@@ -16,13 +17,14 @@ use std::collections::BTreeMap;
 fn one_damage() {
     let mut random = Random::new(64);
     let mut seen = Seen::default();
-    for number in 1..=6 {
+    for number in OF_FILE {
         for _ in 0..600 {
             let file = damaged(&mut random, &[number]);
             assert_eq!(seen.plan(&file), Err(number));
         }
-        assert_eq!(seen.refused[number as usize], 4 * 600);
+        assert_eq!(seen.refused.by(number), 4 * 600);
     }
+    seen.refused.are_exactly(&OF_FILE, 4 * 600);
 }
 
 #[test]
@@ -38,8 +40,8 @@ fn the_earlier_of_two_damages() {
         }
     }
     assert_eq!(seen.given, 4_500);
-    let others = |number: usize| 4 * 300 * (6 - number);
-    assert!((1..=6).all(|number| seen.refused[number] == others(number)));
+    // Number 6 has no later damage beside it.
+    seen.refused.are_exactly(&OF_FILE[..5], 4 * 300);
 }
 
 #[test]
@@ -52,7 +54,7 @@ fn the_earliest_of_many_damages() {
             assert_eq!(seen.plan(&file), Err(first));
         }
     }
-    assert_eq!(seen.given, 1_200);
+    seen.refused.are_exactly(&OF_FILE[..4], 4 * 300);
 }
 
 /// Every byte of some files changed, one at a time.
@@ -70,24 +72,15 @@ fn one_byte_changed() {
                     1 => 1,
                     _ => random.range(1, 255) as u8,
                 };
-                if let Err(number) = seen.plan(&changed) {
-                    assert!((1..=6).contains(&number));
-                }
+                let _ = seen.plan(&changed);
             }
         }
     }
     println!("one byte changed: {seen:?}");
     assert!(seen.given > 14_000);
     assert!(seen.plain > 1_000 && seen.full > 1_000);
-    for (number, least) in [
-        (1, 6_000),
-        (2, 24_000),
-        (5, 10_000),
-        (6, 10_000),
-        (12, 5_000),
-    ] {
-        assert!(seen.refused[number] > least, "{number}");
-    }
+    // One byte cannot move the end of a section and the start of the next.
+    seen.refused.are_exactly(&[1, 2, 5, 6, NO_ROOM], 5_000);
 }
 
 /// Full files of a deck whose runs or whose taps are wrong.

@@ -1,12 +1,14 @@
-//! The planner for C on files that are taken, and at the limits of document 01.
+//! The planner for C on files that are taken, and at the limits of SPEC 1 and 7.
 
-use compare::files::of_points;
-use compare::plans::{steiner_of, Seen};
-use compare::proved_planner::plan;
-use compare::starts::{comb, grid};
+use compare::binding::entries::plan;
+use compare::check::entries::{steiner_of, Seen};
+use compare::input::files::of_points;
+use compare::input::states::grid;
+use reference::examples::{comb, most_points};
 use reference::file::{assemble, point_bytes, write, write_plain, LONGEST};
 use reference::generate::{good_file, many_pins, most_pins, Random, KINDS};
 use reference::plane::{Point, LIMIT};
+use reference::refusals::NO_ROOM;
 
 /// Plans a file and what is written for it, which is written back the same.
 fn plan_twice(seen: &mut Seen, file: &[u8]) -> Vec<u8> {
@@ -35,7 +37,8 @@ fn files_of_every_kind() {
     assert!(seen.plain > 1_000 && seen.full > 1_500);
     assert!(seen.with_steiner > 1_000);
     assert!(pins.iter().all(|&count| count > 20));
-    assert_eq!((seen.written, seen.refused[12]), (7_000, 7_000));
+    assert_eq!((seen.written, seen.refused.total()), (7_000, 7_000));
+    seen.refused.are_exactly(&[NO_ROOM], 7_000);
 }
 
 #[test]
@@ -105,7 +108,7 @@ fn the_longest_file() {
     let file = write(&comb(62));
     assert_eq!(file.len(), 784);
     assert_eq!(plan_twice(&mut seen, &file), file);
-    assert_eq!((seen.written, seen.refused[12]), (2, 2));
+    assert_eq!((seen.written, seen.refused.by(NO_ROOM)), (2, 2));
     assert_eq!(seen.plan(&[&file[..], &[0]].concat()), Err(1));
     assert_eq!(seen.plan(&file[..783]), Err(2));
     for points in 120..=126 {
@@ -119,11 +122,7 @@ fn the_longest_file() {
 #[test]
 fn the_most_points() {
     let mut seen = Seen::default();
-    let mut state = comb(62);
-    state.pins.retain(|&pin| pin != Point::new(20, 3));
-    state.pins.push(Point::new(22, 6));
-    state.pins.sort();
-    let file = write(&state);
+    let file = write(&most_points());
     assert_eq!((file.len(), steiner_of(&file)), (784, 62));
     let last = plan_twice(&mut seen, &file);
     assert_eq!((last.len(), steiner_of(&last)), (784, 62));

@@ -1,130 +1,108 @@
 //! Random sessions: after every call the reply and every word of the deck are
 //! those of the reference.
 
-use compare::counted::Counted;
-use compare::deck::Deck;
-use compare::proved_deck;
-use compare::sessions::{same_call, session, Shape};
-use compare::starts::{comb, grid, start};
+use compare::binding::calls::empty;
+use compare::binding::deck::Deck;
+use compare::check::replies::Replies;
+use compare::check::sessions::{same_call, session};
+use compare::input::calls::Shape;
+use compare::input::states::{grid, nearly_full, start};
+use reference::examples::comb;
 use reference::generate::{Kind, Place, Random, KINDS};
+use reference::refusals::OF_CALL;
 use reference::session::{Call, Reply, State};
 
 /// Sessions of a shape at places of every kind, `count` of each.
-fn many(seed: u64, count: usize, shape: impl Fn(&mut Random) -> Shape) -> Counted {
+fn many(seed: u64, count: usize, shape: impl Fn(&mut Random) -> Shape) -> Replies {
     let mut random = Random::new(seed);
-    let mut counted = Counted::default();
+    let mut seen = Replies::default();
     for kind in KINDS {
         for _ in 0..count {
             let place = Place::new(&mut random, kind);
             let shape = shape(&mut random);
             let from = start(&mut random, &place, shape.calls / 2);
-            session(&mut random, &place, &from, shape, &mut counted);
+            session(&mut random, &place, &from, shape, &mut seen);
         }
     }
-    counted
+    seen
 }
 
 #[test]
 fn empty_deck() {
-    assert_eq!(proved_deck::empty(), Deck::of(&State::default()));
+    assert_eq!(empty(), Deck::of(&State::default()));
 }
 
 #[test]
 fn short_sessions() {
-    let counted = many(41, 3_000, |random| {
-        let calls = random.range(1, 16) as usize;
-        Shape {
-            calls,
-            added: calls / 3,
-            small: 16,
-            eager: random.once_in(3),
-        }
-    });
-    println!("short: {counted}");
-    assert_eq!(counted.sessions, 21_000);
-    assert!(counted.refused_often());
-    assert!(counted.calls > 150_000);
-    assert!(counted.questions > 750_000);
-    assert!(counted.done > 75_000);
-    for number in [7, 8, 9] {
-        assert!(counted.by_number[number] > 6_000);
-    }
-    assert!(counted.finished > 7_500);
-    assert!(counted.taps > 4_500);
-    assert!(counted.runs > 3_700);
-    assert!(counted.runs_that_add > 1_100);
+    let seen = many(41, 3_000, |random| Shape::of_calls(random, 1, 16, 16));
+    println!("short: {seen}");
+    assert_eq!(seen.sessions, 21_000);
+    assert!(seen.refused_often());
+    assert!(seen.calls > 150_000);
+    assert!(seen.questions > 750_000);
+    assert!(seen.done > 75_000);
+    // No deck of so few calls has 64 pins.
+    seen.refused.are_exactly(&[7, 8, 9], 6_000);
+    assert!(seen.finished > 7_500);
+    assert!(seen.taps > 4_500);
+    assert!(seen.runs > 3_700);
+    assert!(seen.runs_that_add > 1_100);
 }
 
 #[test]
 fn long_sessions() {
-    let counted = many(42, 400, |random| {
-        let calls = random.range(17, 60) as usize;
-        Shape {
-            calls,
-            added: calls / 3,
-            small: 20,
-            eager: random.once_in(3),
-        }
-    });
-    println!("long: {counted}");
-    assert_eq!(counted.sessions, 2_800);
-    assert!(counted.refused_often());
-    assert!(counted.calls > 90_000);
-    assert!(counted.most_pins > 50);
-    assert!(counted.taps > 3_000);
-    assert!(counted.runs_that_add > 800);
+    let seen = many(42, 400, |random| Shape::of_calls(random, 17, 60, 20));
+    println!("long: {seen}");
+    assert_eq!(seen.sessions, 2_800);
+    assert!(seen.refused_often());
+    assert!(seen.calls > 90_000);
+    assert!(seen.most_pins > 50);
+    assert!(seen.taps > 3_000);
+    assert!(seen.runs_that_add > 800);
 }
 
 /// Decks with nearly 64 pins, on which adding is refused by 10 often.
 #[test]
 fn full_sessions() {
     let mut random = Random::new(43);
-    let mut counted = Counted::default();
+    let mut seen = Replies::default();
     for i in 0..160 {
         let place = Place::new(&mut random, Kind::EvenPitch);
-        let count = random.range(60, 64) as usize;
-        let from = match i % 4 {
-            0 => comb(random.range(58, 62)),
-            _ => grid(&mut random, count, 9),
-        };
-        let shape = Shape {
-            calls: random.range(4, 20) as usize,
-            added: 2,
-            small: if i % 8 == 1 { 127 } else { 0 },
-            eager: true,
-        };
-        session(&mut random, &place, &from, shape, &mut counted);
+        let from = nearly_full(&mut random, i);
+        let shape = Shape::on_full(&mut random, 20, i % 8 == 1);
+        session(&mut random, &place, &from, shape, &mut seen);
     }
-    println!("full: {counted}");
-    assert!(counted.refused_often());
-    assert_eq!((counted.most_pins, counted.most_steiner), (64, 62));
-    assert!(counted.by_number[10] > 300);
+    println!("full: {seen}");
+    assert!(seen.refused_often());
+    assert_eq!((seen.most_pins, seen.most_steiner), (64, 62));
+    seen.refused.are_exactly(&OF_CALL, 40);
+    assert!(seen.refused.by(10) > 300);
 }
 
 /// Rounds on the largest decks: one at a time, and to the end.
 #[test]
 fn rounds_on_full_decks() {
     let mut random = Random::new(44);
-    let mut counted = Counted::default();
+    let mut seen = Replies::default();
     for count in [30, 40, 50, 60, 64] {
         let state = grid(&mut random, count, 16);
         let (mut deck, mut now) = (Deck::of(&state), state.clone());
         let (end, last, reply) = same_call(&deck, &now, Call::Finish);
-        counted.reply(reply, &last);
+        seen.reply(reply, &last);
         loop {
             let (found, next, reply) = same_call(&deck, &now, Call::Round);
             (deck, now) = (found, next);
-            counted.reply(reply, &now);
+            seen.reply(reply, &now);
             if reply == Reply::Finished {
                 break;
             }
         }
         assert_eq!(deck, end);
     }
-    println!("rounds on full decks: {counted}");
-    assert_eq!((counted.runs, counted.finished), (5, 5));
-    assert!(counted.taps > 30);
-    assert_eq!(counted.most_pins, 64);
+    println!("rounds on full decks: {seen}");
+    assert_eq!((seen.runs, seen.finished), (5, 5));
+    assert!(seen.taps > 30);
+    assert_eq!(seen.most_pins, 64);
 }
 
 /// The most points of all: no pin more, also on a Steiner point.

@@ -24,6 +24,7 @@ const fn case(title: &'static str, lists: usize, shows: Shows) -> Case {
     }
 }
 
+/// Every case, with more lists the rarer it is.
 pub const CASES: [Case; 16] = [
     case("a1: fall greater than saving", 1_500_000, fall_beats_saving),
     case("a2: as a1, and its tap stays", 1_500_000, fall_with_tap),
@@ -222,10 +223,12 @@ fn equal_savings(_: &[Call], state: &State, last: Call) -> Option<String> {
     (best.len() > 1).then(|| format!("candidates {}", show_points(&best)))
 }
 
+/// A point as text.
 pub fn show_point(point: Point) -> String {
     format!("({},{})", point.x, point.y)
 }
 
+/// Points as text, or `none`.
 pub fn show_points(points: &[Point]) -> String {
     let shown: Vec<String> = points.iter().map(|&point| show_point(point)).collect();
     if shown.is_empty() {
@@ -235,6 +238,7 @@ pub fn show_points(points: &[Point]) -> String {
     }
 }
 
+/// Edges as text, in the listing order.
 pub fn show_edges(edges: &[Edge]) -> String {
     let show = |edge: &Edge| format!("{}-{}", show_point(edge.lower), show_point(edge.higher));
     listing_order(edges)

@@ -11,7 +11,7 @@ pub const HEADER: usize = 30;
 /// The length of the longest file.
 pub const LONGEST: usize = 784;
 
-/// The file of a state, its edges written out (document 01: the writer).
+/// The file of a state, its edges written out (SPEC 7.5: the writer).
 pub fn write(state: &State) -> Vec<u8> {
     let points = state.points();
     let number = |point: Point| points.iter().position(|&p| p == point).unwrap() as u8;
@@ -27,7 +27,7 @@ pub fn write(state: &State) -> Vec<u8> {
     )
 }
 
-/// The plain file of some pins (document 01: plain), in the order given.
+/// The plain file of some pins (SPEC 7.4: plain), in the order given.
 pub fn write_plain(pins: &[Point]) -> Vec<u8> {
     assemble(&point_bytes(pins), &[], &[])
 }

@@ -11,10 +11,12 @@ pub struct Random {
 }
 
 impl Random {
+    /// The generator of a seed.
     pub fn new(seed: u64) -> Random {
         Random { seed }
     }
 
+    /// The next number, of any 64 bits.
     pub fn draw(&mut self) -> u64 {
         self.seed = self.seed.wrapping_add(0x9e37_79b9_7f4a_7c15);
         let mut z = self.seed;
@@ -31,12 +33,21 @@ impl Random {
 
     /// True once in `times`.
     pub fn once_in(&mut self, times: u64) -> bool {
-        self.draw() % times == 0
+        self.draw().is_multiple_of(times)
     }
 
     /// One of the items.
     pub fn pick<T: Copy>(&mut self, items: &[T]) -> T {
         items[self.range(0, items.len() as i64 - 1) as usize]
+    }
+
+    /// The items in another order, or by chance in the same one.
+    pub fn shuffled<T: Clone>(&mut self, items: &[T]) -> Vec<T> {
+        let mut items = items.to_vec();
+        for i in (1..items.len()).rev() {
+            items.swap(i, self.range(0, i as i64) as usize);
+        }
+        items
     }
 }
 
@@ -59,6 +70,7 @@ pub enum Kind {
     Edges,
 }
 
+/// Every kind, once.
 pub const KINDS: [Kind; 7] = [
     Kind::Scattered,
     Kind::Small,
@@ -79,6 +91,7 @@ pub struct Place {
 }
 
 impl Place {
+    /// A place of a kind.
     pub fn new(random: &mut Random, kind: Kind) -> Place {
         Place {
             kind,
@@ -241,11 +254,11 @@ pub fn script(random: &mut Random, kind: Kind, calls: usize) -> String {
     text + "write\n"
 }
 
-/// The line of a question about a state.
-fn question(random: &mut Random, state: &State) -> String {
+/// The line of a question about a state, or of one that writes it with a buffer
+/// that is exact or one byte short.
+pub fn question(random: &mut Random, state: &State) -> String {
     let points = state.points();
-    let size = write(state).len() as i64;
-    match random.range(0, 5) {
+    match random.range(0, 7) {
         0 => "length\n".to_string(),
         1 => "counts\n".to_string(),
         2 => format!("run {}\n", random.range(0, points.len() as i64)),
@@ -253,8 +266,10 @@ fn question(random: &mut Random, state: &State) -> String {
             let (a, b) = (random.pick(&points), random.pick(&points));
             format!("degree {} {}\n", a.x, b.y)
         }
-        4 => format!("write {}\n", size - random.range(0, 1)),
-        _ => format!("octant {} {}\n", random.range(-3, 3), random.range(-3, 3)),
+        4 => format!("write {}\n", write(state).len() as i64 - random.range(0, 1)),
+        5 => "write\n".to_string(),
+        6 => "list\n".to_string(),
+        _ => format!("octant {} {}\n", random.range(-2, 2), random.range(-2, 2)),
     }
 }
 

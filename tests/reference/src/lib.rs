@@ -1,15 +1,22 @@
-//! A naive second implementation of the cable planner of document 01, to test
+//! A naive second implementation of the cable planner of docs/SPEC.md, to test
 //! the proved one against. Every answer is worked out afresh from the points
 //! held: all pairs sorted, Kruskal, each candidate tried with a whole new tree.
 
-pub mod cases;
-pub mod damage;
+// The implementation.
 pub mod entry;
 pub mod file;
-pub mod generate;
 pub mod listing;
 pub mod plane;
 pub mod script;
 pub mod session;
 pub mod tree;
+
+// What tests put to it and to the proved planner, and how they look at it.
+pub mod buffers;
+pub mod cases;
+pub mod damage;
+pub mod differences;
+pub mod examples;
+pub mod generate;
+pub mod refusals;
 pub mod variants;

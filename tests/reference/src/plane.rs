@@ -5,8 +5,8 @@ use std::cmp::Ordering;
 /// The greatest coordinate of a point; the smallest is its negative.
 pub const LIMIT: i64 = 30_000;
 
-/// A point (document 01: point). The derived order, x first and then y, is
-/// document 01's "lower".
+/// A point (SPEC 1.1). The derived order, x first and then y, is
+/// "lower" of SPEC 1.3.
 #[derive(Clone, Copy, Debug, PartialEq, Eq, PartialOrd, Ord, Hash)]
 pub struct Point {
     pub x: i64,
@@ -14,6 +14,7 @@ pub struct Point {
 }
 
 impl Point {
+    /// The point with these coordinates.
     pub fn new(x: i64, y: i64) -> Point {
         Point { x, y }
     }
@@ -23,14 +24,14 @@ impl Point {
         -LIMIT <= self.x && self.x <= LIMIT && -LIMIT <= self.y && self.y <= LIMIT
     }
 
-    /// The distance to another point (document 01: length of the run to it).
+    /// The distance to another point (SPEC 1.4: the length of the run to it).
     pub fn distance(self, other: Point) -> i64 {
         (self.x - other.x).abs() + (self.y - other.y).abs()
     }
 }
 
-/// An edge between two different points (document 01: run). The derived order,
-/// lower end first and then higher end, is document 01's listing order; the
+/// An edge between two different points (SPEC 1.4: run). The derived order,
+/// lower end first and then higher end, is the listing order of SPEC 2.3; the
 /// order that chooses among trees is `compare`.
 #[derive(Clone, Copy, Debug, PartialEq, Eq, PartialOrd, Ord, Hash)]
 pub struct Edge {
@@ -55,7 +56,7 @@ impl Edge {
         }
     }
 
-    /// The length of the edge (document 01: length of a run).
+    /// The length of the edge (SPEC 1.4: the length of a run).
     pub fn length(self) -> i64 {
         self.lower.distance(self.higher)
     }
@@ -65,8 +66,7 @@ impl Edge {
         self.lower == point || self.higher == point
     }
 
-    /// The order that decides among equals (document 01: run r comes before
-    /// run s): by length, then by lower end, then by higher end.
+    /// The order that decides among equals (SPEC 2.1): by length, then by lower end, then by higher end.
     pub fn compare(self, other: Edge) -> Ordering {
         self.length()
             .cmp(&other.length())
@@ -75,7 +75,7 @@ impl Edge {
     }
 }
 
-/// The octant of a difference (document 01: octant), or none for 0, 0. The
+/// The octant of a difference (SPEC 3.1), or none for 0, 0. The
 /// conditions are those of the table, one line each.
 pub fn octant(dx: i64, dy: i64) -> Option<u8> {
     let rows = [

@@ -1,5 +1,5 @@
-//! Scripts of calls: one call a line, one answer line for each. Document 01
-//! has no scripts; they carry the same calls to several planners.
+//! Scripts of calls: one call a line, one answer line for each
+//! (SPEC 9.3). They carry the same calls to several planners.
 
 use crate::file::{read, write_into, LONGEST};
 use crate::listing::listing;
@@ -43,16 +43,20 @@ pub fn answer_line(state: &mut State, line: &[u8]) -> Option<String> {
     Some(answer.unwrap_or("error".to_string()))
 }
 
+/// The call that may change the deck, if the words ask for one.
+pub fn call_of(words: &[&str]) -> Option<Call> {
+    match words {
+        ["add", x, y] => Some(Call::Add(number(x)?, number(y)?)),
+        ["withdraw", x, y] => Some(Call::Withdraw(number(x)?, number(y)?)),
+        ["round"] => Some(Call::Round),
+        ["finish"] => Some(Call::Finish),
+        _ => None,
+    }
+}
+
 /// The answer to a call that may change the deck.
 fn answer_call(state: &mut State, words: &[&str]) -> Option<String> {
-    let asked = match words {
-        ["add", x, y] => Call::Add(number(x)?, number(y)?),
-        ["withdraw", x, y] => Call::Withdraw(number(x)?, number(y)?),
-        ["round"] => Call::Round,
-        ["finish"] => Call::Finish,
-        _ => return None,
-    };
-    let (next, reply) = call(state, asked);
+    let (next, reply) = call(state, call_of(words)?);
     *state = next;
     Some(reply_line(reply))
 }
@@ -156,7 +160,7 @@ pub fn bytes_of(hex: &str) -> Option<Vec<u8>> {
     if hex == "-" {
         return Some(Vec::new());
     }
-    if hex.len() % 2 != 0 || !hex.bytes().all(|byte| byte.is_ascii_hexdigit()) {
+    if !hex.len().is_multiple_of(2) || !hex.bytes().all(|byte| byte.is_ascii_hexdigit()) {
         return None;
     }
     let byte = |i: usize| u8::from_str_radix(&hex[2 * i..2 * i + 2], 16).ok();

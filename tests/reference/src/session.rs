@@ -6,16 +6,16 @@ use crate::tree::{degree, length as tree_length, listing_order, tree};
 /// The greatest number of pins.
 pub const MOST_PINS: usize = 64;
 
-/// A deck between calls (document 01: deck), both lists rising. Its tree is
+/// A deck between calls (SPEC 1.2: deck), both lists rising. Its tree is
 /// worked out from them whenever it is needed.
 #[derive(Clone, Debug, Default, PartialEq, Eq, Hash)]
 pub struct State {
     pub pins: Vec<Point>,
-    /// The Steiner points (document 01: taps).
+    /// The Steiner points (SPEC 1.2: taps).
     pub steiner: Vec<Point>,
 }
 
-/// A call that may change the deck (document 01: add, withdraw, round, run to
+/// A call that may change the deck (SPEC 4: add, withdraw, round, run to
 /// the end).
 #[derive(Clone, Copy, Debug, PartialEq, Eq, Hash)]
 pub enum Call {
@@ -38,7 +38,7 @@ pub enum Reply {
         y: i64,
         gain: i64,
     },
-    /// A run to the end, with the number of rounds that added a tap.
+    /// A run to the end, and how many of its rounds named a tap.
     Rounds(usize),
 }
 
@@ -63,7 +63,7 @@ impl State {
     }
 }
 
-/// Whether the state is valid (document 01: sound). Unused places do not exist
+/// Whether the state is valid (SPEC 5.2: sound). Unused places do not exist
 /// here, and the tree is always that of the points.
 pub fn is_valid(state: &State) -> bool {
     let points = state.points();
@@ -80,7 +80,7 @@ pub fn rises(points: &[Point]) -> bool {
     points.windows(2).all(|pair| pair[0] < pair[1])
 }
 
-/// The prune that ends each change (document 01: sweep).
+/// The prune that ends each change (SPEC 4.1: sweep).
 pub fn prune(mut state: State) -> State {
     while let Some(place) = lowest_idle(&state) {
         state.steiner.remove(place);
@@ -103,6 +103,18 @@ pub fn call(state: &State, call: Call) -> (State, Reply) {
         Call::Round => round(state),
         Call::Finish => finish(state),
     }
+}
+
+/// The deck that calls lead to from the empty one, and the answers.
+pub fn after(calls: &[Call]) -> (State, Vec<Reply>) {
+    let mut state = State::default();
+    let mut replies = Vec::new();
+    for &asked in calls {
+        let (next, reply) = call(&state, asked);
+        state = next;
+        replies.push(reply);
+    }
+    (state, replies)
 }
 
 /// Adds a pin. Checks 11, 7, 8, 10.
@@ -167,8 +179,8 @@ pub fn candidates(points: &[Point]) -> Vec<Point> {
     found
 }
 
-/// The saving of a candidate: the tree's length now less that of the tree with
-/// it.
+/// The saving of a candidate: how much shorter the tree is with it, below 0 if
+/// it is longer.
 pub fn saving(points: &[Point], now: i64, candidate: Point) -> i64 {
     let mut more = points.to_vec();
     more.push(candidate);
@@ -210,7 +222,7 @@ pub fn round(state: &State) -> (State, Reply) {
     (next, Reply::Tap { x, y, gain })
 }
 
-/// Rounds until finished (document 01: run to the end). Check 11.
+/// Rounds until finished (SPEC 4.5: run to the end). Check 11.
 pub fn finish(state: &State) -> (State, Reply) {
     let mut now = state.clone();
     let mut rounds = 0;
@@ -238,13 +250,13 @@ pub fn counts(state: &State) -> Result<(usize, usize, usize), u8> {
     Ok((state.pins.len(), state.steiner.len(), edges))
 }
 
-/// The edge at a place in the listing order, places from 0, if there is one.
+/// The edge at a place of the listing order, counted from 0, if there is one.
 pub fn edge_at(state: &State, place: usize) -> Result<Option<Edge>, u8> {
     valid(state)?;
     Ok(listing_order(&state.tree()).get(place).copied())
 }
 
-/// The number of edges at a point, 0 where none is held.
+/// How many edges end at a point, 0 if no point is held there.
 pub fn degree_at(state: &State, point: Point) -> Result<usize, u8> {
     valid(state)?;
     Ok(degree(&state.tree(), point))

@@ -2,7 +2,7 @@
 
 use crate::plane::{Edge, Point};
 
-/// The minimum spanning tree of the points (document 01: the tree), its edges
+/// The minimum spanning tree of the points (SPEC 2.2: the tree), its edges
 /// by `Edge::compare`: all pairs sorted, each taken that joins two parts.
 pub fn tree(points: &[Point]) -> Vec<Edge> {
     let mut parent: Vec<usize> = (0..points.len()).collect();
@@ -41,17 +41,17 @@ fn root(parent: &[usize], mut i: usize) -> usize {
     i
 }
 
-/// The sum of the lengths of the edges (document 01: length of a tree).
+/// The sum of the lengths of the edges (SPEC 1.5: the length of a tree).
 pub fn length(edges: &[Edge]) -> i64 {
     edges.iter().map(|edge| edge.length()).sum()
 }
 
-/// The degree of a point (document 01: number of runs at a point).
+/// The degree of a point (SPEC 4.6: the number of runs at a point).
 pub fn degree(edges: &[Edge], point: Point) -> usize {
     edges.iter().filter(|edge| edge.touches(point)).count()
 }
 
-/// The edges by lower end, then by higher end (document 01: listing order).
+/// The edges by lower end, then by higher end (SPEC 2.3: listing order).
 pub fn listing_order(edges: &[Edge]) -> Vec<Edge> {
     let mut listed = edges.to_vec();
     listed.sort();

@@ -1,4 +1,4 @@
-//! Wrong turns: planners that differ from document 01 in one rule. They serve
+//! Mistakes that tempt: planners that differ from SPEC in one rule. They serve
 //! to find small decks on which the difference shows.
 
 use crate::plane::{Edge, Point};

@@ -1,8 +1,6 @@
-//! The decks of document 01, "Decks to prove and decks to try", by number.
+//! The decks of SPEC 11, by number.
 
-mod common;
-
-use common::{deck, points};
+use reference::examples::{cross, deck, example, points, CROSS, EXAMPLE};
 use reference::plane::{octant, Edge, Point};
 use reference::session::*;
 
@@ -22,8 +20,6 @@ fn finishes_at_once(state: &State) {
     assert_eq!(round(state), (state.clone(), Reply::Finished));
     assert_eq!(finish(state), (state.clone(), Reply::Rounds(0)));
 }
-
-const DECK_5: [(i64, i64); 4] = [(0, 5), (5, 0), (5, 10), (10, 5)];
 
 #[test]
 fn deck_1_no_pin() {
@@ -50,7 +46,7 @@ fn deck_3_two_pins() {
 
 #[test]
 fn deck_4_one_round() {
-    let state = deck(&[(0, 0), (5, 8), (10, 0)]);
+    let state = deck(&EXAMPLE);
     assert_eq!(length(&state), Ok(23));
     let next = round_gives(&state, tap(5, 0, 5), 18);
     assert_eq!(next.steiner, points(&[(5, 0)]));
@@ -60,7 +56,7 @@ fn deck_4_one_round() {
 
 #[test]
 fn deck_5_cross() {
-    let state = deck(&DECK_5);
+    let state = deck(&CROSS);
     assert_eq!(length(&state), Ok(30));
     let next = round_gives(&state, tap(5, 5, 10), 20);
     assert_eq!(next.steiner, points(&[(5, 5)]));
@@ -70,7 +66,7 @@ fn deck_5_cross() {
 
 #[test]
 fn decks_6_and_7_withdrawn() {
-    let cross = finish(&deck(&DECK_5)).0;
+    let cross = cross();
     let (six, reply) = call(&cross, Call::Withdraw(10, 5));
     assert_eq!(reply, Reply::Done);
     assert_eq!(length(&six), Ok(15));
@@ -84,7 +80,7 @@ fn decks_6_and_7_withdrawn() {
 
 #[test]
 fn deck_8_pin_on_tap() {
-    let cross = finish(&deck(&DECK_5)).0;
+    let cross = cross();
     let (next, reply) = call(&cross, Call::Add(5, 5));
     assert_eq!(reply, Reply::Done);
     assert_eq!(counts(&next), Ok((5, 0, 4)));
@@ -131,7 +127,7 @@ fn closed_octants_lose_a_run() {
 
 #[test]
 fn questions() {
-    let state = finish(&deck(&[(0, 0), (5, 8), (10, 0)])).0;
+    let state = example();
     let run = |place| {
         edge_at(&state, place)
             .unwrap()

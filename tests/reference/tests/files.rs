@@ -1,16 +1,16 @@
 //! Files written and read, the listing program and the C entry.
 
-mod common;
-
-use common::{deck, points};
+use reference::buffers::lend;
 use reference::damage::damaged;
 use reference::entry::entry;
+use reference::examples::{deck, points, EXAMPLE};
 use reference::file::*;
 use reference::generate::{full_state, good_file, Random, KINDS};
 use reference::listing::{list_program, listing};
+use reference::refusals::{Refusals, NO_ROOM, OF_ENTRY, OF_FILE};
 use reference::session::*;
 
-const EXAMPLE: &str = "\
+const LISTING: &str = "\
 deck 3 1 18
 tap 5 0
 run 0 0 5 0 5
@@ -20,10 +20,10 @@ run 5 0 10 0 5
 
 #[test]
 fn the_listing_example() {
-    let plain = write_plain(&points(&[(0, 0), (5, 8), (10, 0)]));
-    assert_eq!(list_program(&plain), EXAMPLE);
+    let plain = write_plain(&points(&EXAMPLE));
+    assert_eq!(list_program(&plain), LISTING);
     let full = write(&finish(&read(&plain).unwrap()).0);
-    assert_eq!(list_program(&full), EXAMPLE);
+    assert_eq!(list_program(&full), LISTING);
     assert_eq!(list_program(&write(&State::default())), "deck 0 0 0\n");
     let one = write_plain(&points(&[(7, -3)]));
     assert_eq!(list_program(&one), "deck 1 0 0\n");
@@ -35,9 +35,11 @@ fn the_listing_example() {
 fn the_listing_of_a_refused_file() {
     assert_eq!(list_program(b""), "refused 1\n");
     let mut random = Random::new(41);
-    for number in 1..=6 {
-        let bytes = damaged(&mut random, &[number]);
-        assert_eq!(list_program(&bytes), format!("refused {number}\n"));
+    for number in OF_FILE {
+        for _ in 0..50 {
+            let bytes = damaged(&mut random, &[number]);
+            assert_eq!(list_program(&bytes), format!("refused {number}\n"));
+        }
     }
 }
 
@@ -92,9 +94,11 @@ fn an_accepted_full_file_is_written_back() {
 #[test]
 fn a_plain_file_and_pins_added_one_by_one_are_equal() {
     let mut random = Random::new(44);
+    let mut added = 0;
     for kind in KINDS {
         for _ in 0..100 {
             let pins = full_state(&mut random, kind, 12).pins;
+            added += pins.len();
             let mut state = State::default();
             for pin in pins.iter().rev() {
                 state = add(&state, *pin).0;
@@ -102,47 +106,67 @@ fn a_plain_file_and_pins_added_one_by_one_are_equal() {
             assert_eq!(read(&write_plain(&pins)), Ok(state));
         }
     }
+    assert!(added > 6_000, "only {added} pins added");
 }
 
 #[test]
 fn the_entry_reads_runs_and_writes() {
     let mut random = Random::new(45);
+    let (mut written, mut longer) = (0, 0);
     for kind in KINDS {
         for _ in 0..40 {
-            let bytes = good_file(&mut random, kind, 10);
-            let want = write(&finish(&read(&bytes).unwrap()).0);
-            let mut buffer = vec![0xaa; want.len() + 7];
-            assert_eq!(entry(&bytes, &mut buffer), want.len() as u32);
-            assert_eq!(buffer, [want.clone(), vec![0xaa; 7]].concat());
-            let mut short = vec![0xaa; want.len() - 1];
-            assert_eq!(entry(&bytes, &mut short), 12);
-            assert_eq!(short, vec![0xaa; want.len() - 1]);
+            let file = good_file(&mut random, kind, 10);
+            let want = write(&finish(&read(&file).unwrap()).0);
+            for size in [want.len(), want.len() + 7] {
+                let found = lend(size, &want, "a file", |out| entry(&file, out));
+                assert_eq!(found, want.len() as u32);
+            }
+            let short = want.len() - 1;
+            let found = lend(short, &[], "no room", |out| entry(&file, out));
+            assert_eq!(found, u32::from(NO_ROOM));
+            written += 1;
+            longer += usize::from(want.len() > file.len());
         }
     }
+    assert_eq!(written, 280);
+    assert!(longer > 80, "only {longer} files got longer");
 }
 
+/// The entry gives each number that it can, and leaves every byte then.
 #[test]
-fn the_entry_refuses() {
+fn every_refusal_of_the_entry() {
     let mut random = Random::new(46);
-    for number in 1..=6 {
+    let mut seen = Refusals::default();
+    let mut refuse = |file: &[u8], size: usize, number: u8| {
+        let given = format!("refusal {number}");
+        let found = lend(size, &[], given, |out| entry(file, out));
+        assert_eq!(found, u32::from(number));
+        seen.see(number);
+    };
+    for number in OF_FILE {
         for size in [0, 29, 784] {
-            let bytes = damaged(&mut random, &[number]);
-            let mut buffer = vec![0xaa; size];
-            assert_eq!(entry(&bytes, &mut buffer), number as u32);
-            assert_eq!(buffer, vec![0xaa; size]);
+            for _ in 0..20 {
+                refuse(&damaged(&mut random, &[number]), size, number);
+            }
         }
     }
-    assert_eq!(entry(&write(&State::default()), &mut [0; 29]), 12);
-    assert_eq!(entry(&write(&State::default()), &mut [0; 30]), 30);
+    let empty = write(&State::default());
+    for size in 0..30 {
+        refuse(&empty, size, NO_ROOM);
+    }
+    seen.are_exactly(&OF_ENTRY, 30);
+    assert_eq!(lend(30, &empty, "empty", |out| entry(&empty, out)), 30);
 }
 
+/// The file that the entry is given would fit, but not the one with a tap.
 #[test]
 fn the_entry_is_short_of_room_for_the_taps() {
-    let plain = write_plain(&points(&[(0, 0), (5, 8), (10, 0)]));
-    assert_eq!(plain.len(), 42);
-    let mut buffer = [0xaa; 51];
-    assert_eq!(entry(&plain, &mut buffer), 12);
-    assert_eq!(buffer, [0xaa; 51]);
-    let mut buffer = [0xaa; 52];
-    assert_eq!(entry(&plain, &mut buffer), 52);
+    let plain = write_plain(&points(&EXAMPLE));
+    let want = write(&finish(&deck(&EXAMPLE)).0);
+    assert_eq!((plain.len(), want.len()), (42, 52));
+    for size in 42..52 {
+        let found = lend(size, &[], "a tap", |out| entry(&plain, out));
+        assert_eq!(found, u32::from(NO_ROOM));
+    }
+    assert_eq!(lend(52, &want, "a tap", |out| entry(&plain, out)), 52);
 }

@@ -1,9 +1,8 @@
-//! The limits of document 01: coordinates, pins, bytes and buffers.
+//! The limits of SPEC 1 and 7: coordinates, pins, bytes and buffers.
 
-mod common;
-
-use common::{deck, longest_deck, square_of_64};
+use reference::buffers::lend;
 use reference::entry::entry;
+use reference::examples::{comb, deck, most_points, square_of_64};
 use reference::file::*;
 use reference::generate::{most_pins, Random};
 use reference::plane::Point;
@@ -37,7 +36,7 @@ fn corners_of_the_range() {
 
 #[test]
 fn the_longest_file() {
-    let state = longest_deck();
+    let state = comb(62);
     assert!(is_valid(&state));
     let bytes = write(&state);
     assert_eq!(bytes.len(), 784);
@@ -48,37 +47,29 @@ fn the_longest_file() {
 
 #[test]
 fn the_longest_file_through_the_entry() {
-    let bytes = write(&longest_deck());
-    let mut short = [0xaa; 783];
-    assert_eq!(entry(&bytes, &mut short), 12);
-    assert_eq!(short, [0xaa; 783]);
-    let mut exact = [0xaa; 784];
-    assert_eq!(entry(&bytes, &mut exact), 784);
-    assert_eq!(exact.to_vec(), bytes);
-    let mut longer = [0xaa; 785];
-    assert_eq!(entry(&bytes, &mut longer), 784);
-    assert_eq!(longer.to_vec(), [bytes, vec![0xaa]].concat());
+    let bytes = write(&comb(62));
+    let entered = |size, written: &[u8]| lend(size, written, "784", |out| entry(&bytes, out));
+    assert_eq!(entered(783, &[]), 12);
+    assert_eq!(entered(784, &bytes), 784);
+    assert_eq!(entered(785, &bytes), 784);
 }
 
 #[test]
 fn most_points_during_a_round() {
-    let mut state = longest_deck();
-    state.pins.retain(|pin| *pin != Point::new(0, 3));
-    state.pins.push(Point::new(2, 6));
-    let state = State::new(state.pins, state.steiner);
+    let state = most_points();
     assert_eq!(counts(&state), Ok((64, 62, 125)));
     let (next, reply) = round(&state);
     assert_eq!(
         reply,
         Reply::Tap {
-            x: 2,
+            x: 22,
             y: 0,
             gain: 2
         }
     );
     assert_eq!(counts(&next), Ok((64, 62, 125)));
-    assert!(next.steiner.contains(&Point::new(2, 0)));
-    assert!(!next.steiner.contains(&Point::new(0, 0)));
+    assert!(next.steiner.contains(&Point::new(22, 0)));
+    assert!(!next.steiner.contains(&Point::new(20, 0)));
     assert_eq!(finish(&state), (next, Reply::Rounds(1)));
 }
 

@@ -1,26 +1,58 @@
-//! Document 01's claims about octants.
+//! What SPEC 3 says of octants.
 
+use reference::differences::differences;
 use reference::generate::{full_state_at, Place, Random, KINDS};
 use reference::plane::{octant, Edge, Point};
 use reference::tree::tree;
 
+/// The rows of the table of SPEC 3.1 whose condition holds, by their numbers.
+fn rows(dx: i64, dy: i64) -> Vec<u8> {
+    let conditions = [
+        dx > 0 && 0 <= dy && dy < dx,
+        dx > 0 && dy >= dx,
+        dy > 0 && 0 <= -dx && -dx < dy,
+        dy > 0 && -dx >= dy,
+        dx < 0 && 0 <= -dy && -dy < -dx,
+        dx < 0 && -dy >= -dx,
+        dy < 0 && 0 <= dx && dx < -dy,
+        dy < 0 && dx >= -dy,
+    ];
+    (0..8).filter(|&row| conditions[row as usize]).collect()
+}
+
 #[test]
 fn exactly_one_octant() {
-    assert_eq!(octant(0, 0), None);
-    for dx in -20i64..=20 {
-        for dy in -20i64..=20 {
-            let rows = [
-                dx > 0 && 0 <= dy && dy < dx,
-                dx > 0 && dy >= dx,
-                dy > 0 && 0 <= -dx && -dx < dy,
-                dy > 0 && -dx >= dy,
-                dx < 0 && 0 <= -dy && -dy < -dx,
-                dx < 0 && -dy >= -dx,
-                dy < 0 && 0 <= dx && dx < -dy,
-                dy < 0 && dx >= -dy,
-            ];
-            let held = rows.iter().filter(|&&row| row).count();
-            assert_eq!(held, usize::from((dx, dy) != (0, 0)), "{dx} {dy}");
+    let mut seen = [0; 8];
+    for (dx, dy) in differences() {
+        let held = rows(dx, dy);
+        assert_eq!(held.len(), usize::from((dx, dy) != (0, 0)), "{dx} {dy}");
+        assert_eq!(octant(dx, dy), held.first().copied(), "{dx} {dy}");
+        if let Some(&row) = held.first() {
+            seen[row as usize] += 1;
+        }
+    }
+    // The box has 6,560 differences but 0, 0, the same number in each octant.
+    assert!(seen.iter().all(|&count| count >= 820), "{seen:?}");
+    assert!(seen.iter().sum::<usize>() > 6_560 + 900, "{seen:?}");
+}
+
+/// The ray that each octant begins with belongs to it, at every length.
+#[test]
+fn the_rays() {
+    let rays = [
+        (1, 0),
+        (1, 1),
+        (0, 1),
+        (-1, 1),
+        (-1, 0),
+        (-1, -1),
+        (0, -1),
+        (1, -1),
+    ];
+    for length in [1, 2, 29_999, 30_000, 60_000, i64::from(i32::MAX)] {
+        for (number, (dx, dy)) in rays.into_iter().enumerate() {
+            let found = octant(length * dx, length * dy);
+            assert_eq!(found, Some(number as u8), "{length} times {dx} {dy}");
         }
     }
 }
@@ -83,7 +115,7 @@ fn joins_by_octants(held: &[Point], new: Point) -> usize {
 fn a_new_point_joins_by_octants() {
     let mut random = Random::new(4);
     for kind in KINDS {
-        let mut most = 0;
+        let (mut most, mut joined) = (0, 0);
         for _ in 0..400 {
             let size = random.range(1, 24) as usize;
             let place = Place::new(&mut random, kind);
@@ -94,10 +126,12 @@ fn a_new_point_joins_by_octants() {
                 let new = random.pick(&[near, Point::new(a.x, b.y)]);
                 if !held.contains(&new) {
                     most = most.max(joins_by_octants(&held, new));
+                    joined += 1;
                 }
             }
         }
         assert!(most >= 2, "{kind:?} joins by {most} runs at most");
+        assert!(joined > 500, "{kind:?}: only {joined} points joined");
     }
 }
 

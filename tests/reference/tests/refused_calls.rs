@@ -1,10 +1,10 @@
 //! Refusals 7 to 12, each beside its nearest accepted neighbour.
 
-mod common;
-
-use common::{deck, longest_deck, points, square_of_64};
+use reference::buffers::lend;
+use reference::examples::{comb, cross, deck, square_of_64};
 use reference::file::{write, write_into};
 use reference::plane::Point;
+use reference::refusals::{refused_calls, unsound, Refusals, NOT_SOUND, OF_CALL};
 use reference::session::*;
 
 /// A refused call hands the deck back.
@@ -18,8 +18,17 @@ fn takes(state: &State, asked: Call) -> State {
     next
 }
 
-fn cross() -> State {
-    finish(&deck(&[(0, 5), (5, 0), (5, 10), (10, 5)])).0
+/// Every number of a call on a sound deck, in every order of two checks that a
+/// call can fail.
+#[test]
+fn every_refusal_of_a_call() {
+    let mut seen = Refusals::default();
+    for (state, asked, number) in refused_calls() {
+        assert!(is_valid(&state));
+        refuses(&state, asked, number);
+        seen.see(number);
+    }
+    seen.are_exactly(&OF_CALL, 19);
 }
 
 #[test]
@@ -76,73 +85,54 @@ fn refusal_10() {
 
 #[test]
 fn refusal_10_on_a_tap() {
-    let state = longest_deck();
+    let state = comb(62);
     assert_eq!(counts(&state), Ok((64, 62, 125)));
     refuses(&state, Call::Add(10, 0), 10);
-    let fewer = takes(&state, Call::Withdraw(620, 0));
+    let fewer = takes(&state, Call::Withdraw(630, 0));
     assert!(fewer.steiner.contains(&Point::new(10, 0)));
     let full = takes(&fewer, Call::Add(10, 0));
     assert_eq!(full.pins.len(), 64);
     assert!(!full.steiner.contains(&Point::new(10, 0)));
 }
 
-/// States that break one rule each.
-fn broken_states() -> Vec<State> {
-    let state = |pins: &[(i64, i64)], taps: &[(i64, i64)]| State {
-        pins: points(pins),
-        steiner: points(taps),
-    };
-    let mut many = square_of_64();
-    many.push(Point::new(100, 100));
-    vec![
-        state(&[(1, 0), (0, 0)], &[]),
-        state(&[(0, 0), (0, 0)], &[]),
-        state(&[(30_001, 0)], &[]),
-        state(&[(0, -30_001)], &[]),
-        state(&[(0, 0), (10, 0)], &[(5, 0)]),
-        state(&[], &[(5, 0)]),
-        state(&[(0, 5), (5, 0), (5, 5), (5, 10), (10, 5)], &[(5, 5)]),
-        state(
-            &[(0, 0), (5, 8), (10, 0), (40, 0), (45, 8), (50, 0)],
-            &[(45, 0), (5, 0)],
-        ),
-        State::new(many, Vec::new()),
-    ]
-}
-
+/// Every call, every question and writing, before any other check.
 #[test]
 fn refusal_11() {
-    for state in broken_states() {
+    let broken = unsound();
+    assert_eq!(broken.len(), 9);
+    for state in broken {
         assert!(!is_valid(&state), "{state:?}");
-        refuses(&state, Call::Add(30_001, 0), 11);
-        refuses(&state, Call::Add(0, 0), 11);
-        refuses(&state, Call::Withdraw(77, 77), 11);
-        refuses(&state, Call::Round, 11);
-        refuses(&state, Call::Finish, 11);
-        assert_eq!(length(&state), Err(11));
-        assert_eq!(counts(&state), Err(11));
-        assert_eq!(edge_at(&state, 1_000), Err(11));
-        assert_eq!(degree_at(&state, Point::new(0, 0)), Err(11));
-        assert_eq!(write_into(&state, &mut [0; 10]), Err(11));
+        refuses(&state, Call::Add(30_001, 0), NOT_SOUND);
+        refuses(&state, Call::Add(0, 0), NOT_SOUND);
+        refuses(&state, Call::Withdraw(77, 77), NOT_SOUND);
+        refuses(&state, Call::Round, NOT_SOUND);
+        refuses(&state, Call::Finish, NOT_SOUND);
+        assert_eq!(length(&state), Err(NOT_SOUND));
+        assert_eq!(counts(&state), Err(NOT_SOUND));
+        assert_eq!(edge_at(&state, 1_000), Err(NOT_SOUND));
+        assert_eq!(degree_at(&state, Point::new(0, 0)), Err(NOT_SOUND));
+        for size in [0, 10, 784] {
+            let found = lend(size, &[], "unsound", |out| write_into(&state, out));
+            assert_eq!(found, Err(NOT_SOUND));
+        }
     }
-    for state in [State::default(), cross(), longest_deck()] {
+    for state in [State::default(), cross(), comb(62)] {
         assert!(is_valid(&state));
     }
 }
 
 #[test]
 fn refusal_12() {
-    for state in [State::default(), cross(), longest_deck()] {
+    for state in [State::default(), cross(), comb(62)] {
         let bytes = write(&state);
         for short in [0, 1, bytes.len() - 1] {
-            let mut buffer = vec![0xaa; short];
-            assert_eq!(write_into(&state, &mut buffer), Err(12));
-            assert_eq!(buffer, vec![0xaa; short]);
+            let found = lend(short, &[], "short", |out| write_into(&state, out));
+            assert_eq!(found, Err(12));
         }
         for more in [0, 1, 50] {
-            let mut buffer = vec![0xaa; bytes.len() + more];
-            assert_eq!(write_into(&state, &mut buffer), Ok(bytes.len()));
-            assert_eq!(buffer, [bytes.clone(), vec![0xaa; more]].concat());
+            let size = bytes.len() + more;
+            let found = lend(size, &bytes, "room", |out| write_into(&state, out));
+            assert_eq!(found, Ok(bytes.len()));
         }
     }
 }

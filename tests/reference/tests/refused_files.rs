@@ -1,18 +1,17 @@
 //! Refusals 1 to 6, each beside its nearest accepted neighbour, and several
 //! damages at once.
 
-mod common;
-
-use common::{deck, points, square_of_64};
 use reference::damage::damaged;
+use reference::examples::{self, deck, points, square_of_64};
 use reference::file::*;
 use reference::generate::{full_state, many_pins, Random, KINDS};
 use reference::plane::Point;
-use reference::session::{finish, State};
+use reference::refusals::{Refusals, OF_FILE};
+use reference::session::State;
 
-/// The full file of document 01's example deck: three pins, a tap at number 1.
+/// The full file of the example deck (SPEC 7.7): three pins, a tap at number 1.
 fn example() -> Vec<u8> {
-    write(&finish(&deck(&[(0, 0), (5, 8), (10, 0)])).0)
+    write(&examples::example())
 }
 
 fn changed(bytes: &[u8], place: usize, byte: u8) -> Vec<u8> {
@@ -242,15 +241,18 @@ fn refusal_6_by_no_valid_deck() {
 #[test]
 fn the_earlier_damage_wins() {
     let mut random = Random::new(11);
-    for first in 1..=6 {
-        for second in 1..=6 {
+    let mut seen = Refusals::default();
+    for first in OF_FILE {
+        for second in OF_FILE {
             for _ in 0..300 {
                 let bytes = damaged(&mut random, &[first, second]);
                 let want = first.min(second);
                 assert_eq!(read(&bytes), Err(want), "{first} {second} {bytes:?}");
+                seen.see(want);
             }
         }
     }
+    seen.are_exactly(&OF_FILE, 300);
     for _ in 0..300 {
         assert!(read(&damaged(&mut random, &[])).is_ok());
         assert_eq!(read(&damaged(&mut random, &[1, 2, 3, 4, 5, 6])), Err(1));
@@ -264,6 +266,7 @@ fn the_earlier_damage_wins() {
 fn any_byte_changed_is_refused_or_written_back() {
     let mut random = Random::new(12);
     let mut taken = 0;
+    let mut seen = Refusals::default();
     for kind in KINDS {
         for _ in 0..40 {
             let bytes = write(&full_state(&mut random, kind, 12));
@@ -274,10 +277,12 @@ fn any_byte_changed_is_refused_or_written_back() {
                         taken += 1;
                         assert_eq!(write(&state), other);
                     }
-                    Err(number) => assert!((1..=6).contains(&number)),
+                    Err(number) => seen.see(number),
                 }
             }
         }
     }
     assert!(taken > 100, "only {taken} accepted");
+    // One byte cannot move the end of a section and the start of the next.
+    seen.are_exactly(&[1, 2, 5, 6], 500);
 }

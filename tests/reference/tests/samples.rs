@@ -1,6 +1,6 @@
 //! The files in samples/: each .deck is listed as the .txt of the same name.
 //!
-//! `example` is document 01's. `lane` has bays 250 cm apart on both sides of a
+//! `example` is that of SPEC 7.7. `lane` has bays 250 cm apart on both sides of a
 //! lane, and a display at each end. `sixty_four` has two lanes of 28 bays each,
 //! a display at each end of both, a controller half way between these ends on
 //! both sides, and a display at the way in and at the way out.

@@ -4,6 +4,7 @@ use reference::file::{read, write};
 use reference::generate::{script, Random, KINDS};
 use reference::listing::list_program;
 use reference::plane::Point;
+use reference::refusals::{refused_scripts, Refusals, OF_SCRIPT};
 use reference::script::{bytes_of, hex_of, play};
 use reference::session::State;
 
@@ -53,7 +54,7 @@ fn the_example_deck() {
 }
 
 #[test]
-fn refusals() {
+fn refusals_in_a_session() {
     answers(&[
         ("add 30001 0", "refused 7"),
         ("add 0 -30001", "refused 7"),
@@ -67,6 +68,18 @@ fn refusals() {
         ("write 29", "refused 12"),
         ("write 0", "refused 12"),
     ]);
+}
+
+/// Every number but 11, which no script can cause: a refused call or writing
+/// leaves the deck, a refused file leaves an empty one.
+#[test]
+fn every_refusal() {
+    let mut seen = Refusals::default();
+    for (script, answers, number) in refused_scripts(&mut Random::new(62)) {
+        assert_eq!(play(script.as_bytes()), answers, "{script}");
+        seen.see(number);
+    }
+    seen.are_exactly(&OF_SCRIPT, 19);
 }
 
 #[test]
@@ -144,14 +157,36 @@ fn hexadecimal_digits() {
     assert_eq!(bytes_of("0aFf"), Some(vec![10, 255]));
 }
 
+/// The beginnings of the answers that a random script has to bring about.
+const WORDS: [&str; 16] = [
+    "ok",
+    "refused 7",
+    "refused 8",
+    "refused 9",
+    "refused 12",
+    "tap",
+    "finished",
+    "rounds",
+    "length",
+    "counts",
+    "run",
+    "no run",
+    "degree",
+    "octant",
+    "deck",
+    "file",
+];
+
 /// The listing that the last file of a script gives is the last listing.
 #[test]
 fn random_scripts() {
     let mut random = Random::new(61);
+    let mut all = String::new();
     for kind in KINDS {
         for _ in 0..60 {
             let text = script(&mut random, kind, 10) + "finish\nlist\nwrite\n";
             let answers = play(text.as_bytes());
+            all += &answers;
             let lines: Vec<&str> = answers.lines().collect();
             assert_eq!(lines.len(), text.lines().count());
             let words: Vec<&str> = lines[lines.len() - 1].split(' ').collect();
@@ -163,6 +198,10 @@ fn random_scripts() {
                 .iter()
                 .all(|line| *line != "error" || text.contains("octant 0 0")));
         }
+    }
+    for word in WORDS {
+        let count = all.lines().filter(|line| line.starts_with(word)).count();
+        assert!(count > 10, "{count} answers {word}");
     }
 }
 

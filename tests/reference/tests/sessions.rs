@@ -1,13 +1,15 @@
-//! Random lists of calls: what document 01 says of every deck and every call.
+//! Random lists of calls: what SPEC 6 says of every deck and every call.
 
+use reference::examples::square_of_64;
 use reference::file::{read, write};
 use reference::generate::*;
 use reference::plane::Point;
+use reference::refusals::{Refusals, OF_CALL};
 use reference::session::*;
 use reference::tree::{degree, tree};
 
 /// The two sets after a call's change, taken step by step from the words of
-/// document 01, the sweep by the tree's own degrees.
+/// SPEC 6.1, the sweep by the tree's own degrees.
 fn reckoned(state: &State, asked: Call) -> State {
     let (mut pins, mut taps) = (state.pins.clone(), state.steiner.clone());
     match asked {
@@ -97,43 +99,49 @@ fn lists_of_every_kind() {
     }
 }
 
+/// Every number of a call on a sound deck arises in random lists, those on
+/// decks with 62 pins or more among them, and 11 never does.
 #[test]
 fn every_refusal_of_a_call_arises() {
     let mut random = Random::new(52);
-    let mut seen = [0; 13];
+    let mut seen = Refusals::default();
     for kind in KINDS {
-        for _ in 0..100 {
-            let mut state = State::default();
+        for n in 0..100 {
+            let mut state = match n % 20 {
+                0 => State::new(square_of_64()[n / 20 % 3..].to_vec(), Vec::new()),
+                _ => State::default(),
+            };
             for asked in call_list(&mut random, kind, &state.clone(), 16) {
                 let (next, reply) = call(&state, asked);
                 if let Reply::Refused(number) = reply {
-                    seen[number as usize] += 1;
+                    seen.see(number);
+                    assert_eq!(next, state);
                 }
                 state = next;
             }
         }
     }
-    assert!(seen[7] > 50 && seen[8] > 50 && seen[9] > 50, "{seen:?}");
-    assert_eq!(seen[11], 0);
+    seen.are_exactly(&OF_CALL, 50);
 }
 
 #[test]
 fn the_order_of_entry_does_not_matter() {
     let mut random = Random::new(53);
+    let (mut differ, mut taps) = (0, 0);
     for kind in KINDS {
         for _ in 0..200 {
             let pins = pins(&mut random, kind, 10);
-            let mut other = pins.clone();
-            for i in (1..other.len()).rev() {
-                other.swap(i, random.range(0, i as i64) as usize);
-            }
+            let other = random.shuffled(&pins);
             let enter = |pins: &[Point]| {
-                let one = |state: State, pin: &Point| add(&state, *pin).0;
-                pins.iter().fold(State::default(), one)
+                let calls: Vec<Call> = pins.iter().map(|pin| Call::Add(pin.x, pin.y)).collect();
+                finish(&after(&calls).0)
             };
-            assert_eq!(finish(&enter(&pins)), finish(&enter(&other)));
+            assert_eq!(enter(&pins), enter(&other));
+            differ += usize::from(pins != other);
+            taps += enter(&pins).0.steiner.len();
         }
     }
+    assert!(differ > 1_200 && taps > 500, "{differ} differ, {taps} taps");
 }
 
 #[test]

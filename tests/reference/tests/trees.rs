@@ -60,7 +60,7 @@ fn compare(a: &[Edge], b: &[Edge]) -> Ordering {
         .unwrap_or(Ordering::Equal)
 }
 
-/// The tree of document 01 by its definition, and the number of least trees.
+/// The tree of SPEC 2.2 by its definition, and the number of least trees.
 fn enumerated(points: &[Point]) -> (Vec<Edge>, usize) {
     let count = points.len().saturating_sub(1);
     let mut trees = sets(&all_edges(points), count);
@@ -98,12 +98,16 @@ fn all_sets_of_a_small_grid() {
 #[test]
 fn random_sets_of_every_kind() {
     let mut random = Random::new(1);
+    let mut sizes = [0; 7];
     for kind in KINDS {
         for _ in 0..120 {
             let most = random.range(2, 6) as usize;
-            agrees(&pins(&mut random, kind, most));
+            let points = pins(&mut random, kind, most);
+            agrees(&points);
+            sizes[points.len()] += 1;
         }
     }
+    assert!(sizes[2..].iter().all(|&count| count > 50), "{sizes:?}");
 }
 
 #[test]
@@ -119,22 +123,23 @@ fn random_sets_of_even_pitch() {
 #[test]
 fn the_order_of_the_points_does_not_matter() {
     let mut random = Random::new(3);
+    let mut differ = 0;
     for kind in KINDS {
         for _ in 0..300 {
             let points = pins(&mut random, kind, 20);
-            let mut other = points.clone();
-            for i in (1..other.len()).rev() {
-                other.swap(i, random.range(0, i as i64) as usize);
-            }
+            let other = random.shuffled(&points);
             assert_eq!(tree(&points), tree(&other));
+            differ += usize::from(points != other);
         }
     }
+    assert!(differ > 1_800, "only {differ} in another order");
 }
 
 #[test]
 fn the_order_of_edges_is_total() {
     let points: Vec<Point> = (0..9).map(|i| Point::new(i % 3, i / 3)).collect();
     let edges = all_edges(&points);
+    assert_eq!(edges.len(), 36);
     for r in &edges {
         for s in &edges {
             assert_eq!(r.compare(*s).is_eq(), r == s);

@@ -2,8 +2,8 @@
 //! that the wrong turn would answer otherwise.
 
 use reference::cases::CASES;
-use reference::script::play;
-use reference::session::{call, Call, State};
+use reference::script::{call_of, play};
+use reference::session::{after, Call};
 
 /// The case's title up to the colon, the calls, and the answers to the last
 /// call and to the listing after it.
@@ -94,18 +94,6 @@ const EXAMPLES: [Example; 19] = [
     ("f2", SWEPT, "tap 0 2 fall 2", SWEPT_END),
 ];
 
-/// The call of a script's line.
-fn call_of(line: &str) -> Call {
-    let words: Vec<&str> = line.split(' ').collect();
-    let number = |place: usize| words[place].parse().unwrap();
-    match words[0] {
-        "add" => Call::Add(number(1), number(2)),
-        "withdraw" => Call::Withdraw(number(1), number(2)),
-        "round" => Call::Round,
-        _ => Call::Finish,
-    }
-}
-
 #[test]
 fn the_right_answers() {
     for (title, calls, answer, listing) in EXAMPLES {
@@ -119,11 +107,10 @@ fn the_right_answers() {
 #[test]
 fn the_wrong_turns_show() {
     for (title, calls, ..) in EXAMPLES {
-        let list: Vec<Call> = calls.split(", ").map(call_of).collect();
+        let call = |line: &str| call_of(&line.split(' ').collect::<Vec<_>>()).expect("a call");
+        let list: Vec<Call> = calls.split(", ").map(call).collect();
         let (&last, first) = list.split_last().unwrap();
-        let state = first
-            .iter()
-            .fold(State::default(), |state, &one| call(&state, one).0);
+        let state = after(first).0;
         let case = CASES
             .iter()
             .find(|case| case.title.starts_with(&format!("{title}:")));

@@ -5,13 +5,14 @@
 //! planner. Then what planner_plan takes for the plain files of the same decks,
 //! beside the run to the end alone.
 
-use compare::by_hand_run::run_to_end;
+use compare::binding::deck::Deck;
+use compare::binding::entries::plan;
+use compare::by_hand::afresh::run_afresh;
+use compare::by_hand::run::run_to_end;
+use compare::by_hand::{prim, sorted_pairs, Ended};
+use compare::check::runs::{ended, run_proved};
 use compare::cpu_time::timed;
-use compare::deck::Deck;
-use compare::points::on_grid;
-use compare::proved_planner::plan;
-use compare::runs::{ended, run_afresh, run_proved, Ended};
-use compare::{prim, sorted_pairs};
+use compare::input::points::on_grid;
 use reference::file::{read, write_plain, LONGEST};
 use reference::generate::Random;
 use reference::plane::Point;
@@ -123,7 +124,10 @@ impl Run {
             length = written;
         }
         let written = read(&out[..length]).expect("a deck file");
-        assert_eq!(written.steiner, expected.taps, "planner_plan, and the planner");
+        assert_eq!(
+            written.steiner, expected.taps,
+            "planner_plan, and the planner"
+        );
     }
 
     /// All ways on one deck, in turns; the first one only if asked for.
@@ -192,8 +196,13 @@ fn main() {
     println!("Milliseconds per deck. In brackets, the decks that 1 runs on.\n");
     println!("| pins | decks | rounds | 1: sorted pairs | 2: Prim | 3: by hand | 4: proved | 1 / 4 | 2 / 4 | 4 / 3 |");
     println!("|---|---:|---:|---:|---:|---:|---:|---:|---:|---:|");
-    let lines: Vec<String> = CASES.iter().map(|case| measure(case, &mut random)).collect();
-    println!("\nMilliseconds per deck: the run to the end alone, and planner_plan on the plain file.\n");
+    let lines: Vec<String> = CASES
+        .iter()
+        .map(|case| measure(case, &mut random))
+        .collect();
+    println!(
+        "\nMilliseconds per deck: the run to the end alone, and planner_plan on the plain file.\n"
+    );
     println!("| pins | 4: proved | planner_plan | planner_plan / 4 |");
     println!("|---|---:|---:|---:|");
     for line in &lines {

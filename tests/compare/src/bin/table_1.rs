@@ -3,11 +3,11 @@
 //! of 1000 by 1000, as the document has them. Its largest sizes are beyond 64
 //! pins and left out. The algorithm written by hand has to agree on every deck.
 
-use compare::by_hand_run::run_to_end;
-use compare::deck::Deck;
-use compare::points::on_grid;
-use compare::proved_questions::{ask, Question};
-use compare::runs::{ended, run_proved};
+use compare::binding::deck::Deck;
+use compare::binding::questions::{ask, Question};
+use compare::by_hand::run::run_to_end;
+use compare::check::runs::{ended, run_proved};
+use compare::input::points::on_grid;
 use reference::generate::Random;
 use reference::session::State;
 

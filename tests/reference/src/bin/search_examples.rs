@@ -5,17 +5,14 @@ use reference::cases::*;
 use reference::generate::Random;
 use reference::plane::Point;
 use reference::script::{call_line, reply_line};
-use reference::session::{call, Call, State};
+use reference::session::{after, call, Call, State};
 use reference::tree::length;
 use std::collections::BTreeMap;
 
 /// The way in which the case shows at the last call of a list, if at all.
 fn shows_last(calls: &[Call], shows: Shows) -> Option<String> {
     let (&last, first) = calls.split_last()?;
-    let state = first
-        .iter()
-        .fold(State::default(), |state, &one| call(&state, one).0);
-    shows(calls, &state, last)
+    shows(calls, &after(first).0, last)
 }
 
 /// The size of a list: too long, pins, calls, greatest coordinate, their sum.

@@ -1,0 +1,42 @@
+//! The proved programs, run as processes.
+
+use std::io::{self, Write};
+use std::path::{Path, PathBuf};
+use std::process::{Command, Stdio};
+use std::thread;
+
+/// A path in the repository.
+pub fn in_repository(path: &str) -> PathBuf {
+    Path::new(env!("CARGO_MANIFEST_DIR"))
+        .join("../..")
+        .join(path)
+}
+
+/// What a program prints for an input, and whether it took all of it.
+fn run(name: &str, input: &[u8]) -> (String, io::Result<()>) {
+    let mut child = Command::new(in_repository("target/bin").join(name))
+        .stdin(Stdio::piped())
+        .stdout(Stdio::piped())
+        .spawn()
+        .unwrap_or_else(|_| panic!("run `rt check {name}` in the repository first"));
+    let mut pipe = child.stdin.take().expect("its input");
+    let bytes = input.to_vec();
+    let writer = thread::spawn(move || pipe.write_all(&bytes));
+    let output = child.wait_with_output().expect("its output");
+    assert!(output.status.success());
+    let text = String::from_utf8(output.stdout).expect("text");
+    (text, writer.join().expect("a writer"))
+}
+
+/// What the listing program prints for a file. It reads 785 bytes at most, so
+/// the end of a longer file may find no reader.
+pub fn decklist(file: &[u8]) -> String {
+    run("decklist", file).0
+}
+
+/// What the script program answers to a script, which it takes to the end.
+pub fn deckplay(script: &[u8]) -> String {
+    let (answers, taken) = run("deckplay", script);
+    taken.expect("a script taken to the end");
+    answers
+}

@@ -1,0 +1,75 @@
+//! The proved questions, as `test_deck` has them. They take every deck, so each
+//! function around them is safe.
+
+use super::deck::Deck;
+use super::parts::Parts;
+
+mod library {
+    use crate::binding::deck::WORDS;
+
+    unsafe extern "C" {
+        /// Whether a deck is sound.
+        pub fn entry_is_valid(words: &[u64; WORDS]) -> bool;
+        /// The length of a deck.
+        pub fn entry_length(
+            words: &[u64; WORDS],
+            numbers: &mut [u64; 3],
+            places: &mut [i32; 4],
+        ) -> u8;
+        /// The numbers of pins, Steiner points and edges.
+        pub fn entry_counts(
+            words: &[u64; WORDS],
+            numbers: &mut [u64; 3],
+            places: &mut [i32; 4],
+        ) -> u8;
+        /// The edge at a place of the listing order.
+        pub fn entry_edge_at(
+            i: usize,
+            words: &[u64; WORDS],
+            numbers: &mut [u64; 3],
+            places: &mut [i32; 4],
+        ) -> u8;
+        /// The number of edges at a point.
+        pub fn entry_degree_at(
+            x: i32,
+            y: i32,
+            words: &[u64; WORDS],
+            numbers: &mut [u64; 3],
+            places: &mut [i32; 4],
+        ) -> u8;
+    }
+}
+
+/// A question with parts for its answer.
+#[derive(Clone, Copy, Debug, PartialEq, Eq)]
+pub enum Question {
+    Length,
+    Counts,
+    EdgeAt(usize),
+    DegreeAt(i32, i32),
+}
+
+/// Whether the deck is sound.
+pub fn is_valid(deck: &Deck) -> bool {
+    // SAFETY: the words are lent whole.
+    unsafe { library::entry_is_valid(&deck.words) }
+}
+
+/// The answer to a question, in its parts.
+pub fn ask(deck: &Deck, question: Question) -> Parts {
+    let mut parts = Parts::before();
+    let (w, p) = (&deck.words, &mut parts);
+    macro_rules! make {
+        ($entry:ident $(, $argument:expr)*) => {
+            // SAFETY: the words are lent whole, and each part alone.
+            unsafe { library::$entry($($argument,)* w, &mut p.numbers, &mut p.places) }
+        };
+    }
+    p.kind = match question {
+        Question::Length => make!(entry_length),
+        Question::Counts => make!(entry_counts),
+        Question::EdgeAt(i) => make!(entry_edge_at, i),
+        Question::DegreeAt(x, y) => make!(entry_degree_at, x, y),
+    };
+    parts
+}

@@ -1,0 +1,110 @@
+//! Lists of calls in bytes, as include/replay.h says.
+
+use reference::generate::Random;
+use reference::session::Call;
+
+/// The bytes of a call: its number, three that are not looked at, x and y.
+pub const SIZE: usize = 12;
+
+/// The ends of 32 bits.
+const LEAST: i64 = i32::MIN as i64;
+const MOST: i64 = i32::MAX as i64;
+
+/// The bytes of a number and two coordinates.
+fn twelve(number: u8, unused: [u8; 3], x: i64, y: i64) -> [u8; SIZE] {
+    let mut bytes = [0; SIZE];
+    bytes[0] = number;
+    bytes[1..4].copy_from_slice(&unused);
+    for (place, z) in [(4, x), (8, y)] {
+        let coordinate = i32::try_from(z).expect("a coordinate of 32 bits");
+        bytes[place..place + 4].copy_from_slice(&coordinate.to_le_bytes());
+    }
+    bytes
+}
+
+/// Bytes that are not looked at, often all zeros.
+fn any_unused(random: &mut Random) -> [u8; 3] {
+    match random.range(0, 2) {
+        0 => [0; 3],
+        _ => [(); 3].map(|()| random.draw() as u8),
+    }
+}
+
+/// A coordinate of any 32 bits, often near one of the limits.
+fn any_coordinate(random: &mut Random) -> i64 {
+    let near = random.pick(&[LEAST, MOST, -30_001, -30_000, 0, 30_000, 30_001, 65_536]);
+    match random.range(0, 3) {
+        0 => random.draw() as i32 as i64,
+        1 => (near + random.range(-2, 2)).clamp(LEAST, MOST),
+        _ => random.range(-4, 4),
+    }
+}
+
+/// The bytes of a number, with any other bytes.
+pub fn numbered_bytes(random: &mut Random, number: u8) -> [u8; SIZE] {
+    let (x, y) = (any_coordinate(random), any_coordinate(random));
+    twelve(number, any_unused(random), x, y)
+}
+
+/// The bytes of a call. A round and a run to the end have any coordinates.
+pub fn call_bytes(random: &mut Random, asked: Call) -> [u8; SIZE] {
+    let unused = any_unused(random);
+    match asked {
+        Call::Add(x, y) => twelve(0, unused, x, y),
+        Call::Withdraw(x, y) => twelve(1, unused, x, y),
+        Call::Round => numbered_bytes(random, 2),
+        Call::Finish => numbered_bytes(random, 3),
+    }
+}
+
+/// The bytes of no call: any number from 4 on, those that may be settled later
+/// and the last one often.
+pub fn no_call_bytes(random: &mut Random) -> [u8; SIZE] {
+    let other = random.range(4, 255) as u8;
+    let number = random.pick(&[4, 5, 255, other]);
+    numbered_bytes(random, number)
+}
+
+/// A call of any number and any coordinates, or no call.
+pub fn any_call_bytes(random: &mut Random) -> [u8; SIZE] {
+    match random.range(0, 3) {
+        0 => no_call_bytes(random),
+        _ => {
+            let number = random.pick(&[0, 0, 0, 1, 1, 2, 3, 3]);
+            numbered_bytes(random, number)
+        }
+    }
+}
+
+/// The call in twelve bytes, if there is one.
+fn call_of(twelve: &[u8]) -> Option<Call> {
+    let coordinate = |place: usize| {
+        let four = twelve[place..place + 4].try_into().unwrap();
+        i32::from_le_bytes(four) as i64
+    };
+    let (x, y) = (coordinate(4), coordinate(8));
+    match twelve[0] {
+        0 => Some(Call::Add(x, y)),
+        1 => Some(Call::Withdraw(x, y)),
+        2 => Some(Call::Round),
+        3 => Some(Call::Finish),
+        _ => None,
+    }
+}
+
+/// The calls of a list in bytes.
+pub fn calls_of(bytes: &[u8]) -> Vec<Call> {
+    bytes.chunks_exact(SIZE).filter_map(call_of).collect()
+}
+
+/// A list with zeros in the bytes that are not looked at.
+pub fn with_zeros(bytes: &[u8]) -> Vec<u8> {
+    let mut zeroed = bytes.to_vec();
+    for twelve in zeroed.chunks_exact_mut(SIZE) {
+        twelve[1..4].fill(0);
+        if twelve[0] >= 2 {
+            twelve[4..].fill(0);
+        }
+    }
+    zeroed
+}

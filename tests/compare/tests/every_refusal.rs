@@ -1,0 +1,134 @@
+//! Every number of a refusal from everything that can give it, and no other:
+//! what was handed in is left as it was, and what was lent too.
+
+use compare::binding::deck::{Deck, STEINER_COUNT, WORDS};
+use compare::binding::programs::{decklist, deckplay};
+use compare::check::entries::Seen;
+use compare::check::questions;
+use compare::check::replays::replayed;
+use compare::check::replies::Replies;
+use compare::check::sessions::refused_call;
+use compare::input::call_bytes::call_bytes;
+use reference::damage::damaged;
+use reference::examples::{comb, cross, points, EXAMPLE};
+use reference::file::{write, write_plain};
+use reference::generate::Random;
+use reference::refusals::{refused_calls, refused_scripts, Refusals, NOT_SOUND};
+use reference::refusals::{OF_ANY_DECK, OF_CALL, OF_ENTRY, OF_FILE, OF_SCRIPT};
+use reference::session::{Call, State};
+
+/// The planner for C: 1 to 6 and 12, and the buffer keeps every byte.
+#[test]
+fn of_the_planner_for_c() {
+    let mut random = Random::new(101);
+    let mut seen = Seen::default();
+    for number in OF_FILE {
+        for _ in 0..50 {
+            let file = damaged(&mut random, &[number]);
+            assert_eq!(seen.plan(&file), Err(number));
+        }
+    }
+    for state in [State::default(), cross(), comb(62)] {
+        assert_eq!(seen.plan(&write(&state)), Ok(write(&state)));
+    }
+    let plain = write_plain(&points(&EXAMPLE));
+    assert_eq!(seen.plan(&plain).map(|file| file.len()), Ok(52));
+    seen.refused.are_exactly(&OF_ENTRY, 8);
+}
+
+/// Lists of calls for C: 1 to 6 and 12, and the buffer keeps every byte.
+#[test]
+fn of_lists_of_calls_for_c() {
+    let mut random = Random::new(102);
+    let mut seen = Seen::default();
+    let add = call_bytes(&mut random, Call::Add(7, 9));
+    for number in OF_FILE {
+        for _ in 0..50 {
+            let file = damaged(&mut random, &[number]);
+            if !file.is_empty() {
+                seen.replay(&file, &add, &Err(number));
+            }
+        }
+    }
+    for state in [State::default(), cross(), comb(61)] {
+        let expected = replayed(&write(&state), &add, &mut Replies::default());
+        seen.replay(&write(&state), &add, &expected);
+    }
+    seen.refused.are_exactly(&OF_ENTRY, 6);
+}
+
+/// A call in a list for C that is refused, by 7, 8, 9 or 10, leaves the deck;
+/// one behind it is made all the same.
+#[test]
+fn of_the_calls_in_a_list_for_c() {
+    let mut random = Random::new(103);
+    let mut seen = Seen::default();
+    let mut replies = Replies::default();
+    for (state, asked, _) in refused_calls() {
+        let file = write(&state);
+        let refused = call_bytes(&mut random, asked);
+        assert_eq!(replayed(&file, &refused, &mut replies), Ok(file.clone()));
+        seen.replay(&file, &refused, &Ok(file.clone()));
+        if let Some(&pin) = state.pins.first() {
+            let leave = call_bytes(&mut random, Call::Withdraw(pin.x, pin.y));
+            let left = replayed(&file, &leave, &mut Replies::default());
+            assert_ne!(left, Ok(file.clone()));
+            seen.replay(&file, &[refused, leave].concat(), &left);
+        }
+    }
+    replies.refused.are_exactly(&OF_CALL, 19);
+    assert!(seen.given > 250, "{seen:?}");
+}
+
+/// Calls and questions on a deck: 7, 8, 9 and 10 on a sound one, 11 before all
+/// of them on one with a tap too many or a number in the last place, which no
+/// deck uses. The deck is handed back, in every word.
+#[test]
+fn of_a_deck() {
+    let mut seen = Refusals::default();
+    for (state, asked, number) in refused_calls() {
+        let deck = Deck::of(&state);
+        refused_call(&deck, asked, number);
+        seen.see(number);
+        let one_tap_more = deck.with(STEINER_COUNT, deck.words[STEINER_COUNT] + 1);
+        for damaged in [one_tap_more, deck.with(WORDS - 1, 1)] {
+            for any in [asked, Call::Round, Call::Finish] {
+                refused_call(&damaged, any, NOT_SOUND);
+                seen.see(NOT_SOUND);
+            }
+            questions::all_refused(&damaged, &state);
+        }
+    }
+    seen.are_exactly(&OF_ANY_DECK, 19);
+}
+
+/// The listing program: 1 to 6, in one line that says nothing else.
+#[test]
+fn of_the_listing_program() {
+    let mut random = Random::new(104);
+    let mut seen = Refusals::default();
+    for number in OF_FILE {
+        for _ in 0..20 {
+            let file = damaged(&mut random, &[number]);
+            assert_eq!(decklist(&file), format!("refused {number}\n"));
+            seen.see(number);
+        }
+    }
+    seen.are_exactly(&OF_FILE, 20);
+}
+
+/// The script program: every number but 11, which no script can cause. The deck
+/// is left; reading leaves an empty one.
+#[test]
+fn of_the_script_program() {
+    let mut random = Random::new(105);
+    let mut seen = Refusals::default();
+    let (mut script, mut expected) = (String::new(), String::new());
+    for (lines, answers, number) in refused_scripts(&mut random) {
+        script += &lines;
+        expected += &answers;
+        seen.see(number);
+    }
+    assert_eq!(deckplay(script.as_bytes()), expected);
+    seen.are_exactly(&OF_SCRIPT, 19);
+}

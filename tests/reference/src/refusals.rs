@@ -1,0 +1,166 @@
+//! Refusals for tests: calls and scripts that are refused, decks that are not
+//! sound, and which numbers a test has seen.
+
+use crate::damage::damaged;
+use crate::examples::{comb, cross, deck, points, square_of_64};
+use crate::file::write;
+use crate::generate::Random;
+use crate::plane::Point;
+use crate::script::{call_line, hex_of};
+use crate::session::{Call, State};
+
+/// The numbers by which a file is refused.
+pub const OF_FILE: [u8; 6] = [1, 2, 3, 4, 5, 6];
+
+/// The numbers by which a call on a sound deck is refused: 7, 8 and 10 for
+/// adding, 9 for withdrawing.
+pub const OF_CALL: [u8; 4] = [7, 8, 9, 10];
+
+/// The numbers that an entry for C answers: those of a file, and 12.
+pub const OF_ENTRY: [u8; 7] = [1, 2, 3, 4, 5, 6, 12];
+
+/// The numbers that a call on any deck at all is refused by: those of a call on
+/// a sound one, and 11.
+pub const OF_ANY_DECK: [u8; 5] = [7, 8, 9, 10, 11];
+
+/// The numbers that a script can cause: all but 11, since its decks are sound.
+pub const OF_SCRIPT: [u8; 11] = [1, 2, 3, 4, 5, 6, 7, 8, 9, 10, 12];
+
+/// The number for a deck that is not sound.
+pub const NOT_SOUND: u8 = 11;
+
+/// The number for a buffer that is shorter than the file.
+pub const NO_ROOM: u8 = 12;
+
+/// How many refusals of each number a test has seen.
+#[derive(Clone, Debug, Default, PartialEq, Eq)]
+pub struct Refusals {
+    counts: [usize; 13],
+}
+
+impl Refusals {
+    /// Counts one refusal; there are the numbers from 1 to 12 only.
+    pub fn see(&mut self, number: u8) {
+        assert!((1..=12).contains(&number), "no refusal has {number}");
+        self.counts[number as usize] += 1;
+    }
+
+    /// How many refusals had this number.
+    pub fn by(&self, number: u8) -> usize {
+        self.counts[number as usize]
+    }
+
+    /// How many refusals there were.
+    pub fn total(&self) -> usize {
+        self.counts.iter().sum()
+    }
+
+    /// Panics unless each of these numbers was seen so many times or more, and no
+    /// other number at all.
+    #[track_caller]
+    pub fn are_exactly(&self, numbers: &[u8], least: usize) {
+        assert!(least > 0);
+        for number in 1..=12 {
+            let right = match numbers.contains(&number) {
+                true => self.by(number) >= least,
+                false => self.by(number) == 0,
+            };
+            assert!(right, "{number} of {numbers:?}: {:?}", self.counts);
+        }
+    }
+}
+
+/// Sound decks with calls that are refused, and by which number. Where a call
+/// has two faults, the number is that of the check that comes first.
+pub fn refused_calls() -> Vec<(State, Call, u8)> {
+    let (least, most) = (i64::from(i32::MIN), i64::from(i32::MAX));
+    let full = State::new(square_of_64(), Vec::new());
+    let mut cases = Vec::new();
+    for state in [
+        State::default(),
+        deck(&[(0, 0)]),
+        cross(),
+        full.clone(),
+        comb(62),
+    ] {
+        for out in [30_001, -30_001, least, most] {
+            for (x, y) in [(out, 1), (1, out), (out, out)] {
+                cases.push((state.clone(), Call::Add(x, y), 7));
+                cases.push((state.clone(), Call::Withdraw(x, y), 9));
+            }
+        }
+        for pin in state.pins.iter().step_by(5) {
+            cases.push((state.clone(), Call::Add(pin.x, pin.y), 8));
+        }
+        for tap in state.steiner.iter().step_by(5) {
+            cases.push((state.clone(), Call::Withdraw(tap.x, tap.y), 9));
+            if state.pins.len() == 64 {
+                cases.push((state.clone(), Call::Add(tap.x, tap.y), 10));
+            }
+        }
+        cases.push((state.clone(), Call::Withdraw(5, 1), 9));
+    }
+    for (x, y) in [(5, 5), (-30_000, 30_000), (70, 71)] {
+        cases.push((full.clone(), Call::Add(x, y), 10));
+        cases.push((comb(62), Call::Add(x, y), 10));
+    }
+    cases
+}
+
+/// Decks that are not sound, each by one rule.
+pub fn unsound() -> Vec<State> {
+    let state = |pins: &[(i64, i64)], taps: &[(i64, i64)]| State {
+        pins: points(pins),
+        steiner: points(taps),
+    };
+    let mut many = square_of_64();
+    many.push(Point::new(100, 100));
+    vec![
+        state(&[(1, 0), (0, 0)], &[]),
+        state(&[(0, 0), (0, 0)], &[]),
+        state(&[(30_001, 0)], &[]),
+        state(&[(0, -30_001)], &[]),
+        state(&[(0, 0), (10, 0)], &[(5, 0)]),
+        state(&[], &[(5, 0)]),
+        state(&[(0, 5), (5, 0), (5, 5), (5, 10), (10, 5)], &[(5, 5)]),
+        state(
+            &[(0, 0), (5, 8), (10, 0), (40, 0), (45, 8), (50, 0)],
+            &[(45, 0), (5, 0)],
+        ),
+        State::new(many, Vec::new()),
+    ]
+}
+
+/// Scripts that end in a refusal, the answers to them, and the number. Each
+/// reads a deck, asks for what is refused and writes the deck that is left: the
+/// same one, or an empty one if it was a file that was refused.
+pub fn refused_scripts(random: &mut Random) -> Vec<(String, String, u8)> {
+    let file = |state: &State| hex_of(&write(state));
+    let script = |state: &State, line: String, left: &State, number: u8| {
+        let (before, after) = (file(state), file(left));
+        let size = write(left).len();
+        (
+            format!("read {before}\n{line}\nwrite\n"),
+            format!("ok\nrefused {number}\nfile {size} {after}\n"),
+            number,
+        )
+    };
+    let mut scripts = Vec::new();
+    for (state, asked, number) in refused_calls() {
+        scripts.push(script(&state, call_line(asked), &state, number));
+    }
+    for number in OF_FILE {
+        for _ in 0..20 {
+            let line = format!("read {}", hex_of(&damaged(random, &[number])));
+            scripts.push(script(&cross(), line, &State::default(), number));
+        }
+    }
+    for state in [State::default(), cross(), comb(62)] {
+        let size = write(&state).len();
+        for short in (0..10).chain(size - 10..size) {
+            let line = format!("write {short}");
+            scripts.push(script(&state, line, &state, NO_ROOM));
+        }
+    }
+    scripts
+}
