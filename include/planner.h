@@ -19,8 +19,8 @@ extern "C" {
 /* Stack for a thread that makes a call, in bytes; the call itself takes some 180,000. */
 #define PLANNER_STACK 196608
 
-/* Reads a deck file, runs to the end and writes the deck file into out. Returns the length written, always 30 or more, or the
- * number of the refusal:
+/* Reads a deck file, runs to the end and writes the deck file into out. Returns how many bytes it wrote, 30 at least, or the number of
+ * a refusal:
  *   1  fewer than 30 or more than 784 bytes, not DECK, or not 3 sections
  *   2  an offset or a length that the format does not have
  *   3  the length of pins or taps is no multiple of 4, or that of runs none of 2

@@ -33,7 +33,7 @@ extern "C" {
  * unused bytes are not looked at, and fewer than twelve bytes at the end are no call; what other numbers, and other bytes in the
  * unused places, mean may be settled later. A call that is refused leaves the deck, and the next one follows.
  *
- * Returns the length written, always 30 or more, or the number of the refusal:
+ * Returns how many bytes it wrote, 30 at least, or the number of a refusal:
  *   1  fewer than 30 or more than 784 bytes, not DECK, or not 3 sections
  *   2  an offset or a length that the format does not have
  *   3  the length of pins or taps is no multiple of 4, or that of runs none of 2

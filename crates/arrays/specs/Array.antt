@@ -9,7 +9,7 @@ use lib.ListN.{length, drop, replicate}
 use Rattle.arrays.specs.Test.{if}
 use Rattle.arrays.specs.Set.{all, has, tie}
 
--- Of the first n elements the set l is left, in front; zeros fill the places freed; nothing behind changed; r counts l.
+-- Of the first n elements the set l stays, in front; zeros fill the places freed; nothing behind changed; r counts l.
 pub record Removed (l before after : List ℕ) (n r : ℕ) : Type 0 where
   pub count : r ≡ length l
   pub shows : after ≡ l ++ (replicate (n - length l) 0 ++ drop n before)

@@ -7,7 +7,7 @@ use Rattle.arrays.specs.Test.{if}
 abbrev pub tie : {A : Type 0} → (A → A → Bool) → A → A → Bool
 tie less a b = not (less a b) && not (less b a)
 
--- The set with a: put in its place, or left as it is where a stands there already.
+-- The set with a: put in its place, or as it is where a stands there already.
 unfoldable pub put : {A : Type 0} → (A → A → Bool) → A → List A → List A
 put less a [] = a ∷ []
 put less a (b ∷ l) =

@@ -4,7 +4,7 @@ ghost use Prim.Native.Nat.{_+_, _≤_, _<_};
 ghost use lib.ListN.{length};
 ghost use Rattle.arrays.specs.Paste.{Pasted};
 
-// One byte.
+// Puts one byte at place `at`. Returns the place behind it.
 pub fn put_byte(out: &mut [u8], at: usize, b: u8) -> usize
     requires { ⌜ at < length (now out) ⌝ }
     ensures { λ r. ⌜ Pasted (b ∷ []) (now (out .entry)) (now (out .exit)) at r ⌝ }
@@ -13,7 +13,7 @@ pub fn put_byte(out: &mut [u8], at: usize, b: u8) -> usize
     at + 1
 }
 
-// The bytes of another slice.
+// Puts the bytes of another slice from place `at` on. Returns the place behind them.
 pub fn put_bytes(out: &mut [u8], at: usize, items: &[u8]) -> usize
     requires { ⌜ at + length (now items) ≤ length (now out) ⌝ }
     ensures { λ r. ⌜ Pasted (now (items .entry)) (now (out .entry)) (now (out .exit)) at r ⌝ }
@@ -26,7 +26,7 @@ pub fn put_bytes(out: &mut [u8], at: usize, items: &[u8]) -> usize
     at + i
 }
 
-// The numbers of another slice.
+// Puts the numbers of another slice from place `at` on. Returns the place behind them.
 pub fn put_numbers(out: &mut [u64], at: usize, items: &[u64]) -> usize
     requires { ⌜ at + length (now items) ≤ length (now out) ⌝ }
     ensures { λ r. ⌜ Pasted (now (items .entry)) (now (out .entry)) (now (out .exit)) at r ⌝ }

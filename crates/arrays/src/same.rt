@@ -2,7 +2,7 @@
 ghost use mathlib.Core.Path.{_≡_};
 ghost use Rattle.arrays.specs.Same.{sameList};
 
-// Whether two slices hold the same bytes.
+// Returns whether two slices hold the same bytes.
 pub fn same_bytes(a: &[u8], b: &[u8]) -> bool
     ensures { λ r. ⌜ r ≡ sameList (now (a .entry)) (now (b .entry)) ⌝ }
 {
@@ -19,7 +19,7 @@ pub fn same_bytes(a: &[u8], b: &[u8]) -> bool
     true
 }
 
-// Whether two slices hold the same numbers.
+// Returns whether two slices hold the same numbers.
 pub fn same_numbers(a: &[u64], b: &[u64]) -> bool
     ensures { λ r. ⌜ r ≡ sameList (now (a .entry)) (now (b .entry)) ⌝ }
 {

@@ -1,15 +1,16 @@
--- A file in hexadecimal, and a text of several lines on one line.
+-- A file in hexadecimal, and a text of several lines on one line, as the script program answers them (SPEC 9.3).
 use mathlib.Core.List.{List, [], _∷_, _++_}
 use Prim.Native.Nat.{ℕ, _+_, _-_, _/_, _%_}
 use lib.Dec.{ltb, eqb}
 use lib.ListN.{length, take, getD}
 use Rattle.arrays.specs.Paste.{each}
 use Rattle.arrays.specs.Test.{if}
+use Rattle.arrays.specs.Text.{bytes, byte}
 use Rattle.model.specs.Listing.{field, decimal, lineFeed}
 
 -- The digit of a number below 16: 0 to 9, a to f.
 abbrev pub hexDigit : ℕ → ℕ
-hexDigit n = if (ltb n 10) (λ _. 48 + n) (λ _. 87 + n)
+hexDigit n = if (ltb n 10) (λ _. byte "0" + n) (λ _. byte "a" + (n - 10))
 
 -- Two digits for each byte.
 abbrev pub hexPair : ℕ → List ℕ
@@ -17,14 +18,14 @@ hexPair b = hexDigit (b / 16) ∷ hexDigit (b % 16) ∷ []
 
 -- The word file, and the line of a file: `file LENGTH HEX`.
 abbrev pub fileWord : List ℕ
-fileWord = 102 ∷ 105 ∷ 108 ∷ 101 ∷ []
+fileWord = bytes "file"
 
 abbrev pub fileText : List ℕ → List ℕ
 fileText l = fileWord ++ (field (decimal (length l)) ++ field (each hexPair l))
 
 -- A line feed becomes ` / `; any other byte stays.
 abbrev pub spread : ℕ → List ℕ
-spread b = if (eqb b lineFeed) (λ _. 32 ∷ 47 ∷ 32 ∷ []) (λ _. b ∷ [])
+spread b = if (eqb b lineFeed) (λ _. bytes " / ") (λ _. b ∷ [])
 
 -- How many bytes a text has without the line feed that ends it.
 abbrev pub bodyLength : List ℕ → ℕ

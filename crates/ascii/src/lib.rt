@@ -24,7 +24,7 @@ fn digits(n: u64, places: &mut [u8]) -> usize
     let mut i = DIGITS;
     while 0 < i {
         i -= 1;
-        places[i] = (48 + rest % 10) as u8;
+        places[i] = b'0' + (rest % 10) as u8;
         if rest < 10 {
             return i;
         }
@@ -33,7 +33,7 @@ fn digits(n: u64, places: &mut [u8]) -> usize
     i
 }
 
-// A number in base ten, of at most 20 digits.
+// Puts a number in base ten, at most 20 digits, from place `at` on. Returns the place behind it.
 pub fn decimal(out: &mut [u8], at: usize, n: u64) -> usize
     requires { ⌜ at + mostDigits ≤ length (now out) ⌝ }
     ensures { λ r. ⌜ Pasted (model.decimal n) (now (out .entry)) (now (out .exit)) at r ⌝ }
@@ -51,7 +51,7 @@ fn magnitude(z: i32) -> u64
     if z < 0 { (-1 - z) as u64 + 1 } else { z as u64 }
 }
 
-// A whole number in base ten, with a minus sign in front where it is negative.
+// Puts a whole number in base ten from place `at` on, with a minus sign in front of a negative one. Returns the place behind it.
 pub fn signed(out: &mut [u8], at: usize, z: i32) -> usize
     requires { ⌜ at + signedRoom ≤ length (now out) ⌝ }
     ensures { λ r. ⌜ Pasted (model.signedDecimal z) (now (out .entry)) (now (out .exit)) at r ⌝ }
@@ -64,7 +64,7 @@ pub fn signed(out: &mut [u8], at: usize, z: i32) -> usize
     decimal(out, at, magnitude(z))
 }
 
-// A space and a number.
+// Puts a space and a number. Returns the place behind them.
 pub fn decimal_field(out: &mut [u8], at: usize, n: u64) -> usize
     requires { ⌜ at + fieldRoom ≤ length (now out) ⌝ }
     ensures { λ r. ⌜ Pasted (model.field (model.decimal n)) (now (out .entry)) (now (out .exit)) at r ⌝ }
@@ -74,7 +74,7 @@ pub fn decimal_field(out: &mut [u8], at: usize, n: u64) -> usize
     decimal(out, next, n)
 }
 
-// A space and a whole number.
+// Puts a space and a whole number. Returns the place behind them.
 pub fn signed_field(out: &mut [u8], at: usize, z: i32) -> usize
     requires { ⌜ at + signedFieldRoom ≤ length (now out) ⌝ }
     ensures { λ r. ⌜ Pasted (model.field (model.signedDecimal z)) (now (out .entry)) (now (out .exit)) at r ⌝ }

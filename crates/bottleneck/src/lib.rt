@@ -64,7 +64,8 @@ fn clear_diagonal(n: usize, table: &mut [u32])
     }
 }
 
-// Fills the table from the first m keys, which rise and connect the first n numbers. What the table holds before is of no account.
+// Fills the table from the first m keys, which rise and connect the first n numbers: entry (u, v) becomes the least x such that keys of
+// weight at most x connect u and v. What the table holds before is of no account. Returns nothing.
 pub fn fill(keys: &[u64], m: usize, n: usize, table: &mut [u32])
     requires { ⌜ FillRequires (now keys) m n (length (now table)) ⌝ }
     ensures { λ _. ⌜ Bottlenecks (take m (now (keys .entry))) n (now (table .exit)) ⌝ }

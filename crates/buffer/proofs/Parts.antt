@@ -8,24 +8,24 @@ use Rattle.arrays.specs.Paste.{Pasted, each}
 use Rattle.arrays.proofs.paste.Lines.{each-next}
 use Rattle.arrays.proofs.paste.Parts.{pasted-same, pasted-then}
 use Rattle.model.specs.File.{header}
-use Rattle.sections.specs.Bytes.{edgeTwo, pointFour}
+use Rattle.sections.specs.Bytes.{endsBytes, codeBytes}
 use Rattle.buffer.specs.Parts.{fileParts, PartsFit}
 
 module _ {pins : List ℕ} {n : ℕ} {steiner : List ℕ} {m : ℕ} {ends old : List ℕ} (k : PartsFit pins n steiner m ends old) where
   -- The place behind the pins, and behind the Steiner points.
-  pub pins-end : {l o : List ℕ} {at r : ℕ} → Pasted (each pointFour (take n pins)) l o at r → r ≡ at + 4 * n
-  pins-end p = each-next pointFour 4 (λ _. refl) pins n (k .inPins) p
+  pub pins-end : {l o : List ℕ} {at r : ℕ} → Pasted (each codeBytes (take n pins)) l o at r → r ≡ at + 4 * n
+  pins-end p = each-next codeBytes 4 (λ _. refl) pins n (k .inPins) p
 
-  pub steiner-end : {l o : List ℕ} {at r : ℕ} → Pasted (each pointFour (take m steiner)) l o at r → r ≡ at + 4 * m
-  steiner-end p = each-next pointFour 4 (λ _. refl) steiner m (k .inSteiner) p
+  pub steiner-end : {l o : List ℕ} {at r : ℕ} → Pasted (each codeBytes (take m steiner)) l o at r → r ≡ at + 4 * m
+  steiner-end p = each-next codeBytes 4 (λ _. refl) steiner m (k .inSteiner) p
 
   pub parts-put : {e : ℕ} → e ≡ n + m - 1 → {o₁ o₂ o₃ o₄ : List ℕ} {a b c r : ℕ} → Pasted (header (4 * n) (4 * m) (2 * e)) old o₁ 0 a
-      → Pasted (each pointFour (take n pins)) o₁ o₂ a b → Pasted (each pointFour (take m steiner)) o₂ o₃ b c → Pasted (each edgeTwo (take e ends)) o₃ o₄ c r
+      → Pasted (each codeBytes (take n pins)) o₁ o₂ a b → Pasted (each codeBytes (take m steiner)) o₂ o₃ b c → Pasted (each endsBytes (take e ends)) o₃ o₄ c r
       → Pasted (fileParts pins n steiner m ends) old o₄ 0 r
   parts-put {e} is p q s t =
       pasted-same
       (append-assoc (H ++ P) Q R ∙ append-assoc H P (Q ++ R)
-      ∙ ap (λ (z : ℕ). header (4 * n) (4 * m) (2 * z) ++ (P ++ (Q ++ each edgeTwo (take z ends)))) is)
+      ∙ ap (λ (z : ℕ). header (4 * n) (4 * m) (2 * z) ++ (P ++ (Q ++ each endsBytes (take z ends)))) is)
       (pasted-then (pasted-then (pasted-then p (omega (arith, p .next, k .room)) q) (omega (arith, p .next, pins-end q, k .room)) s)
       (omega (arith, p .next, pins-end q, steiner-end s, k .room)) t)
     where
@@ -33,10 +33,10 @@ module _ {pins : List ℕ} {n : ℕ} {steiner : List ℕ} {m : ℕ} {ends old : 
       H = header (4 * n) (4 * m) (2 * e)
 
       P : List ℕ
-      P = each pointFour (take n pins)
+      P = each codeBytes (take n pins)
 
       Q : List ℕ
-      Q = each pointFour (take m steiner)
+      Q = each codeBytes (take m steiner)
 
       R : List ℕ
-      R = each edgeTwo (take e ends)
+      R = each endsBytes (take e ends)

@@ -6,13 +6,13 @@ use Rattle.model.specs.State.{maxPins}
 use Rattle.model.specs.File.{headerSize, header}
 use Rattle.points.specs.Coded.{maxSteiner}
 use Rattle.arrays.specs.Paste.{each}
-use Rattle.sections.specs.Bytes.{edgeTwo, pointFour}
+use Rattle.sections.specs.Bytes.{endsBytes, codeBytes}
 
 -- The file of n pins and m Steiner points kept as codes, and of the edges of their tree kept as numbers.
 abbrev pub fileParts : List ℕ → ℕ → List ℕ → ℕ → List ℕ → List ℕ
 fileParts pins n steiner m ends =
     header (4 * n) (4 * m) (2 * (n + m - 1))
-    ++ (each pointFour (take n pins) ++ (each pointFour (take m steiner) ++ each edgeTwo (take (n + m - 1) ends)))
+    ++ (each codeBytes (take n pins) ++ (each codeBytes (take m steiner) ++ each endsBytes (take (n + m - 1) ends)))
 
 -- What is to be written stands in arrays, and there is room for it.
 pub record PartsFit (pins : List ℕ) (n : ℕ) (steiner : List ℕ) (m : ℕ) (ends out : List ℕ) : Type 0 where

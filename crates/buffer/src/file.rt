@@ -14,7 +14,7 @@ ghost use Rattle.model.specs.File.{headerSize};
 ghost use Rattle.points.specs.Coded.{maxSteiner};
 ghost use Rattle.buffer.specs.Parts.{fileParts, PartsFit};
 
-// How long the file of n pins and m Steiner points is.
+// Returns how many bytes the file of n pins and m Steiner points has.
 pub fn length_for(n: usize, m: usize) -> usize
     requires { ⌜ (n ≤ maxPins) × (m ≤ maxSteiner) ⌝ }
     ensures { λ r. ⌜ r ≡ headerSize + 4 * n + 4 * m + 2 * (n + m - 1) ⌝ }

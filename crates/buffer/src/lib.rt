@@ -17,7 +17,7 @@ ghost use lib.ListN.{length, take};
 ghost use Rattle.arrays.specs.Number.{bytes4};
 ghost use Rattle.arrays.specs.Paste.{Pasted, each};
 ghost use Rattle.model.specs.File.{headerSize, header};
-ghost use Rattle.sections.specs.Bytes.{edgeTwo, pointFour};
+ghost use Rattle.sections.specs.Bytes.{endsBytes, codeBytes};
 
 // Puts the pair of offset and length of a section.
 fn put_pair(offset: usize, size: usize, out: &mut [u8], at: usize) -> usize
@@ -28,7 +28,7 @@ fn put_pair(offset: usize, size: usize, out: &mut [u8], at: usize) -> usize
     put4(out, next, size)
 }
 
-// Puts the header of sections of so many bytes.
+// Puts the header for sections of so many bytes at the front. Returns the place behind it.
 pub fn put_header(pins: usize, steiner: usize, edges: usize, out: &mut [u8]) -> usize
     requires { ⌜ (headerSize ≤ length (now out)) × (pins ≤ 1000) × (steiner ≤ 1000) ⌝ }
     ensures { λ r. ⌜ Pasted (header pins steiner edges) (now (out .entry)) (now (out .exit)) 0 r ⌝ }
@@ -43,7 +43,7 @@ pub fn put_header(pins: usize, steiner: usize, edges: usize, out: &mut [u8]) -> 
 // Puts the point that a code stands for.
 fn put_point(k: u64, out: &mut [u8], at: usize) -> usize
     requires { ⌜ at + 4 ≤ length (now out) ⌝ }
-    ensures { λ r. ⌜ Pasted (pointFour k) (now (out .entry)) (now (out .exit)) at r ⌝ }
+    ensures { λ r. ⌜ Pasted (codeBytes k) (now (out .entry)) (now (out .exit)) at r ⌝ }
 {
     let next = put2(out, at, word_of(x_of(k)));
     put2(out, next, word_of(y_of(k)))
@@ -52,16 +52,16 @@ fn put_point(k: u64, out: &mut [u8], at: usize) -> usize
 // Puts an edge.
 fn put_edge(k: u64, out: &mut [u8], at: usize) -> usize
     requires { ⌜ at + 2 ≤ length (now out) ⌝ }
-    ensures { λ r. ⌜ Pasted (edgeTwo k) (now (out .entry)) (now (out .exit)) at r ⌝ }
+    ensures { λ r. ⌜ Pasted (endsBytes k) (now (out .entry)) (now (out .exit)) at r ⌝ }
 {
     let next = put_byte(out, at, (k / FACTOR % 256) as u8);
     put_byte(out, next, (k % FACTOR) as u8)
 }
 
-// Puts the points of the first n codes, from place `at` on.
+// Puts the points of the first n codes from place `at` on, four bytes each. Returns the place behind them.
 pub fn put_points(codes: &[u64], n: usize, out: &mut [u8], at: usize) -> usize
     requires { ⌜ (n ≤ length (now codes)) × (at + 4 * n ≤ length (now out)) ⌝ }
-    ensures { λ r. ⌜ Pasted (each pointFour (take n (now (codes .entry)))) (now (out .entry)) (now (out .exit)) at r ⌝ }
+    ensures { λ r. ⌜ Pasted (each codeBytes (take n (now (codes .entry)))) (now (out .entry)) (now (out .exit)) at r ⌝ }
 {
     let mut next = at;
     let mut i = 0;
@@ -72,10 +72,10 @@ pub fn put_points(codes: &[u64], n: usize, out: &mut [u8], at: usize) -> usize
     next
 }
 
-// Puts the first n edges, from place `at` on.
+// Puts the first n edges from place `at` on, two bytes each. Returns the place behind them.
 pub fn put_edges(ends: &[u64], n: usize, out: &mut [u8], at: usize) -> usize
     requires { ⌜ (n ≤ length (now ends)) × (at + 2 * n ≤ length (now out)) ⌝ }
-    ensures { λ r. ⌜ Pasted (each edgeTwo (take n (now (ends .entry)))) (now (out .entry)) (now (out .exit)) at r ⌝ }
+    ensures { λ r. ⌜ Pasted (each endsBytes (take n (now (ends .entry)))) (now (out .entry)) (now (out .exit)) at r ⌝ }
 {
     let mut next = at;
     let mut i = 0;

@@ -11,7 +11,7 @@ use Rattle.calls.specs.declared.Changed.{Changed}
 use Rattle.calls.specs.declared.Reply.{Reply}
 use Rattle.calls.specs.declared.Reply.the-variants.{Done, Refused, Finished, Tap, Rounds}
 
--- What the model replies, as the program's enum: each of document 01's answers with its number or values.
+-- What the model replies, as the program's enum: done, a refusal by its number, a round's answer, or a number of rounds (SPEC 4, 8.3).
 unfoldable pub replyOf : call.Reply → Reply
 replyOf call.done = Done
 replyOf (call.refused n) = Refused n

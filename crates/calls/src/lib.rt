@@ -1,5 +1,4 @@
-// The calls on a working form in order. Each hands back the working form that follows from the one it was given, beside its reply;
-// a refused call hands back the one it was given.
+// The calls on a working form in order. Each returns the next working form and a reply; a refused call returns the same working form.
 use plane::codes::Located;
 use plane::codes::locate;
 use points::MAX_PINS;
@@ -29,7 +28,7 @@ pub struct Changed {
     pub reply: Reply,
 }
 
-// The number of a refusal, and 0 for any other reply.
+// Returns the number of a refusal, and 0 for any other reply.
 pub fn refusal_number(r: Reply) -> u8
     ensures { λ n. ⌜ n ≡ refusalNumber r ⌝ }
 {
@@ -103,7 +102,7 @@ fn withdraw_at(w: Working, k: u64) -> Changed
     }
 }
 
-// Adds a pin. Refusals in the order 7, 8, 10.
+// Adds a pin. Returns the working form that follows, and the reply: done, or a refusal, in the order 7, 8, 10.
 pub fn add(w: Working, x: i32, y: i32) -> Changed
     requires { ⌜ InOrder w ⌝ }
     requires { ⌜ Valid (stateOf w) ⌝ }
@@ -115,7 +114,7 @@ pub fn add(w: Working, x: i32, y: i32) -> Changed
     }
 }
 
-// Withdraws a pin. Refusal 9.
+// Withdraws a pin. Returns the working form that follows, and the reply: done, or refusal 9.
 pub fn withdraw(w: Working, x: i32, y: i32) -> Changed
     requires { ⌜ InOrder w ⌝ }
     requires { ⌜ Valid (stateOf w) ⌝ }
@@ -127,7 +126,7 @@ pub fn withdraw(w: Working, x: i32, y: i32) -> Changed
     }
 }
 
-// One round.
+// One round. Returns the working form that follows, and the reply: finished, or the new Steiner point with the fall in length.
 pub fn round(w: Working) -> Changed
     requires { ⌜ InOrder w ⌝ }
     requires { ⌜ Valid (stateOf w) ⌝ }
@@ -142,7 +141,7 @@ pub fn round(w: Working) -> Changed
     }
 }
 
-// Rounds until finished.
+// Rounds until one is finished. Returns the working form that they lead to, and how many added a Steiner point.
 pub fn run_to_end(w: Working) -> Changed
     requires { ⌜ InOrder w ⌝ }
     requires { ⌜ Valid (stateOf w) ⌝ }

@@ -9,7 +9,7 @@ use lib.ListN.{length, take, getD}
 use lib.Signed.{ltZ}
 use Rattle.arrays.specs.Test.{if}
 use Rattle.plane.specs.Point.{Point}
-use Rattle.plane.specs.Coordinate.{biased}
+use Rattle.plane.specs.Coordinate.{storedOf}
 use Rattle.plane.specs.Stored.{pointAt}
 use Rattle.arrays.specs.Set.{setOf}
 use Rattle.tree.specs.Build.{Rises}
@@ -44,7 +44,7 @@ pointsOf xs ys n = tab (held xs ys) n
 -- A point that was found, or none, by its stored coordinates.
 abbrev pub answerOf : Option Point → Best
 answerOf none = Nothing
-answerOf (some p) = At (biased (p .x)) (biased (p .y))
+answerOf (some p) = At (storedOf (p .x)) (storedOf (p .y))
 
 -- The x of the points, least first, and the y.
 abbrev pub xsOf : List Point → List ℤ
@@ -74,12 +74,12 @@ tried ps s c =
     let g = sparedBy ps c in
     if (ltb (s .gain) g) (λ _. record { gain = g; best = answerOf (some c) }) (λ _. s)
 
--- The same for each crossing of a list in turn.
+-- The same for the crossings of a list, one after the other.
 unfoldable pub tryAll : List Point → Greatest → List Point → Greatest
 tryAll ps s [] = s
 tryAll ps s (c ∷ l) = tryAll ps (tried ps s c) l
 
--- What the point that was found spares; `far` where none was, since the tree itself has no edge to a crossing.
+-- What the point that was found spares; `far` where none was, which is what a crossing spares that saves nothing.
 abbrev pub gainAt : List Point → Option Point → ℕ
 gainAt ps none = far
 gainAt ps (some c) = sparedBy ps c

@@ -6,7 +6,7 @@ pub enum Best {
     At(u16, u16),
 }
 
-// The greatest gain so far, and the crossing that gives it; nothing while no crossing gains more than makes up for the edge to it.
+// The greatest gain so far, and the crossing that has it; nothing while no crossing saves anything.
 pub struct Greatest {
     pub gain: u64,
     pub best: Best,

@@ -1,5 +1,4 @@
-// The best crossing of a round: of the crossings of an x of any point held with a y of any point held, at places not held, the
-// lowest that makes the tree shortest, if it makes it shorter at all.
+// The best crossing of a round: of the candidates (SPEC 4.4) the lowest that makes the tree shortest, if it makes it shorter at all.
 //
 // The points are the first n of two slices of stored coordinates, lower first, and the keys of their tree the first m of `keys`.
 pub mod found;
@@ -60,7 +59,7 @@ fn search_all(xs: &[u16], ys: &[u16], n: usize, keys: &[u64], m: usize) -> Best
     end.best
 }
 
-// The lowest crossing of greatest saving, if one saves more than 0.
+// Returns the crossing with the greatest saving, the lowest of several, or that none saves more than 0.
 pub fn best(xs: &[u16], ys: &[u16], n: usize, keys: &[u64], m: usize) -> Best
     requires { ⌜ TreeGiven (now xs) (now ys) n (now keys) m ⌝ }
     ensures { λ r. ⌜ r ≡ answerOf (round.best (pointsOf (now (xs .entry)) (now (ys .entry)) n)) ⌝ }

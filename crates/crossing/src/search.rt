@@ -51,7 +51,7 @@ fn pick(
     best
 }
 
-// The crossings of one x with the first `count` rows.
+// Tries the crossings of one x with the first `count` rows. Returns the best so far: the one handed in, or one that gains more.
 pub fn column(
     xs: &[u16],
     n: usize,
@@ -72,7 +72,7 @@ pub fn column(
     pick(table, x, rows, count, &least, known)
 }
 
-// The crossings of the first `width` columns with the first `count` rows.
+// Tries the crossings of the first `width` columns with the first `count` rows. Returns the best of all, or what was handed in.
 pub fn all_columns(
     xs: &[u16],
     n: usize,

@@ -1,7 +1,12 @@
 -- A call on a deck, from that on its working form: refused by 11 where the deck is not sound, else the outcome on the working form.
 use mathlib.Core.Path.{_≡_, sym, ap, _∙_, subst⁻¹}
-use mathlib.Core.Bool.{Bool, true, false}
+use mathlib.Core.Bool.{Bool, true, false, not}
 use lib.Dec.{T}
+use lib.IntN.{ℤ}
+use borrow.Author.Tests.{not-true, not-false}
+use mir.Syntax.{w32}
+use mir.Val.{SFits}
+use Rattle.plane.specs.Point.{Point, point}
 use Rattle.arrays.specs.Test.{if}
 use Rattle.model.specs.State.{State, Valid}
 use Rattle.model.specs.Call as call
@@ -14,8 +19,10 @@ use Rattle.deck.specs.declared.Outcome.{Outcome}
 use Rattle.deck.specs.declared.check.Checked.{Checked}
 use Rattle.deck.specs.Check.{Checks}
 use Rattle.deck.specs.Form.{deckOf, stateOf, Sound, sound}
-use Rattle.deck.specs.Calls.{answer, refusedOutcome, called, outcomeOf}
+use Rattle.deck.specs.Calls.{deckOutcome, refusedOutcome, called, outcomeOf}
 use Rattle.arrays.proofs.Test.{of-true}
+use Rattle.arrays.proofs.Signed.{read, read-two}
+use Rattle.calls.proofs.PointCalls.{by-point}
 use Rattle.deck.proofs.Form.{sound-is}
 
 -- What the check of a deck gives where it passed: the deck is sound, and its working form stands for its state.
@@ -33,26 +40,36 @@ checked-valid d r c e = let k = checked-sound d r c e in (k .1, subst⁻¹ Valid
 -- A call by whether the deck is sound.
 pub called-unsound : (d : Deck) (c : call.Call) → sound d ≡ false → refusedOutcome d 11 ≡ called d c
 unfolding called
-called-unsound d c e = ap (λ (b : Bool). if b (λ _. answer (call.step (stateOf d) c)) (λ _. refusedOutcome d 11)) (sym e)
+called-unsound d c e = ap (λ (b : Bool). if b (λ _. deckOutcome (call.step (stateOf d) c)) (λ _. refusedOutcome d 11)) (sym e)
 
-pub called-sound : (d : Deck) (c : call.Call) → sound d ≡ true → answer (call.step (stateOf d) c) ≡ called d c
+pub called-sound : (d : Deck) (c : call.Call) → sound d ≡ true → deckOutcome (call.step (stateOf d) c) ≡ called d c
 unfolding called
-called-sound d c e = ap (λ (b : Bool). if b (λ _. answer (call.step (stateOf d) c)) (λ _. refusedOutcome d 11)) (sym e)
+called-sound d c e = ap (λ (b : Bool). if b (λ _. deckOutcome (call.step (stateOf d) c)) (λ _. refusedOutcome d 11)) (sym e)
 
--- Every method that changes a deck: the check failed, or the call was made on the working form.
-module _ (d : Deck) (r : Checked) (k : Checks (sound d) (d .points) r) (c : call.Call) (o : Outcome) where
-  pub refused-by : r .ok ≡ false → o ≡ refusedOutcome d 11 → o ≡ called d c
-  refused-by e is = is ∙ called-unsound d c (sym (k .ok) ∙ e)
+-- Every method begins with the check and a test of its answer. Where the check failed the call is refused, else it is made on the
+-- working form.
+module _ (d : Deck) {r : Checked} (k : Checks (sound d) (d .points) r) where
+  pub ready : not (r .ok) ≡ false → work.InOrder (r .working) × Valid (work.stateOf (r .working))
+  ready e = checked-valid d r k (not-false (r .ok) e)
 
-  pub called-by : r .ok ≡ true → (t : Changed) → ChangedBy (r .working) c t → o ≡ outcomeOf t → o ≡ called d c
-  unfolding answer
-  called-by e t by is =
+  pub refused-by : (c : call.Call) {o : Outcome} → not (r .ok) ≡ true → o ≡ refusedOutcome d 11 → o ≡ called d c
+  refused-by c e is = is ∙ called-unsound d c (sym (k .ok) ∙ not-true (r .ok) e)
+
+  pub called-by : (c : call.Call) {o : Outcome} {t : Changed} → not (r .ok) ≡ false → ChangedBy (r .working) c t → o ≡ outcomeOf t → o ≡ called d c
+  unfolding deckOutcome
+  called-by c e by is =
       is
       ∙ (λ i. record {
         next = deckOf ((by .next ∙ ap (λ (z : State). call.step z c .next) same) i);
         reply = (by .reply ∙ ap (λ (z : State). replyOf (call.step z c .reply)) same) i;
       })
-      ∙ called-sound d c (sym (k .ok) ∙ e)
+      ∙ called-sound d c (sym (k .ok) ∙ not-false (r .ok) e)
     where
       same : work.stateOf (r .working) ≡ stateOf d
-      same = checked-sound d r k e .2
+      same = checked-sound d r k (not-false (r .ok) e) .2
+
+  -- At a point whose two numbers are handed on as 32 bits.
+  pub called-at : (f : Point → call.Call) {x y : ℤ} → SFits w32 x → SFits w32 y → {o : Outcome} {t : Changed} → not (r .ok) ≡ false
+      → ChangedBy (r .working) (f (point (read x) (read y))) t → o ≡ outcomeOf t → o ≡ called d (f (point x y))
+  called-at f {x} {y} fx fy {t = t} e by =
+      called-by (f (point x y)) e (by-point (r .working) f (point (read x) (read y)) (point x y) (read-two point x y fx fy) t by)

@@ -28,7 +28,7 @@ pub deck-sound : (s : State) → Valid s → Sound (deckOf s)
 deck-sound s v =
     record { valid = subst⁻¹ Valid (state-deck s (v .placed)) v; same = ap deckOf (sym (state-deck s (v .placed))) }
 
--- Two sound decks with the same pins and Steiner points are equal, unused places included.
+-- The state of a sound deck settles its every place (SPEC 5.2).
 pub sound-unique : (d e : Deck) → Sound d → Sound e → stateOf d ≡ stateOf e → d ≡ e
 sound-unique d e s t q = s .same ∙ ap deckOf q ∙ sym (t .same)
 

@@ -1,7 +1,12 @@
 -- A question on a deck, from that on its working form: refused by 11 where the deck is not sound, else the answer for the working form.
 use mathlib.Core.Path.{_≡_, sym, ap, _∙_}
-use mathlib.Core.Bool.{Bool, true, false}
-use Prim.Native.Nat.{_-_}
+use mathlib.Core.Bool.{Bool, true, false, not}
+use lib.IntN.{ℤ}
+use borrow.Author.Tests.{not-true, not-false}
+use mir.Syntax.{w32}
+use mir.Val.{SFits}
+use Rattle.plane.specs.Point.{Point, point}
+use Rattle.arrays.proofs.Signed.{read, read-two}
 use Rattle.arrays.specs.Test.{if}
 use Rattle.working.specs.InOrder as work
 use Rattle.questions.specs.declared.Answer.{Answer}
@@ -23,10 +28,17 @@ pub asked-sound : (d : Deck) (q : Question) → sound d ≡ true → answerTo q 
 unfolding asked
 asked-sound d q e = ap (λ (b : Bool). if b (λ _. answerTo q (stateOf d)) (λ _. Refused 11)) (sym e)
 
--- Every method that asks: the check failed, or the question was asked of the working form.
-module _ (d : Deck) (r : Checked) (k : Checks (sound d) (d .points) r) where
-  pub refused-answer : r .ok ≡ false → (q : Question) → Refused 11 ≡ asked d q
-  refused-answer e q = asked-unsound d q (sym (k .ok) ∙ e)
+-- Every method begins with the check and a test of its answer. Where the check failed the question is refused, else it is asked of the
+-- working form.
+module _ (d : Deck) {r : Checked} (k : Checks (sound d) (d .points) r) where
+  pub refused-answer : (q : Question) → not (r .ok) ≡ true → Refused 11 ≡ asked d q
+  refused-answer q e = asked-unsound d q (sym (k .ok) ∙ not-true (r .ok) e)
 
-  pub asked-by : r .ok ≡ true → (q : Question) (a : Answer) → a ≡ answerTo q (work.stateOf (r .working)) → a ≡ asked d q
-  asked-by e q a is = is ∙ ap (answerTo q) (checked-sound d r k e .2) ∙ asked-sound d q (sym (k .ok) ∙ e)
+  pub asked-by : (q : Question) {a : Answer} → not (r .ok) ≡ false → a ≡ answerTo q (work.stateOf (r .working)) → a ≡ asked d q
+  asked-by q e is = is ∙ ap (answerTo q) (checked-sound d r k (not-false (r .ok) e) .2) ∙ asked-sound d q (sym (k .ok) ∙ not-false (r .ok) e)
+
+  -- At a point whose two numbers are handed on as 32 bits.
+  pub asked-at : (f : Point → Question) {x y : ℤ} → SFits w32 x → SFits w32 y → {a : Answer} → not (r .ok) ≡ false
+      → a ≡ answerTo (f (point (read x) (read y))) (work.stateOf (r .working)) → a ≡ asked d (f (point x y))
+  asked-at f {x} {y} fx fy e is =
+      asked-by (f (point x y)) e (is ∙ read-two (λ (u v : ℤ). answerTo (f (point u v)) (work.stateOf (r .working))) x y fx fy)

@@ -17,7 +17,7 @@ use Rattle.deck.specs.declared.Outcome.{Outcome}
 use Rattle.calls.specs.declared.Reply.the-variants.{Finished}
 use Rattle.deck.specs.Form.{deckOf, sound}
 use Rattle.calls.specs.Changes.{replyOf}
-use Rattle.deck.specs.Calls.{answer, called}
+use Rattle.deck.specs.Calls.{deckOutcome, called}
 use Rattle.deck.specs.Questions.{asked}
 use Rattle.questions.specs.Answers.{Question, ofLength, ofEdge, answerTo}
 use Rattle.deck.specs.Session.{deckAfter, replies, reckoned, DeckRoundsTo, ended, added}
@@ -31,15 +31,15 @@ module _ (s : State) (v : Valid s) where
   valid-passes = true-of (sound (deckOf s)) (sound-is (deckOf s) .1 (deck-sound s v))
 
   -- A call on the deck of a valid state.
-  pub called-valid : (c : call.Call) → called (deckOf s) c ≡ answer (call.step s c)
-  called-valid c = sym (called-sound (deckOf s) c valid-passes) ∙ ap (λ (z : State). answer (call.step z c)) (state-deck s (v .placed))
+  pub called-valid : (c : call.Call) → called (deckOf s) c ≡ deckOutcome (call.step s c)
+  called-valid c = sym (called-sound (deckOf s) c valid-passes) ∙ ap (λ (z : State). deckOutcome (call.step z c)) (state-deck s (v .placed))
 
   pub next-valid : (c : call.Call) → called (deckOf s) c .next ≡ deckOf (call.step s c .next)
-  unfolding answer
+  unfolding deckOutcome
   next-valid c = ap (λ (o : Outcome). o .next) (called-valid c)
 
   pub reply-valid : (c : call.Call) → called (deckOf s) c .reply ≡ replyOf (call.step s c .reply)
-  unfolding answer
+  unfolding deckOutcome
   reply-valid c = ap (λ (o : Outcome). o .reply) (called-valid c)
 
   pub asked-valid : (q : Question) → asked (deckOf s) q ≡ answerTo q s

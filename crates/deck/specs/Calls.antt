@@ -11,17 +11,17 @@ use Rattle.deck.specs.declared.Outcome.{Outcome}
 use Rattle.deck.specs.Form.{deckOf, stateOf, sound}
 
 -- An outcome of the model as the program's.
-unfoldable pub answer : call.Outcome → Outcome
-answer o = record { next = deckOf (o .next); reply = replyOf (o .reply) }
+unfoldable pub deckOutcome : call.Outcome → Outcome
+deckOutcome o = record { next = deckOf (o .next); reply = replyOf (o .reply) }
 
 -- A call that changed a working form, as an outcome.
 abbrev pub outcomeOf : Changed → Outcome
 outcomeOf c = record { next = deckOf (work.stateOf (c .working)); reply = c .reply }
 
--- A refusal hands back the deck unchanged.
+-- A refusal hands back the deck unchanged (SPEC 8.1).
 abbrev pub refusedOutcome : Deck → ℕ → Outcome
 refusedOutcome d n = record { next = d; reply = Refused n }
 
--- A call on any deck at all: refused by 11 where it is not sound, else what the model says of its state.
+-- A call on any deck at all (SPEC 4, 8.3): refused by 11 where it is not sound, else what the model says of its state.
 unfoldable pub called : Deck → call.Call → Outcome
-called d c = if (sound d) (λ _. answer (call.step (stateOf d) c)) (λ _. refusedOutcome d 11)
+called d c = if (sound d) (λ _. deckOutcome (call.step (stateOf d) c)) (λ _. refusedOutcome d 11)

@@ -1,4 +1,4 @@
--- The struct of a deck and the state that it stands for.
+-- The struct of a deck (SPEC 5.1) and the state that it stands for.
 use mathlib.Core.Path.{_≡_}
 use mathlib.Core.Bool.{Bool, _&&_}
 use lib.Dec.{eqb}
@@ -17,7 +17,7 @@ deckOf s = record { points = coded.coded s; ends = edgeRow s }
 abbrev pub stateOf : Deck → State
 stateOf d = coded.stateOf (d .points)
 
--- "A deck is sound if pins, taps and tree are as above and its unused places hold zeros": it is the deck of a valid state.
+-- A sound deck (SPEC 5.2): it is the deck of a valid state, in every place.
 pub record Sound (d : Deck) : Type 0 where
   pub valid : Valid (stateOf d)
   pub same : d ≡ deckOf (stateOf d)
@@ -31,6 +31,6 @@ samePoints q r =
 abbrev pub sameDeck : Deck → Deck → Bool
 sameDeck d e = samePoints (d .points) (e .points) && sameList (d .ends) (e .ends)
 
--- Soundness as a test (check 11).
+-- Soundness as a test (check 11, SPEC 8.3).
 unfoldable pub sound : Deck → Bool
 sound d = valid (stateOf d) && sameDeck d (deckOf (stateOf d))

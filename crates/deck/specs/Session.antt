@@ -1,4 +1,4 @@
--- Sessions on decks: one claim about whole lists of calls, each handed the deck that the one before it left.
+-- Lists of calls on decks (SPEC 6), each made on the deck of the one before.
 use mathlib.Core.Path.{_≡_}
 use mathlib.Core.List.{List, [], _∷_}
 use Prim.Native.Nat.{ℕ, suc}
@@ -20,12 +20,13 @@ unfoldable pub replies : Deck → List call.Call → List Reply
 replies d [] = []
 replies d (c ∷ cs) = called d c .reply ∷ replies (called d c .next) cs
 
--- The replies that document 01 gives, by the points reckoned.
+-- The replies by the points reckoned (SPEC 6.1, 6.2).
 unfoldable pub reckoned : State → List call.Call → List Reply
 reckoned s [] = []
 reckoned s (c ∷ cs) = replyOf (call.step s c .reply) ∷ reckoned (call.step s c .next) cs
 
--- Rounds alone lead from d to e, where the round answers finished, and k of them add a tap ("even one swept out again").
+-- Rounds alone lead from d to e, where the round answers finished (SPEC 6.4). k of them add a tap, and one that its own sweep takes out
+-- counts.
 pub data DeckRoundsTo : Deck → ℕ → Deck → Type 0 where
   ended : {d : Deck} → called d call.oneRound .reply ≡ Finished → DeckRoundsTo d 0 d
   added : {d e : Deck} {k : ℕ} {x y : ℤ} {fall : ℕ} → called d call.oneRound .reply ≡ Tap x y fall

@@ -1,4 +1,4 @@
--- The claim on whole lists of calls that the proof of demand 3 goes through. The demand says it of what the deck answers.
+-- The claim on whole lists of calls (SPEC 6) that the proof of demand 3 goes through. The demand says it of what the deck answers.
 use mathlib.Core.Path.{_≡_}
 use mathlib.Core.Logic.{_↔_}
 use mathlib.Core.List.{List, List·Memᴰ}
@@ -19,7 +19,7 @@ use Rattle.deck.specs.Session.{deckAfter, replies, reckoned, DeckRoundsT
 
 -- What holds of a deck d that a list of calls leads to, s being the points reckoned.
 pub record SessionDeck (d : Deck) (s : State) : Type 0 where
-  -- it is sound, and holds the pins and taps that document 01 reckons
+  -- it is sound, and holds the pins and taps reckoned
   pub sound : Sound d
   pub state : stateOf d ≡ s
   -- of them: the tree is least among all trees over them (`least`), and the rest of the model's claim
@@ -29,7 +29,7 @@ pub record SessionDeck (d : Deck) (s : State) : Type 0 where
   pub edge : (i : ℕ) → asked d (ofEdge i) ≡ edgeAtAnswer i s
   -- a round answers finished exactly if no one more point anywhere on the integer plane would shorten the tree
   pub finish-exact : (called d call.oneRound .reply ≡ Finished) ↔ ((q : Point) → ¬ List·Memᴰ q (points s) → model.NoShorter s q)
-  -- the run to the end hands back the deck that rounds alone lead to, and answers how many added a tap, at most one for each centimetre
+  -- the run to the end stops at the deck that rounds alone lead to, and answers how many named a tap, at most one for each centimetre
   pub count : ℕ
   pub counted : called d call.runToEnd .reply ≡ Rounds count
   pub rounds-end : DeckRoundsTo d count (called d call.runToEnd .next)

@@ -1,4 +1,4 @@
-// The questions on a deck. Each is refused by 11 where the deck is not sound.
+// The questions on a deck (SPEC 4.6). Each returns its answer, or refusal 11 where the deck is not sound.
 use super::Deck;
 use super::check::check;
 use questions::Answer;
@@ -8,7 +8,7 @@ ghost use Rattle.deck.specs.Form.{sound};
 ghost use Rattle.deck.specs.Questions.{asked};
 
 impl Deck {
-    // Check 11: whether the deck is sound.
+    // Returns whether the deck is sound (check 11).
     pub fn is_valid(self) -> bool
         ensures { λ r. ⌜ r ≡ sound self ⌝ }
     {
@@ -16,7 +16,7 @@ impl Deck {
         c.ok
     }
 
-    // The length of the deck's tree.
+    // Returns the length of the deck's tree.
     pub fn length(self) -> Answer
         ensures { λ r. ⌜ r ≡ asked self ofLength ⌝ }
     {
@@ -27,7 +27,7 @@ impl Deck {
         questions::length(c.working)
     }
 
-    // The counts of pins, Steiner points and edges.
+    // Returns the numbers of pins, Steiner points and edges.
     pub fn counts(self) -> Answer
         ensures { λ r. ⌜ r ≡ asked self ofCounts ⌝ }
     {
@@ -38,7 +38,7 @@ impl Deck {
         questions::counts(c.working)
     }
 
-    // The edge at a place in the listing order, places from 0.
+    // Returns the edge at a place of the listing order, counted from 0, or that there is none.
     pub fn edge_at(self, i: usize) -> Answer
         ensures { λ r. ⌜ r ≡ asked self (ofEdge i) ⌝ }
     {
@@ -49,7 +49,7 @@ impl Deck {
         questions::edge_at(c.working, i)
     }
 
-    // The number of edges at a point, 0 where none is held.
+    // Returns how many edges a point has, 0 where the deck does not hold it.
     pub fn degree_at(self, x: i32, y: i32) -> Answer
         ensures { λ r. ⌜ r ≡ asked self (ofDegree (record { x = x; y = y })) ⌝ }
     {

@@ -1,4 +1,4 @@
-// The calls on a deck. Each hands back the deck that follows from the one it was given, beside its reply.
+// The calls on a deck (SPEC 4). Each returns the next deck, beside its reply.
 use super::Deck;
 use super::Outcome;
 use super::check::check;
@@ -20,7 +20,7 @@ fn refuse(d: Deck) -> Outcome
     }
 }
 
-// The outcome of a call on a working form.
+// Returns the outcome of a call on a working form: the deck of the working form, and the reply.
 pub fn outcome_of(c: Changed) -> Outcome
     requires { ⌜ work.InOrder (c .working) ⌝ }
     ensures { λ r. ⌜ r ≡ outcomeOf c ⌝ }
@@ -33,7 +33,7 @@ pub fn outcome_of(c: Changed) -> Outcome
 }
 
 impl Deck {
-    // Adds a pin. Refusals in the order 11, 7, 8, 10.
+    // Adds a pin. Returns the next deck and the reply: done, or a refusal, in the order 11, 7, 8, 10.
     pub fn add(self, x: i32, y: i32) -> Outcome
         ensures { λ r. ⌜ r ≡ called self (call.add (record { x = x; y = y })) ⌝ }
     {
@@ -44,7 +44,7 @@ impl Deck {
         outcome_of(calls::add(c.working, x, y))
     }
 
-    // Withdraws a pin. Refusals in the order 11, 9.
+    // Withdraws a pin. Returns the next deck and the reply: done, or a refusal, in the order 11, 9.
     pub fn withdraw(self, x: i32, y: i32) -> Outcome
         ensures { λ r. ⌜ r ≡ called self (call.withdraw (record { x = x; y = y })) ⌝ }
     {
@@ -55,7 +55,7 @@ impl Deck {
         outcome_of(calls::withdraw(c.working, x, y))
     }
 
-    // One round. Refusal 11.
+    // One round. Returns the next deck and the reply: finished, the new Steiner point with the fall in length, or refusal 11.
     pub fn round(self) -> Outcome
         ensures { λ r. ⌜ r ≡ called self call.oneRound ⌝ }
     {
@@ -66,7 +66,7 @@ impl Deck {
         outcome_of(calls::round(c.working))
     }
 
-    // Rounds until finished. Refusal 11.
+    // Rounds until one is finished. Returns the next deck and the reply: how many rounds added a Steiner point, or refusal 11.
     pub fn run_to_end(self) -> Outcome
         ensures { λ r. ⌜ r ≡ called self call.runToEnd ⌝ }
     {

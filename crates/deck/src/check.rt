@@ -8,7 +8,7 @@ ghost use mathlib.Core.Bool.{Bool};
 ghost use Rattle.arrays.specs.Same.{sameList};
 ghost use Rattle.working.specs.InOrder as work;
 ghost use Rattle.deck.specs.Form.{deckOf, sound};
-ghost use Rattle.deck.specs.Check.{pointed, Checks};
+ghost use Rattle.deck.specs.Check.{validPoints, Checks};
 
 pub struct Checked {
     pub ok: bool,
@@ -24,7 +24,7 @@ fn has_ends(d: Deck, e: Deck) -> bool
     arrays::same::same_numbers(&a, &b)
 }
 
-// The deck of a working form.
+// Returns the deck of a working form.
 pub fn deck_of(w: Working) -> Deck
     requires { ⌜ work.InOrder w ⌝ }
     ensures { λ r. ⌜ r ≡ deckOf (work.stateOf w) ⌝ }
@@ -34,7 +34,7 @@ pub fn deck_of(w: Working) -> Deck
     Deck { points, ends }
 }
 
-// The answer where there is none.
+// The answer for a deck that is not sound; its working form means nothing.
 fn unsound() -> Checked
     ensures { λ r. ⌜ r .ok ≡ Bool.false ⌝ }
 {
@@ -44,9 +44,9 @@ fn unsound() -> Checked
     }
 }
 
-// The working form of points, where they are those of a valid state.
+// Returns whether the points are those of a valid state, and then their working form.
 pub fn working_of(q: Points) -> Checked
-    ensures { λ r. ⌜ Checks (pointed q) q r ⌝ }
+    ensures { λ r. ⌜ Checks (validPoints q) q r ⌝ }
 {
     if !points::check::is_arranged(q) {
         return unsound();
@@ -61,7 +61,7 @@ pub fn working_of(q: Points) -> Checked
     }
 }
 
-// Check 11: whether the deck is that of a valid state, places that are not used included.
+// Check 11: returns whether the deck is that of a valid state, places that are not used included, and then its working form.
 pub fn check(d: Deck) -> Checked
     ensures { λ r. ⌜ Checks (sound d) (d .points) r ⌝ }
 {

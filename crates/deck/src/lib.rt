@@ -1,4 +1,4 @@
-// The deck: its pins, its Steiner points (document 01: taps) and the edges of its tree, with the calls and questions on it.
+// The deck (SPEC 5.1): its pins, its Steiner points (taps) and the edges of its tree (runs), with the calls and questions on it.
 mod answers;
 pub mod changes;
 pub mod check;
@@ -24,7 +24,7 @@ pub struct Outcome {
 }
 
 impl Deck {
-    // A deck with no pin and no Steiner point.
+    // Returns a deck with no pin and no Steiner point.
     pub fn empty() -> Deck
         ensures { λ r. ⌜ r ≡ deckOf state.empty ⌝ }
     {

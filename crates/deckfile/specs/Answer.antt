@@ -1,4 +1,4 @@
--- What an entry for other programs answers, and what it leaves in the lent buffer, by the model alone: a deck is read, a list of
+-- What an entry for other programs answers, and what it leaves in the caller's buffer, by the model alone: a deck is read, a list of
 -- calls is made on it, and it is written.
 use mathlib.Core.Path.{_≡_}
 use mathlib.Core.List.{List, _++_}
@@ -12,26 +12,26 @@ use Rattle.deckfile.specs.declared.Written.the-variants.{Refused, Length
 use Rattle.deckfile.specs.Writing.{stored}
 
 -- A deck read, changed by calls and written into the buffer l: what `refused` says of the refusal, or `done` of the file.
-unfoldable pub rewritten : {A : Type 0} → Read → List Call → List ℕ → (ℕ → A) → (List ℕ → A) → A
-rewritten (deck s) calls l refused done = stored (stateAfter s calls) l refused done
-rewritten (refusal n) calls l refused done = refused n
+unfoldable pub readAndWritten : {A : Type 0} → Read → List Call → List ℕ → (ℕ → A) → (List ℕ → A) → A
+readAndWritten (deck s) calls l refused done = stored (stateAfter s calls) l refused done
+readAndWritten (refusal n) calls l refused done = refused n
 
--- "It gets the length written, always 30 or more, or the refusal's number."
+-- The number that the caller gets: how many bytes were written, or the refusal (SPEC 10.1).
 abbrev pub answerNumber : Read → List Call → List ℕ → ℕ
-answerNumber r calls l = rewritten r calls l (λ n. n) length
+answerNumber r calls l = readAndWritten r calls l (λ n. n) length
 
 -- The file in front and every byte past it as it was; a refusal keeps every byte.
 abbrev pub answerBuffer : Read → List Call → List ℕ → List ℕ
-answerBuffer r calls l = rewritten r calls l (λ _. l) (λ file. file ++ drop (length file) l)
+answerBuffer r calls l = readAndWritten r calls l (λ _. l) (λ file. file ++ drop (length file) l)
 
 -- What writing answers, as one number: the length written, or the refusal's number.
 unfoldable pub writtenNumber : Written → ℕ
 writtenNumber (Refused n) = n
 writtenNumber (Length n) = n
 
--- The claim on an entry, for every start (a file read, or no file), every list of calls and every buffer.
+-- The claim on an entry (SPEC 10), for every start (a file read, or no file), every list of calls and every buffer.
 pub record Entered (r : Read) (calls : List Call) (l : List ℕ) : Type 0 where
-  -- a file turned down: its number, and every byte as it was
+  -- a file refused: its number, and every byte as it was
   pub turnedDown : (n : ℕ) → r ≡ refusal n → (answerNumber r calls l ≡ n) × (answerBuffer r calls l ≡ l)
   -- a file taken, and room for the file after the calls: its length, and exactly its bytes in front
   pub fits : (s : State) → r ≡ deck s → length (fileOf (stateAfter s calls)) ≤ length l

@@ -8,11 +8,11 @@ use Rattle.deck.specs.declared.Outcome.{Outcome}
 use Rattle.calls.specs.declared.Reply.the-variants.{Done, Refused}
 use Rattle.deck.specs.Form.{deckOf}
 
--- "reading hands back an empty deck" where it refuses.
+-- The empty deck where it refuses (SPEC 8.1).
 abbrev pub refusedFile : ℕ → Outcome
 refusedFile n = record { next = deckOf empty; reply = Refused n }
 
--- And the deck read where it does not.
+-- A file that is taken: its deck, and done.
 abbrev pub acceptedDeck : Deck → Outcome
 acceptedDeck d = record { next = d; reply = Done }
 
@@ -20,6 +20,6 @@ unfoldable pub readOutcome : Read → Outcome
 readOutcome (deck s) = acceptedDeck (deckOf s)
 readOutcome (refusal n) = refusedFile n
 
--- What reading a list of bytes answers.
+-- What reading a list of bytes answers (SPEC 7, 8.2).
 abbrev pub reading : List ℕ → Outcome
 reading b = readOutcome (readFile b)

@@ -13,12 +13,11 @@ use Rattle.deckfile.specs.declared.Written.the-variants.{Length}
 use Rattle.deckfile.specs.Reading.{reading, acceptedDeck}
 use Rattle.deckfile.specs.Writing.{written, bufferAfter}
 
--- The deck that reading hands back is sound, whatever the bytes are.
+-- The deck that reading hands back is sound, whatever the bytes are (SPEC 7.4, 8.1).
 abbrev pub ReadSound : Type 0
 ReadSound = (b : List ℕ) → Sound (reading b .next)
 
--- "The longest file has 784 bytes": every sound deck is written into a buffer of so many bytes, and the length written is
--- "always 30 or more".
+-- Every sound deck can be written into a buffer of 784 bytes, and what is written has 30 bytes at least (SPEC 7.5, 10.1).
 pub record Fits (d : Deck) (l : List ℕ) : Type 0 where
   pub size : ℕ
   pub least : 30 ≤ size
@@ -28,17 +27,17 @@ pub record Fits (d : Deck) (l : List ℕ) : Type 0 where
 abbrev pub SoundFits : Type 0
 SoundFits = (d : Deck) (l : List ℕ) → Sound d → 784 ≤ length l → Fits d l
 
--- What was written, read again, is the same deck.
+-- What was written, read again, is the same deck (SPEC 7.6).
 abbrev pub WrittenRead : Type 0
 WrittenRead = (d : Deck) (l : List ℕ) (n : ℕ) → written d l ≡ Length n → reading (take n (bufferAfter d l)) ≡ acceptedDeck d
 
--- A full file read is written back the same, byte for byte; so is one of 0 or 1 pin, "where full and plain coincide".
+-- A full file read is written back the same, byte for byte; so is one of 0 or 1 pin, which is full and plain at once (SPEC 7.4, 7.6).
 abbrev pub FullWrittenBack : Type 0
 FullWrittenBack =
     (b : List ℕ) (d : Deck) (l : List ℕ) → ((x : ℕ) → List·Memᴰ x b → x < 256) → reading b ≡ acceptedDeck d
     → T (not (plain b)) ⊎ (d .points .npins ≤ 1) → length b ≤ length l → (written d l ≡ Length (length b)) × (bufferAfter d l ≡ b ++ drop (length b) l)
 
--- Any other file read, which is plain, is written full: "The writer writes every run".
+-- Any other file read, which is plain, is written full, with every run (SPEC 7.5).
 abbrev pub PlainWrittenFull : Type 0
 PlainWrittenFull =
     (b : List ℕ) (d : Deck) (l : List ℕ) (n : ℕ) → reading b ≡ acceptedDeck d → 2 ≤ d .points .npins → written d l ≡ Length n

@@ -1,4 +1,4 @@
--- What writing a deck answers, and what it leaves in the buffer.
+-- What writing a deck answers, and what it leaves in the buffer (SPEC 8.4).
 use mathlib.Core.List.{List, _++_}
 use Prim.Native.Nat.{ℕ}
 use lib.Dec.{leb}
@@ -17,7 +17,7 @@ stored s l refused done =
     let file = fileOf s in
     if (leb (length file) (length l)) (λ _. done file) (λ _. refused 12)
 
--- What is answered then, and what is left in the buffer: the file in front and the rest as it was; a refusal keeps every byte.
+-- What is answered then, and what the buffer holds: the file in front and the rest as it was; a refusal keeps every byte.
 abbrev pub storedAnswer : State → List ℕ → Written
 storedAnswer s l = stored s l Refused (λ file. Length (length file))
 

@@ -3,7 +3,7 @@ use super::Written;
 ghost use mathlib.Core.Path.{_≡_};
 ghost use Rattle.deckfile.specs.Answer.{writtenNumber};
 
-// The length written, or the refusal's number.
+// Returns the length written, or the number of the refusal.
 pub fn number_of(w: Written) -> usize
     ensures { λ n. ⌜ n ≡ writtenNumber w ⌝ }
 {

@@ -1,4 +1,4 @@
-// Deck files (document 01, "Deck file"): reading one, and writing one into a buffer. A deck is checked and its tree built once: whoever
+// Deck files (SPEC 7): reading one, and writing one into a buffer. A deck is checked and its tree built once: whoever
 // goes on with a file reads and writes its working form, and `read` and `write` do the same for decks.
 pub mod answer;
 mod reader;
@@ -36,7 +36,7 @@ pub enum Written {
     Length(usize),
 }
 
-// Reads a file into a working form. Refusals 1 to 6 in this order; a refusal hands back that of an empty deck.
+// Reads a file. Returns its working form and the reply: done, or a refusal, in the order 1 to 6, with the working form of an empty deck.
 pub fn read_working(file: &[u8]) -> Changed
     ensures { λ r. ⌜ ReadTo (readFile (now (file .entry))) r ⌝ }
 {
@@ -59,14 +59,15 @@ pub fn read_working(file: &[u8]) -> Changed
     working_of_file(file, found)
 }
 
-// Reads a file into a deck.
+// Reads a file. Returns its deck and the reply: done, or a refusal, in the order 1 to 6, with an empty deck.
 pub fn read(file: &[u8]) -> Outcome
     ensures { λ r. ⌜ r ≡ reading (now (file .entry)) ⌝ }
 {
     outcome_of(read_working(file))
 }
 
-// Writes the file of a working form to the front of a buffer. Refusal 12 where there is no room; it keeps every byte.
+// Writes the file of a working form to the front of a buffer. Returns its length, or refusal 12 where there is no room; a refusal keeps
+// every byte.
 pub fn write_working(w: Working, out: &mut [u8]) -> Written
     requires { ⌜ InOrder w ⌝ }
     requires { ⌜ Valid (stateOf w) ⌝ }
@@ -81,7 +82,7 @@ pub fn write_working(w: Working, out: &mut [u8]) -> Written
     Written::Length(n)
 }
 
-// Writes the file of a deck to the front of a buffer. Refusals in the order 11, 12; a refusal keeps every byte.
+// Writes the file of a deck to the front of a buffer. Returns its length, or a refusal, in the order 11, 12; a refusal keeps every byte.
 pub fn write(d: Deck, out: &mut [u8]) -> Written
     ensures { λ r. ⌜ r ≡ written d (now (out .entry)) ⌝ }
     ensures { λ _. ⌜ now (out .exit) ≡ bufferAfter d (now (out .entry)) ⌝ }

@@ -34,7 +34,7 @@ ghost use Rattle.deckfile.specs.ReadWorking.{ReadTo, WorkingFor, lastAns
 // The bytes that the most Steiner points of a deck take.
 const STEINER_ROOM: usize = MAX_STEINER * POINT_SIZE;
 
-// A refusal: reading hands back an empty deck.
+// Returns a refusal: the working form of an empty deck, and the number.
 pub fn refuse(number: u8) -> Changed
     ensures { λ r. ⌜ ReadTo (refusal number) r ⌝ }
 {
@@ -54,7 +54,7 @@ fn accept(w: Working) -> Changed
     }
 }
 
-// The working form of the points shown, if they are those of a valid state. A valid state has at most MAX_STEINER Steiner points.
+// The working form of a file's points, if they are those of a valid state. A valid state has at most MAX_STEINER Steiner points.
 fn points_working(b: &[u8], found: FilePoints) -> Checked
     requires { ⌜ Sections (now b) ⌝ }
     requires { ⌜ Decodes (now b) found ⌝ }
@@ -90,7 +90,8 @@ fn has_edges(b: &[u8], w: Working) -> bool
     same_edges(b, number4(b, EDGES_OFFSET), &ends, w.nkeys)
 }
 
-// Check 6: a file that is not plain has the edges of its deck, and every file shows the points of a valid state.
+// Check 6: a file that is not plain has the edges of its deck, and every file shows the points of a valid state. Returns the working form
+// of the file and done, or refusal 6.
 pub fn working_of_file(b: &[u8], found: FilePoints) -> Changed
     requires { ⌜ Sections (now b) ⌝ }
     requires { ⌜ FewPins (now b) ⌝ }

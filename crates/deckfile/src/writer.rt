@@ -11,7 +11,7 @@ ghost use Rattle.model.specs.File.{fileOf};
 ghost use Rattle.working.specs.InOrder.{InOrder, stateOf};
 ghost use Rattle.arrays.specs.Paste.{Pasted};
 
-// How long the file is.
+// Returns how many bytes the file of a working form has.
 pub fn file_length(w: Working) -> usize
     requires { ⌜ InOrder w ⌝ }
     requires { ⌜ Valid (stateOf w) ⌝ }

@@ -1,5 +1,4 @@
-// The listing program: a deck file on standard input; on standard output its listing after a run to the end, or one line with
-// `refused` and the number.
+// The listing program (SPEC 9.1): a deck file on standard input; on standard output its listing after a run to the end, or `refused N`.
 mod text;
 
 use listing::LISTING_ROOM;

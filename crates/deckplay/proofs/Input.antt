@@ -12,7 +12,7 @@ use Rattle.arrays.specs.Test.{if}
 use Rattle.deck.specs.declared.Deck.{Deck}
 use Rattle.deckplay.specs.declared.lines.Reader.{Reader}
 use Rattle.deckplay.specs.Play.{played}
-use Rattle.deckplay.specs.Lines.{Script, Lines, more, taken, takenAll, scriptOf, Reads, Takes, TakesAll, linesFrom, playedAll, LinesPlayed}
+use Rattle.deckplay.specs.Lines.{Script, more, taken, takenAll, scriptOf, Reads, Takes, TakesAll, linesFrom, playedAll, LinesPlayed}
 
 -- The first i bytes are taken.
 pub record TakenTo (r : Reader) (bytes : List ℕ) (s : Reader) (i : ℕ) : Type 0 where

@@ -1,1 +1,2 @@
+-- Laws of the input as a whole.
 pub mod Input

@@ -1,4 +1,4 @@
--- A script byte by byte: the deck that its lines so far leave, and the line so far.
+-- A script byte by byte (SPEC 9.3, 9.5): the deck that its lines so far leave, and the line so far.
 use mathlib.Core.Path.{_≡_}
 use mathlib.Core.List.{List, [], _∷_, _++_}
 use Prim.Native.Nat.{ℕ, _≤_}
@@ -6,6 +6,7 @@ use lib.Dec.{ltb, eqb}
 use lib.ListN.{length, take}
 use Rattle.arrays.specs.Test.{if}
 use Rattle.model.specs.State.{empty}
+use Rattle.model.specs.Listing.{lineFeed}
 use Rattle.deck.specs.declared.Deck.{Deck}
 use Rattle.deck.specs.Form.{deckOf}
 use Rattle.deckplay.specs.declared.lines.Reader.{Reader}
@@ -16,10 +17,11 @@ pub record Script : Type 0 where
   pub deck : Deck
   pub line : List ℕ
 
+-- How many bytes of a line are kept.
 abbrev pub inputRoom : ℕ
 inputRoom = 4001
 
--- The end of a line, and one more byte: a line feed (10) ends a line. Of a line `inputRoom` bytes are kept, which are an error already.
+-- The end of a line, and one more byte: a line feed ends a line. Of a line `inputRoom` bytes are kept, which are an error already.
 abbrev pub ended : Script → Script
 ended s = record { deck = played (s .deck) (s .line) .next; line = [] }
 
@@ -27,7 +29,7 @@ abbrev pub more : ℕ → List ℕ → List ℕ
 more b l = if (ltb (length l) inputRoom) (λ _. l ++ (b ∷ [])) (λ _. l)
 
 unfoldable pub taken : Script → ℕ → Script
-taken s b = if (eqb b 10) (λ _. ended s) (λ _. record { deck = s .deck; line = more b (s .line) })
+taken s b = if (eqb b lineFeed) (λ _. ended s) (λ _. record { deck = s .deck; line = more b (s .line) })
 
 -- All bytes of a list, one after the other.
 unfoldable pub takenAll : Script → List ℕ → Script
@@ -65,11 +67,12 @@ pub record Lines : Type 0 where
 abbrev pub before : List ℕ → Lines → Lines
 before l ls = record { whole = l ∷ ls .whole; rest = ls .rest }
 
+-- The lines of the bytes, where l is what was read of the first one already.
 unfoldable pub linesFrom : List ℕ → List ℕ → Lines
 linesFrom l [] = record { whole = []; rest = l }
-linesFrom l (b ∷ bs) = if (eqb b 10) (λ _. before l (linesFrom [] bs)) (λ _. linesFrom (more b l) bs)
+linesFrom l (b ∷ bs) = if (eqb b lineFeed) (λ _. before l (linesFrom [] bs)) (λ _. linesFrom (more b l) bs)
 
--- The deck after these lines, each played on the deck that the one before it left.
+-- The deck after these lines, each played on the deck of the one before.
 unfoldable pub playedAll : Deck → List (List ℕ) → Deck
 playedAll d [] = d
 playedAll d (l ∷ ls) = playedAll (played d l .next) ls

@@ -1,4 +1,4 @@
--- What one line of a script does to a deck, and the text of its answer, without a line feed.
+-- What one line of a script does to a deck, and the text of its answer, without a line feed (SPEC 9.3 to 9.5).
 use mathlib.Core.Path.{_≡_}
 use mathlib.Core.List.{List, []}
 use Prim.Native.Nat.{ℕ, min}
@@ -7,6 +7,7 @@ use lib.IntN.{ℤ}
 use lib.ListN.{length}
 use Rattle.io.specs.Counts as io
 use Rattle.arrays.specs.Test.{if}
+use Rattle.plane.specs.Point.{point}
 use Rattle.plane.specs.Octant.{octantCount, octant}
 use Rattle.model.specs.Call as call
 use Rattle.model.specs.File.{fileOf}
@@ -17,8 +18,12 @@ use Rattle.questions.specs.declared.Answer.the-variants as answer
 use Rattle.deck.specs.Form.{stateOf, sound}
 use Rattle.deck.specs.Calls.{called}
 use Rattle.deck.specs.Questions.{asked}
-use Rattle.questions.specs.Answers.{ofLength, ofCounts, ofEdge, ofDegree}
+use Rattle.questions.specs.Answers.{Question, ofLength, ofCounts, ofEdge, ofDegree}
 use Rattle.deckfile.specs.Reading.{reading}
+use Rattle.script.specs.declared.Change.{Change}
+use Rattle.script.specs.declared.Change.the-variants as change
+use Rattle.script.specs.declared.Query.{Query}
+use Rattle.script.specs.declared.Query.the-variants as query
 use Rattle.script.specs.declared.Command.{Command}
 use Rattle.script.specs.declared.Command.the-variants as command
 use Rattle.script.specs.Commands as script
@@ -36,6 +41,7 @@ pub record Line : Type 0 where
   pub next : Deck
   pub text : List ℕ
 
+-- The deck stays; or it is that of an outcome, and the answer is the line of the reply.
 abbrev pub stays : Deck → List ℕ → Line
 stays d t = record { next = d; text = t }
 
@@ -54,20 +60,27 @@ writeText d n =
 abbrev pub octantText : ℤ → ℤ → List ℕ
 octantText x y = let k = octant x y in if (eqb k octantCount) (λ _. errorWord) (λ _. numberText octantWord k)
 
+-- The call and the question of a line.
+unfoldable pub callOf : Change → call.Call
+callOf (change.Add x y) = call.add (point x y)
+callOf (change.Withdraw x y) = call.withdraw (point x y)
+callOf change.Round = call.oneRound
+callOf change.Finish = call.runToEnd
+
+unfoldable pub questionOf : Query → Question
+questionOf query.Length = ofLength
+questionOf query.Counts = ofCounts
+questionOf (query.Run i) = ofEdge i
+questionOf (query.Degree x y) = ofDegree (point x y)
+
 -- What a command asks for. No buffer for a file is longer than the longest file.
 unfoldable pub lineOf : Deck → List ℕ → Command → Line
 lineOf d b command.Blank = stays d []
 lineOf d b command.Error = stays d errorWord
-lineOf d b command.Read = changes (reading (script.fileOf b))
+lineOf d b command.Read = changes (reading (script.fileInLine b))
 lineOf d b (command.Write n) = stays d (writeText d (min n script.longestFile))
-lineOf d b (command.Add x y) = changes (called d (call.add (record { x = x; y = y })))
-lineOf d b (command.Withdraw x y) = changes (called d (call.withdraw (record { x = x; y = y })))
-lineOf d b command.Round = changes (called d call.oneRound)
-lineOf d b command.Finish = changes (called d call.runToEnd)
-lineOf d b command.Length = stays d (answerText (asked d ofLength))
-lineOf d b command.Counts = stays d (answerText (asked d ofCounts))
-lineOf d b (command.Run i) = stays d (answerText (asked d (ofEdge i)))
-lineOf d b (command.Degree x y) = stays d (answerText (asked d (ofDegree (record { x = x; y = y }))))
+lineOf d b (command.Call c) = changes (called d (callOf c))
+lineOf d b (command.Ask q) = stays d (answerText (asked d (questionOf q)))
 lineOf d b (command.Octant x y) = stays d (octantText x y)
 lineOf d b command.List = stays d (joinedLines (deckText d))
 

@@ -11,19 +11,23 @@ use replies::answer_line;
 use replies::error_line;
 use replies::octant_line;
 use replies::reply_line;
+use script::Change;
 use script::Command;
 use script::LINE_LIMIT;
 use script::LONGEST_FILE;
+use script::Query;
 ghost use mathlib.Core.Path.{_≡_};
 ghost use Prim.Native.Nat.{_≤_, min};
 ghost use lib.ListN.{length};
+ghost use Rattle.deck.specs.Calls.{called};
+ghost use Rattle.deck.specs.Questions.{asked};
 ghost use Rattle.deckfile.specs.Reading.{reading};
 ghost use Rattle.script.specs.declared.Command.the-variants as command;
-ghost use Rattle.script.specs.Commands.{longestFile, commandOf, fileOf};
+ghost use Rattle.script.specs.Commands.{longestFile, commandOf, fileInLine};
 ghost use Rattle.ascii.specs.Encoding.{joinedLines};
 ghost use Rattle.replies.specs.Replies.{errorWord, answerText};
 ghost use Rattle.listing.specs.Whole.{deckText};
-ghost use Rattle.deckplay.specs.Play.{answerRoom, stays, changes, writeText, octantText, played, Plays};
+ghost use Rattle.deckplay.specs.Play.{answerRoom, stays, changes, writeText, octantText, callOf, questionOf, lineOf, played, Plays};
 
 // Room for any answer: the lines of a listing joined take three times as many bytes at most.
 pub const ANSWER_ROOM: usize = 3 * LISTING_ROOM;
@@ -79,7 +83,7 @@ fn failed(d: Deck, out: &mut [u8]) -> Played
 fn read(line: &[u8], out: &mut [u8]) -> Played
     requires { ⌜ commandOf (now line) ≡ command.Read ⌝ }
     requires { ⌜ answerRoom ≤ length (now out) ⌝ }
-    ensures { λ r. ⌜ Plays (changes (reading (fileOf (now (line .entry))))) (now (out .entry)) (now (out .exit)) r ⌝ }
+    ensures { λ r. ⌜ Plays (changes (reading (fileInLine (now (line .entry))))) (now (out .entry)) (now (out .exit)) r ⌝ }
 {
     let mut file = [0u8; FILE_ROOM];
     let n = script::bytes_of(line, &mut file);
@@ -148,25 +152,55 @@ fn list(d: Deck, out: &mut [u8]) -> Played
     }
 }
 
-// Plays one line, which is given without its line feed.
-pub fn play(d: Deck, line: &[u8], out: &mut [u8]) -> Played
+// Makes a call.
+fn call(d: Deck, c: Change, out: &mut [u8]) -> Played
     requires { ⌜ answerRoom ≤ length (now out) ⌝ }
-    ensures { λ r. ⌜ Plays (played d (now (line .entry))) (now (out .entry)) (now (out .exit)) r ⌝ }
+    ensures { λ r. ⌜ Plays (changes (called d (callOf c))) (now (out .entry)) (now (out .exit)) r ⌝ }
 {
-    match script::parse(line) {
+    match c {
+        Change::Add(x, y) => changed(d.add(x, y), out),
+        Change::Withdraw(x, y) => changed(d.withdraw(x, y), out),
+        Change::Round => changed(d.round(), out),
+        Change::Finish => changed(d.run_to_end(), out),
+    }
+}
+
+// Asks a question.
+fn ask(d: Deck, q: Query, out: &mut [u8]) -> Played
+    requires { ⌜ answerRoom ≤ length (now out) ⌝ }
+    ensures { λ r. ⌜ Plays (stays d (answerText (asked d (questionOf q)))) (now (out .entry)) (now (out .exit)) r ⌝ }
+{
+    match q {
+        Query::Length => answered(d, d.length(), out),
+        Query::Counts => answered(d, d.counts(), out),
+        Query::Run(i) => answered(d, d.edge_at(i as usize), out),
+        Query::Degree(x, y) => answered(d, d.degree_at(x, y), out),
+    }
+}
+
+// Does what a line asks for, by its command.
+fn obey(d: Deck, line: &[u8], c: Command, out: &mut [u8]) -> Played
+    requires { ⌜ c ≡ commandOf (now line) ⌝ }
+    requires { ⌜ answerRoom ≤ length (now out) ⌝ }
+    ensures { λ r. ⌜ Plays (lineOf d (now (line .entry)) c) (now (out .entry)) (now (out .exit)) r ⌝ }
+{
+    match c {
         Command::Blank => Played { next: d, size: 0 },
         Command::Error => failed(d, out),
         Command::Read => read(line, out),
         Command::Write(n) => write(d, n, out),
-        Command::Add(x, y) => changed(d.add(x, y), out),
-        Command::Withdraw(x, y) => changed(d.withdraw(x, y), out),
-        Command::Round => changed(d.round(), out),
-        Command::Finish => changed(d.run_to_end(), out),
-        Command::Length => answered(d, d.length(), out),
-        Command::Counts => answered(d, d.counts(), out),
-        Command::Run(i) => answered(d, d.edge_at(i as usize), out),
-        Command::Degree(x, y) => answered(d, d.degree_at(x, y), out),
+        Command::Call(k) => call(d, k, out),
+        Command::Ask(q) => ask(d, q, out),
         Command::Octant(x, y) => octant(d, x, y, out),
         Command::List => list(d, out),
     }
+}
+
+// Plays one line, which is given without its line feed. Returns the next deck, and how long the answer is at the front of `out`, 0 for none.
+pub fn play(d: Deck, line: &[u8], out: &mut [u8]) -> Played
+    requires { ⌜ answerRoom ≤ length (now out) ⌝ }
+    ensures { λ r. ⌜ Plays (played d (now (line .entry))) (now (out .entry)) (now (out .exit)) r ⌝ }
+{
+    let c = script::parse(line);
+    obey(d, line, c, out)
 }

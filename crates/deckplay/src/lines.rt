@@ -15,7 +15,7 @@ pub struct Reader {
     pub size: usize,
 }
 
-// Nothing was read.
+// Returns a script of which nothing was read: an empty deck, and an empty line.
 pub fn start() -> Reader
     ensures { λ r. ⌜ Fresh r ⌝ }
 {
@@ -26,7 +26,8 @@ pub fn start() -> Reader
     }
 }
 
-// The end of a line: it is played, and its answer written to standard output with a line feed, if it has one.
+// The end of a line: it is played, and its answer written to standard output with a line feed, if it has one. Returns the script with the
+// deck of the line, and an empty line.
 pub fn end(r: Reader) -> Reader
     requires { ⌜ Reads r ⌝ }
     ensures { λ s. ⌜ Ends r s ⌝ }
@@ -47,7 +48,7 @@ pub fn end(r: Reader) -> Reader
     }
 }
 
-// One more byte of a script.
+// Takes one more byte of a script. Returns the script with it.
 pub fn take(r: Reader, b: u8) -> Reader
     requires { ⌜ Reads r ⌝ }
     ensures { λ s. ⌜ Takes r b s ⌝ }

@@ -25,19 +25,19 @@ fn take_all(r: Reader, bytes: &[u8]) -> Reader
     s
 }
 
-// A proved loop has to end, and nothing says that the input does: the loop counts its turns down, from a number that no run uses up.
+// A proved loop has to end, and nothing says that the input does: the loop counts its reads down, from a number that no input uses up.
 fn main() {
     let mut s = start();
     let mut chunk = [0u8; CHUNK];
-    let mut turns = u64::MAX;
-    while 0 < turns {
+    let mut reads = u64::MAX;
+    while 0 < reads {
         let got = libc::read(0, &mut chunk);
         let n = io::count(got, &chunk);
         if n == 0 {
             break;
         }
         s = take_all(s, &chunk[..n]);
-        turns -= 1;
+        reads -= 1;
     }
     if 0 < s.size {
         end(s);

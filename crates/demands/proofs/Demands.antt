@@ -17,7 +17,7 @@ use Rattle.deck.specs.declared.Deck.{Deck}
 use Rattle.calls.specs.declared.Reply.the-variants as reply
 use Rattle.deck.specs.Form.{deckOf, stateOf, Sound, sound}
 use Rattle.calls.specs.Changes.{replyOf}
-use Rattle.deck.specs.Calls.{answer, called}
+use Rattle.deck.specs.Calls.{deckOutcome, called}
 use Rattle.deck.proofs.Form.{sound-is}
 use Rattle.deck.proofs.Calls.{called-unsound}
 use Rattle.deck.proofs.Questions.{asked-unsound}

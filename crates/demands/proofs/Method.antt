@@ -36,7 +36,7 @@ use Rattle.questions.specs.Answers.{Question, ofLength, ofEdge, answerTo}
 use Rattle.deck.specs.declared.Deck.{Deck}
 use Rattle.deck.specs.declared.Outcome.{Outcome}
 use Rattle.deck.specs.Form.{deckOf, stateOf, Sound, sound}
-use Rattle.deck.specs.Calls.{answer, called}
+use Rattle.deck.specs.Calls.{deckOutcome, called}
 use Rattle.deck.specs.Questions.{asked}
 use Rattle.deck.specs.Session.{DeckRoundsTo, ended, added}
 use Rattle.deck.specs.SessionDeck.{SessionDeck}
@@ -51,15 +51,15 @@ passes d s = true-of (sound d) (sound-is d .1 s)
 
 -- A sound deck's calls and answers are the model's on its state.
 module _ (d : Deck) (s : Sound d) where
-  pub calls-model : (c : call.Call) → called d c ≡ answer (call.step (stateOf d) c)
+  pub calls-model : (c : call.Call) → called d c ≡ deckOutcome (call.step (stateOf d) c)
   calls-model c = sym (called-sound d c (passes d s))
 
   pub next-is : (c : call.Call) → called d c .next ≡ deckOf (call.step (stateOf d) c .next)
-  unfolding answer
+  unfolding deckOutcome
   next-is c = ap (λ (o : Outcome). o .next) (calls-model c)
 
   pub reply-is : (c : call.Call) → called d c .reply ≡ replyOf (call.step (stateOf d) c .reply)
-  unfolding answer
+  unfolding deckOutcome
   reply-is c = ap (λ (o : Outcome). o .reply) (calls-model c)
 
   pub next-sound : (c : call.Call) → Sound (called d c .next)
@@ -149,7 +149,9 @@ module _ (d : Deck) (s : Sound d) where
   tapped : {r : RoundResult} → View st r → (c : Point) (fall : ℕ) → r .answer ≡ tap c fall
       → Chosen (points st) c × SweptTo (withSteiner c st) (r .next)
   tapped (stays f) c fall e = absurd (let z : _≡_ {A = ℕ} 0 1 = cc in omega arith)
-  tapped (adds b n h) c fall e = let q : b ≡ c = cc in subst (λ (z : Point). Chosen (points st) z × SweptTo (withSteiner z st) (prune (withSteiner b st))) q (h, swept)
+  tapped (adds b n h) c fall e =
+      let q : b ≡ c = cc in
+      subst (λ (z : Point). Chosen (points st) z × SweptTo (withSteiner z st) (prune (withSteiner b st))) q (h, swept)
     where
       swept : SweptTo (withSteiner b st) (prune (withSteiner b st))
       swept = prune-swept (withSteiner b st) (with-placed st (s .valid .placed) b (h .candidate) .steinerRise)
@@ -166,7 +168,8 @@ module _ (d : Deck) (s : Sound d) where
         let f = round-falls st (s .valid) (point x y) fall is .1 in
         let a : Length (model.lengthOfState st) ≡ Length before = sym (answered d s ofLength) ∙ p in
         let b : Length (model.lengthOfState (round st .next)) ≡ Length after =
-        ap (λ (z : State). Length (model.lengthOfState z)) (sym round-state) ∙ sym (answered (called d call.oneRound .next) (next-sound d s call.oneRound) ofLength) ∙ q in
+        ap (λ (z : State). Length (model.lengthOfState z)) (sym round-state)
+        ∙ sym (answered (called d call.oneRound .next) (next-sound d s call.oneRound) ofLength) ∙ q in
         let m : model.lengthOfState st ≡ before = cc in
         let n : model.lengthOfState (round st .next) ≡ after = cc in
         ap (λ (z : ℕ). z + fall) (sym n) ∙ f ∙ m
@@ -215,7 +218,9 @@ pub end-of : (d : Deck) → Sound d → EndOf d
 end-of d s =
     record {
       counts = λ k. (
-        λ e. let q : m .count ≡ k = same k (sym (m .counted) ∙ e) in (called d call.runToEnd .next, subst (λ (n : ℕ). DeckRoundsTo d n (called d call.runToEnd .next)) q (m .rounds-end)),
+        λ e.
+            let q : m .count ≡ k = same k (sym (m .counted) ∙ e) in
+            (called d call.runToEnd .next, subst (λ (n : ℕ). DeckRoundsTo d n (called d call.runToEnd .next)) q (m .rounds-end)),
         λ r. m .counted ∙ ap reply.Rounds (rounds-same (m .rounds-end) (r .1) .0),
       );
       leads = λ k e r. rounds-same (m .rounds-end) r .1;

@@ -19,7 +19,7 @@ use Rattle.deck.specs.declared.Outcome.{Outcome}
 use Rattle.calls.specs.declared.Reply.the-variants as reply
 use Rattle.questions.specs.declared.Answer.the-variants as question
 use Rattle.deck.specs.Form.{deckOf, stateOf, Sound}
-use Rattle.deck.specs.Calls.{answer, refusedOutcome, called}
+use Rattle.deck.specs.Calls.{deckOutcome, refusedOutcome, called}
 use Rattle.questions.specs.Answers.{Question, ofCounts, ofEdge, ofDegree, answerTo}
 use Rattle.deck.specs.Questions.{asked}
 use Rattle.deck.specs.Session.{deckAfter, replies, reckoned}
@@ -35,19 +35,19 @@ use Rattle.listing.specs.Whole.{listingRoom}
 use Rattle.planner.specs.Entry.{toEnd}
 use Rattle.replay.specs.Claim.{Replayed}
 
--- "A refusal is given only in its case": 7, 8 and 10 to adding, 9 to withdrawing, none to a round or a run to the end.
+-- The calls that a number can refuse (SPEC 8.3): 7, 8 and 10 adding, 9 withdrawing, none a round or a run to the end.
 abbrev pub InCase : State → call.Call → ℕ → Type 0
 InCase s (call.add p) n = call.insertRefusal p s ≡ some n
 InCase s (call.withdraw p) n = call.removeRefusal p s ≡ some n
 InCase s call.oneRound n = ⊥
 InCase s call.runToEnd n = ⊥
 
--- What reading a file can answer: the deck of a valid state, or a number from 1 to 6 and an empty deck.
+-- What reading a file can answer (SPEC 8.1, 8.2): the deck of a valid state, or a number from 1 to 6 and an empty deck.
 abbrev pub FileAnswer : Outcome → Type 0
 FileAnswer o = ((s : State) × Valid s × (o ≡ acceptedDeck (deckOf s))) ⊎ ((n : ℕ) × (1 ≤ n) × (n ≤ 6) × (o ≡ refusedFile n))
 
--- Demand 1: every file and every call is taken, or turned down by a number of document 01, with the deck and each lent buffer
--- left as document 01 says.
+-- Demand 1: every file and every call is taken, or refused by a number of SPEC 8, and then the deck and the buffer are as SPEC 8.1 and 8.4
+-- say.
 pub record Demand1 : Type 0 where
   -- any bytes
   pub file : (b : List ℕ) → FileAnswer (reading b)
@@ -64,17 +64,17 @@ pub record Demand1 : Type 0 where
   pub longBuffer : (d : Deck) (l : List ℕ) → Sound d → length (fileOf (stateOf d)) ≤ length l
       → (written d l ≡ writing.Length (length (fileOf (stateOf d)))) × (bufferAfter d l ≡ fileOf (stateOf d) ++ drop (length (fileOf (stateOf d))) l)
 
--- What the listing program writes for a list of bytes (`listingOfFile`, by the contract of decklist's `list_file`).
+-- What the listing program writes for a list of bytes (SPEC 9; `listingOfFile`, by the contract of decklist's `list_file`).
 pub record ListingOf (b : List ℕ) : Type 0 where
   pub turnedDown : (n : ℕ) → readFile b ≡ refusal n → listingOfFile b ≡ refusedLine n
   pub taken : (s : State) → readFile b ≡ deck s → listingOfFile b ≡ listing (finish s .final)
   -- its buffer has room for it, so that nothing is cut
   pub whole : (out : List ℕ) → listingRoom ≤ length out → fitting listingRoom out (listingOfFile b) ≡ listingOfFile b
 
--- Demand 2: every answer is the one that the published method gives, as document 01 reads it.
+-- Demand 2: every answer is the one that the published method gives, as SPEC 1 to 4 read it.
 pub record Demand2 : Type 0 where
-  pub calls : (d : Deck) → Sound d → (c : call.Call) → called d c ≡ answer (call.step (stateOf d) c)
-  -- the published method, as document 01 reads it, by relations (Method.antt): THE tree, the choice of a round, the sweeps, the end
+  pub calls : (d : Deck) → Sound d → (c : call.Call) → called d c ≡ deckOutcome (call.step (stateOf d) c)
+  -- the published method by relations (Method.antt): THE tree, the choice of a round, the sweeps, the end
   pub tree : (d : Deck) → Sound d → (t : List Edge) × RunsAreTree d t
   pub round : (d : Deck) → Sound d → RoundOf d
   pub sweeps : (d : Deck) → Sound d → SweepsOf d
@@ -85,22 +85,23 @@ pub record Demand2 : Type 0 where
       → asked d ofCounts ≡ question.Counts (length (stateOf d .pins)) (length (stateOf d .steiner)) (length (points (stateOf d)) - 1)
   pub noEdge : (d : Deck) → Sound d → (i : ℕ) → (asked d (ofEdge i) ≡ question.NoEdge) ↔ (length (points (stateOf d)) - 1 ≤ i)
   pub noPoint : (d : Deck) → Sound d → (p : Point) → ¬ List·Memᴰ p (points (stateOf d)) → asked d (ofDegree p) ≡ question.Degree 0
-  -- "Written out and read in is the same deck; a full file read in and written out is the same file."
+  -- a deck that is written and read, and a full file that is read and written, come back the same (SPEC 7.6)
   pub writtenRead : WrittenRead
   pub fullWrittenBack : FullWrittenBack
   pub plainWrittenFull : PlainWrittenFull
-  -- the C entry (read, run to the end, write), for every file and every buffer of any size
+  -- the C entry (SPEC 10.1), for every file and every buffer of any size
   pub planned : (b l : List ℕ) → Entered (readFile b) toEnd l
   -- the listing program, for every list of bytes
   pub listed : (b : List ℕ) → ListingOf b
 
--- "from an empty deck or an accepted file", with the points that document 01 reckons from.
+-- What a list of calls starts from (SPEC 6.1): an empty deck or an accepted file, with its points.
 pub data StartDeck : Deck → State → Type 0 where
   fresh : StartDeck (deckOf empty) empty
   file : (b : List ℕ) {s : State} → readFile b ≡ deck s → StartDeck (reading b .next) s
 
--- Demand 3: one claim about whole lists of calls that change a deck, refused ones too (`AfterCalls` says what holds of the deck after the
--- list, `Bounds` what the program needs besides), and of replay_calls, for every file, every list of calls in bytes and every buffer.
+-- Demand 3: one claim about whole lists of calls that change a deck, refused ones too (SPEC 6.2 to 6.4; `AfterCalls` says what holds of the
+-- deck after the list, `Bounds` what the program needs besides), and of replay_calls (SPEC 10.2), for every file, every list of calls in
+-- bytes and every buffer.
 pub record Demand3 : Type 0 where
   pub lists : {d : Deck} {s : State} → StartDeck d s → (calls : List call.Call) → AfterCalls (deckAfter d calls) (call.stateAfter s calls)
   pub replied : {d : Deck} {s : State} → StartDeck d s → (calls : List call.Call) → replies d calls ≡ reckoned s calls

@@ -24,14 +24,13 @@ use Rattle.deck.specs.Calls.{called}
 use Rattle.deck.specs.Questions.{asked}
 use Rattle.deck.specs.Session.{DeckRoundsTo}
 
--- The tree of a deck's points, by the rule for equals as document 01 says it, is what the deck answers: its edges in the listing order
--- and its length.
+-- The tree of a deck's points, by the rule for equals (SPEC 2.2), is what the deck answers: its edges in the listing order and its length.
 pub record RunsAreTree (d : Deck) (t : List Edge) : Type 0 where
   pub tree : TheTree (points (stateOf d)) t
   pub edges : (i : ℕ) → asked d (ofEdge i) ≡ edgeOrNone (getElem? (setOf listedBefore t) i)
   pub total : asked d ofLength ≡ Length (lengthOf t)
 
--- A round on a deck, which is finished or adds a tap.
+-- A round on a deck (SPEC 4.4), which is finished or adds a tap.
 pub record RoundOf (d : Deck) : Type 0 where
   pub either : (called d call.oneRound .reply ≡ reply.Finished)
       ⊎ ((x y : ℤ) × (fall : ℕ) × (called d call.oneRound .reply ≡ reply.Tap x y fall))
@@ -39,20 +38,21 @@ pub record RoundOf (d : Deck) : Type 0 where
   pub finished : (called d call.oneRound .reply ≡ reply.Finished)
       ↔ ((c : Point) → Candidate (points (stateOf d)) c → ¬ T (ltZ (pos 0) (saved (points (stateOf d)) c)))
   pub unchanged : called d call.oneRound .reply ≡ reply.Finished → called d call.oneRound .next ≡ d
-  -- the tap is the candidate that document 01 chooses, a sweep follows, and the fall is the length before less the length after
+  -- the tap is the candidate that SPEC 4.4 chooses, a sweep follows, and the fall is the length before less the length after
   pub chosen : (x y : ℤ) (fall : ℕ) → called d call.oneRound .reply ≡ reply.Tap x y fall → Chosen (points (stateOf d)) (point x y)
   pub swept : (x y : ℤ) (fall : ℕ) → called d call.oneRound .reply ≡ reply.Tap x y fall
       → SweptTo (withSteiner (point x y) (stateOf d)) (stateOf (called d call.oneRound .next))
   pub falls : (x y : ℤ) (fall before after : ℕ) → called d call.oneRound .reply ≡ reply.Tap x y fall
       → asked d ofLength ≡ Length before → asked (called d call.oneRound .next) ofLength ≡ Length after → after + fall ≡ before
 
--- A pin that joins or leaves, and the sweep that follows.
+-- A pin that joins or leaves (SPEC 4.2, 4.3), and the sweep that follows (SPEC 4.1).
 pub record SweepsOf (d : Deck) : Type 0 where
   pub added : (p : Point) → called d (call.add p) .reply ≡ reply.Done → SweptTo (withPin p (stateOf d)) (stateOf (called d (call.add p) .next))
   pub withdrawn : (p : Point) → called d (call.withdraw p) .reply ≡ reply.Done
       → SweptTo (withoutPin p (stateOf d)) (stateOf (called d (call.withdraw p) .next))
 
--- A run to the end answers k exactly if k rounds alone add a tap and the next is finished; it hands back the deck that they lead to.
+-- A run to the end answers k exactly if k rounds alone add a tap and the next is finished; it hands back the deck that they lead to
+-- (SPEC 4.5).
 pub record EndOf (d : Deck) : Type 0 where
   pub counts : (k : ℕ) → (called d call.runToEnd .reply ≡ reply.Rounds k) ↔ ((e : Deck) × DeckRoundsTo d k e)
   pub leads : (k : ℕ) (e : Deck) → DeckRoundsTo d k e → called d call.runToEnd .next ≡ e

@@ -1,4 +1,4 @@
--- What holds after any list of calls, said of what the deck itself answers; and the bounds that only the program needs.
+-- What holds after any list of calls (SPEC 6.2 to 6.4), said of what the deck itself answers; and the bounds that only the program needs.
 use mathlib.Core.Path.{_≡_}
 use mathlib.Core.Logic.{_⊎_, _↔_}
 use mathlib.Core.List.{List, _∷_, List·Memᴰ}
@@ -22,7 +22,7 @@ use Rattle.deck.specs.Calls.{called}
 use Rattle.deck.specs.Questions.{asked}
 use Rattle.deck.specs.Session.{DeckRoundsTo}
 
--- The deck d after a list of calls, s being the points that document 01 reckons.
+-- The deck d after a list of calls, s being the points reckoned (SPEC 6.1).
 pub record AfterCalls (d : Deck) (s : State) : Type 0 where
   pub sound : Sound d
   pub holds : stateOf d ≡ s
@@ -41,7 +41,7 @@ pub record AfterCalls (d : Deck) (s : State) : Type 0 where
   pub ends : DeckRoundsTo d count (called d call.runToEnd .next)
   pub few : count ≤ lengthOf runs
 
--- Bounds that the program's arrays and numbers rest on.
+-- Bounds that the program's arrays and numbers rest on (SPEC 4.1, 4.7).
 pub record Bounds (s : State) : Type 0 where
   -- two pins or more leave two Steiner points less than pins at most, fewer leave none
   pub steiner : (length (s .steiner) ≡ 0) ⊎ (length (s .steiner) + 2 ≤ length (s .pins))

@@ -1,4 +1,4 @@
--- The lines of a listing one by one.
+-- The lines of a listing one by one (SPEC 9.2).
 use mathlib.Core.List.{List, [], _∷_, _++_}
 use Prim.Native.Nat.{ℕ}
 use Rattle.plane.specs.Point.{Point}

@@ -13,6 +13,6 @@ listingRoom = 8192
 abbrev pub lineRoom : ℕ
 lineRoom = 128
 
--- The listing of a deck, or refusal 11 where it is not sound.
+-- The listing of a deck (SPEC 9.2), or refusal 11 where it is not sound.
 abbrev pub deckText : Deck → List ℕ
 deckText d = if (sound d) (λ _. listing (stateOf d)) (λ _. refusedLine 11)

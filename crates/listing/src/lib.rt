@@ -1,4 +1,4 @@
-// The listing of a deck, in ASCII, written to a lent slice.
+// The listing of a deck, in ASCII, written to the caller's slice.
 mod rows;
 
 use arrays::paste::put_byte;
@@ -63,7 +63,8 @@ pub fn list_working(w: Working, out: &mut [u8]) -> usize
     run_lines(out, b, w)
 }
 
-// The listing of a deck at the front of `out`, or the line of refusal 11 where the deck is not sound; the rest as above.
+// The listing of a deck at the front of `out`, or the line of refusal 11 where the deck is not sound; `out` has to have room for LISTING_ROOM
+// bytes. Returns its length; 0 where there is no room.
 pub fn list(d: Deck, out: &mut [u8]) -> usize
     ensures { λ r. ⌜ Pasted (fitting listingRoom (now (out .entry)) (deckText d)) (now (out .entry)) (now (out .exit)) 0 r ⌝ }
 {

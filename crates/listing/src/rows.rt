@@ -41,7 +41,7 @@ fn point_fields(out: &mut [u8], at: usize, k: u64) -> usize
     coordinate_field(out, next, y_of(k))
 }
 
-// The head line.
+// Puts the head line at the front. Returns the place behind it.
 pub fn head_line(out: &mut [u8], pins: usize, taps: usize, n: u64) -> usize
     requires { ⌜ 68 ≤ length (now out) ⌝ }
     ensures { λ r. ⌜ Pasted (headText pins taps n) (now (out .entry)) (now (out .exit)) 0 r ⌝ }
@@ -65,7 +65,7 @@ fn tap_line(out: &mut [u8], at: usize, k: u64) -> usize
     put_byte(out, b, b'\n')
 }
 
-// The tap lines of the first n Steiner points.
+// Puts the tap lines of the first n Steiner points from place `at` on. Returns the place behind them.
 pub fn tap_lines(out: &mut [u8], at: usize, codes: &[u64], n: usize) -> usize
     requires { ⌜ at + 18 * n + 32 ≤ length (now out) ⌝ }
     requires { ⌜ n ≤ length (now codes) ⌝ }
@@ -94,7 +94,7 @@ fn run_line(out: &mut [u8], at: usize, e: CodedEdge) -> usize
     put_byte(out, r, b'\n')
 }
 
-// The run lines of a working form.
+// Puts the run lines of a working form from place `at` on. Returns the place behind them.
 pub fn run_lines(out: &mut [u8], at: usize, w: Working) -> usize
     requires { ⌜ at + 6625 ≤ length (now out) ⌝ }
     requires { ⌜ InOrder w ⌝ }

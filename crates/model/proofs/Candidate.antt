@@ -59,7 +59,7 @@ not-held-in ps (a ∷ l) c =
       λ r. ⊎-elim (λ e. head e) (λ j. tail (not-held-in ps l c .1 (j, r .1))) (cases (r .0)),
     ))
 
--- The candidates are what document 01 calls so.
+-- The candidates are what SPEC 4.4 calls so.
 pub candidates-are : (ps : List Point) (c : Point) → List·Memᴰ c (candidates ps) ↔ Candidate ps c
 unfolding candidates
 candidates-are ps c = (

@@ -1,4 +1,4 @@
--- A round's choice is settled by document 01's words: `best` finds the candidate that is `Chosen`, and no other is. The search keeps
+-- A round's choice is settled by the words of SPEC 4.4: `best` finds the candidate that is `Chosen`, and no other is. The search keeps
 -- the first candidate that saves more than all before it; as candidates come lower first, that is the lowest of those that save most.
 use mathlib.Core.Path.{_≡_, refl, sym, ap, subst, subst⁻¹}
 use mathlib.Core.Logic.{_⊎_, inl, inr, ⊎-elim, _↔_}

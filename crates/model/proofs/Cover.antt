@@ -3,16 +3,15 @@
 use mathlib.Core.Path.{_≡_, refl, sym, subst}
 use mathlib.Core.Logic.{_⊎_, inl, inr, ⊎-elim}
 use mathlib.Core.List.{List, [], _∷_, List·Memᴰ, List·Memᴰ·head as head, List·Memᴰ·tail as tail, List·Memᴰ·cases-cons as cases, List·Memᴰ·not-nil as not-nil}
-use Prim.Native.Nat.{ℕ, _+_, _≤_}
+use Prim.Native.Nat.{_≤_}
 use native.Mathlib.Nat.{le-trans}
 use native.Mathlib.Omega.{arith}
 use Rattle.spanning.specs.Graph.{Conn, stop, In, Tree, total}
-use Rattle.arrays.specs.Order.{StrictTotal, Sorted}
-use Rattle.spanning.specs.Kruskal.{kruskal}
-use Rattle.spanning.proofs.Conn.{conn-cast, conn-edge, conn-sym, conn-mono, conn-bind}
+use Rattle.arrays.specs.Order.{Sorted}
+use Rattle.spanning.proofs.Conn.{conn-edge, conn-sym, conn-mono, conn-bind}
 use Rattle.spanning.proofs.Cover.{cover}
 use Rattle.plane.specs.Point.{Point, Lower}
-use Rattle.plane.specs.Edge.{Edge, Rising, edgeLength, Before, planar}
+use Rattle.plane.specs.Edge.{Edge, edgeLength, planar}
 use Rattle.plane.proofs.Order.{lower-order, before-order, before-length}
 use Rattle.plane.proofs.Metric.{dist-sym}
 use Rattle.model.specs.Tree.{edges, mst, lengthOf, treeLength}

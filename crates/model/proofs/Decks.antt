@@ -6,7 +6,7 @@ use Rattle.model.specs.Example.{ExampleListing, exampleFile, exampleText
 use Rattle.model.specs.Table.{table, deck1, deck2, deck3, deck4, deck5, deck6, deck7, deck8, deck9, deck10, deck11}
 use Rattle.model.specs.TableFiles.{otherStart, otherCount, tooLong, sectionsApart, byteBehind, unevenSection, unevenRuns, pinTooMany, pinTwice}
 use Rattle.model.specs.TableFiles.{beyondRange, tapOnPin, runTurned, tapOfTwoRuns, otherTree, fullFile, plainFile}
-use Rattle.model.specs.TableMore.{sweptByItsRound, sweepOrder, tapLine, secondRemoval, anotherRunJoins, orderOfEntry, equalSavings}
+use Rattle.model.specs.TableMore.{sweptByItsRound, sweepOrder, lineOfTap, secondRemoval, anotherRunJoins, orderOfEntry, equalSavings}
 use Rattle.model.specs.TableMore.{greatestSaving, lowerEndFirst, octantBorder, refusals}
 use Rattle.model.proofs.FileRows.{otherStart-holds, sectionsApart-holds, unevenSection-holds, pinTooMany-holds, pinTwice-holds}
 use Rattle.model.proofs.FileRows.{runTurned-holds, fullFile-holds, plainFile-holds}
@@ -61,8 +61,8 @@ sweepOrder-holds : Holds (deckRow sweepOrder)
 unfolding play sweepOrder
 sweepOrder-holds = refl
 
-tapLine-holds : Holds (deckRow tapLine)
-unfolding play tapLine
+tapLine-holds : Holds (deckRow lineOfTap)
+unfolding play lineOfTap
 tapLine-holds = refl
 
 secondRemoval-holds : Holds (deckRow secondRemoval)
@@ -119,7 +119,7 @@ decks-hold =
     and fullFile-holds and plainFile-holds and tt
 
 pub decks-filed : All Filed table
-unfolding table filed deck1 deck2 deck3 deck4 deck5 deck6 deck7 deck8 deck9 deck10 deck11 sweptByItsRound sweepOrder tapLine secondRemoval
+unfolding table filed deck1 deck2 deck3 deck4 deck5 deck6 deck7 deck8 deck9 deck10 deck11 sweptByItsRound sweepOrder lineOfTap secondRemoval
     anotherRunJoins orderOfEntry equalSavings greatestSaving lowerEndFirst octantBorder refusals otherStart otherCount tooLong sectionsApart
     byteBehind unevenSection unevenRuns pinTooMany pinTwice beyondRange tapOnPin runTurned tapOfTwoRuns otherTree fullFile plainFile
 decks-filed =
@@ -127,7 +127,7 @@ decks-filed =
     and refl and refl and refl and refl and refl and refl and refl and refl and tt and tt and tt and tt and tt and tt and tt
     and tt and tt and tt and tt and tt and tt and tt and tt and tt and tt
 
--- Document 01's listing example, by computation.
+-- The example of a listing, by computation.
 pub example-listing : ExampleListing
 unfolding listingAnswer exampleFile exampleText
 example-listing = refl

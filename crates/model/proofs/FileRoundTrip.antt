@@ -72,7 +72,7 @@ no-byte : (l : List ℕ) → length l ≡ 0 → l ≡ []
 no-byte [] e = refl
 no-byte (a ∷ l) e = absurd (omega arith)
 
--- A full file read in and written out is the same file; so is a file of 0 or 1 pin, where full and plain coincide.
+-- A full file that is read is written back byte for byte; so is a file of 0 or 1 pin, which is of both kinds.
 pub full-written-back : (b : List ℕ) (s : State) → ((x : ℕ) → List·Memᴰ x b → x < 256) → readFile b ≡ deck s
     → T (not (plain b)) ⊎ (length (s .pins) ≤ 1) → fileOf s ≡ b
 unfolding fileOf joined

@@ -134,7 +134,7 @@ prune-valid s few h =
     in-pins : (q : Point) → List·Memᴰ q (prune s .pins) → List·Memᴰ q (s .pins)
     in-pins q i = subst (λ (l : List Point). List·Memᴰ q l) (p .pins) i
 
--- "pins p ≥ 2 leave at most p − 2 taps, fewer pins none"
+-- Taps are two fewer than pins at least, or there are none (SPEC 4.1).
 pub few-steiner : (s : State) → Valid s → (length (s .steiner) ≡ 0) ⊎ (length (s .steiner) + 2 ≤ length (s .pins))
 unfolding planar
 few-steiner s v = go (length (s .steiner)) refl

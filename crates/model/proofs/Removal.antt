@@ -1,22 +1,22 @@
 -- Taking out a point of at most two edges lengthens no tree: it is replaced by one of its neighbours, by the triangle inequality.
 use mathlib.Core.Path.{_≡_, refl, sym, ap, _∙_, subst, subst⁻¹}
-use mathlib.Core.Logic.{_⊎_, inl, inr, ⊎-elim}
-use mathlib.Core.List.{List, [], _∷_, List·Memᴰ, List·Memᴰ·head as head, List·Memᴰ·tail as tail}
-use Prim.Native.Nat.{ℕ, zero, suc, _+_, _≤_}
+use mathlib.Core.Logic.{_⊎_, ⊎-elim}
+use mathlib.Core.List.{List, [], _∷_, List·Memᴰ, List·Memᴰ·head as head}
+use Prim.Native.Nat.{_≤_}
 use native.Mathlib.Nat.{le-trans}
 use native.Mathlib.Omega.{arith}
 use lib.ListN.{length}
 use Rattle.spanning.specs.Graph.{Conn, In, total}
-use Rattle.arrays.specs.Order.{StrictTotal, Sorted}
-use Rattle.plane.specs.Point.{Point, lower, Lower, dist, pointDec}
-use Rattle.plane.specs.Edge.{Edge, Rising, planar}
+use Rattle.arrays.specs.Order.{Sorted}
+use Rattle.plane.specs.Point.{Point, lower, Lower, pointDec}
+use Rattle.plane.specs.Edge.{Edge, planar}
 use Rattle.plane.proofs.Order.{lower-order}
 use Rattle.plane.proofs.Metric.{dist-sym, dist-self, triangle}
 use Rattle.arrays.specs.Set.{out}
-use Rattle.model.specs.Tree.{mst, lengthOf, treeLength, edgesAt, RunTree}
+use Rattle.model.specs.Tree.{mst, treeLength, edgesAt, RunTree}
 use Rattle.arrays.proofs.Set.{out-in, out-sorted}
 use Rattle.model.proofs.Tree.{mst-run-tree}
-use Rattle.model.proofs.Cover.{Ends, Connects, mst-cover}
+use Rattle.model.proofs.Cover.{Connects, mst-cover}
 use Rattle.model.proofs.Replace.{swap, swap-same, swap-other, replaced, star, sumDist, replaced-conn, replaced-ends, replaced-length}
 use Rattle.model.proofs.Replace.{star-count, star-edge, star-none}
 

@@ -1,26 +1,20 @@
 -- A vertex q is replaced by c on every edge of a list: what was connected is connected along, and the length changes as the
 -- sum of the distances to q's neighbours does.
 use mathlib.Core.Path.{_≡_, refl, sym, ap, _∙_, subst, subst⁻¹}
-use mathlib.Core.Logic.{_⊎_, inl, inr, ⊎-elim, _↔_, dite, dif-pos, dif-neg}
+use mathlib.Core.Logic.{_⊎_, inl, inr, ⊎-elim, dite, dif-neg}
 use mathlib.Core.List.{List, [], _∷_, map, List·Memᴰ, List·Memᴰ·head as head, List·Memᴰ·tail as tail, List·Memᴰ·cases-cons as cases}
 use mathlib.Core.List.{List·Memᴰ·not-nil as not-nil}
-use Prim.Native.Nat.{ℕ, zero, suc, _+_, _≤_}
-use native.Mathlib.Nat.{le-trans}
+use Prim.Native.Nat.{ℕ, suc, _+_, _≤_}
 use native.Mathlib.Omega.{arith}
 use lib.ListN.{length}
-use Rattle.spanning.specs.Graph.{Graph, Conn, stop, In, Tree, total, degree}
-use Rattle.arrays.specs.Order.{StrictTotal, Sorted}
+use Rattle.spanning.specs.Graph.{Conn, In, total, degree}
 use Rattle.spanning.proofs.Conn.{conn-map, conn-edge}
 use Rattle.spanning.proofs.Degree.{degree-touch, degree-away, degree-pos}
-use Rattle.plane.specs.Point.{Point, lower, Lower, dist, pointDec}
-use Rattle.plane.specs.Edge.{Edge, Rising, edgeLength, planar}
-use Rattle.plane.proofs.Order.{lower-order}
-use Rattle.plane.proofs.Metric.{dist-sym, dist-self, triangle}
-use Rattle.arrays.specs.Set.{out}
-use Rattle.model.specs.Tree.{mst, lengthOf, treeLength, edgesAt, RunTree}
-use Rattle.arrays.proofs.Set.{out-in, out-sorted}
-use Rattle.model.proofs.Tree.{mst-run-tree}
-use Rattle.model.proofs.Cover.{Ends, Connects, mst-cover}
+use Rattle.plane.specs.Point.{Point, dist, pointDec}
+use Rattle.plane.specs.Edge.{Edge, edgeLength, planar}
+use Rattle.plane.proofs.Metric.{dist-sym, dist-self}
+use Rattle.model.specs.Tree.{lengthOf, edgesAt}
+use Rattle.model.proofs.Cover.{Ends}
 
 -- c for q, and every other point as it is.
 pub swap : Point → Point → Point → Point

@@ -103,7 +103,7 @@ round-valid s v = go (round-view s)
     go (stays f) = v
     go (adds c k h) = prune-valid (withSteiner c s) (v .few) (with-placed s (v .placed) c k)
 
--- A round that adds a tap shortens the tree by at least 1, and the answer gives by how much.
+-- A round that names a tap takes 1 cm off the tree at least, and its answer says how much.
 pub round-falls : (s : State) → Valid s → (c : Point) (fall : ℕ) → round s .answer ≡ tap c fall
     → (1 ≤ fall) × (lengthOfState (round s .next) + fall ≡ lengthOfState s) × (lengthOfState s ≤ treeLength (put lower c (points s)) + fall)
 round-falls s v c fall e = go (round-view s) e

@@ -1,4 +1,4 @@
--- The sweep is settled by document 01's words: it leads to `prune s`, and to no other state. Each turn `lowestWeak` finds the lowest
+-- The sweep is settled by the words of SPEC 4.1: it leads to `prune s`, and to no other state. Each turn `lowestWeak` finds the lowest
 -- Steiner point of at most two edges, or none; the tree of a turn is the only one of its points.
 use mathlib.Core.Path.{_≡_, refl, sym, ap, _∙_, subst, subst⁻¹}
 use mathlib.Core.Logic.{_⊎_, inl, inr, ⊎-elim, _↔_}

@@ -1,4 +1,4 @@
--- Kruskal's tree over all edges is THE tree of document 01: a tree, least among all trees, first among equals, and the only
+-- Kruskal's tree over all edges is THE tree of SPEC 2.2: a tree, least among all trees, first among equals, and the only
 -- such. Points may come in any order, with repeats: a tree over a list is one over its members, so over the list put in order.
 use mathlib.Core.Path.{_≡_, sym, ap, subst}
 use mathlib.Core.Logic.{_⊎_, ⊎-elim, _↔_}
@@ -160,7 +160,7 @@ any-tree-unique l t r =
     the-tree-unique (setOf lower l) (set-of-sorted lower lower-order l) t
     (the-tree-members l (setOf lower l) t (λ p. (set-of-in lower lower-order l p .1, set-of-in lower lower-order l p .0)) r)
 
--- The tree depends on the set of points and not on the order in which they came.
+-- Two lists with the same members have the same tree (SPEC 2.2).
 pub any-order : (l m : List Point) → ((p : Point) → List·Memᴰ p l ↔ List·Memᴰ p m) → mst (setOf lower l) ≡ mst (setOf lower m)
 any-order l m h =
     ap mst

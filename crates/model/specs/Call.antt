@@ -1,4 +1,4 @@
--- The calls on a session, their refusals and a list of calls.
+-- The calls that change a deck, their refusals and a list of calls.
 use mathlib.Core.Bool.{Bool, not}
 use mathlib.Core.Option.{Option, none, some}
 use mathlib.Core.List.{List, [], _∷_}
@@ -15,7 +15,7 @@ use Rattle.model.specs.Round.{RoundAnswer, round, finish}
 abbrev pub holdsPin : Point → State → Bool
 holdsPin p s = has lower p (s .pins)
 
--- The checks of adding at p, in their order: p in range, no pin there, and room for one more, also where a tap stands.
+-- The checks of adding at p, in their order (SPEC 8.3): p in range, no pin there, and room for one more, also where a tap stands.
 abbrev pub addChecks : Point → State → List Check
 addChecks p s =
     check 7 (λ _. inRange p)
@@ -23,7 +23,7 @@ addChecks p s =
     ∷ check 10 (λ _. ltb (length (s .pins)) maxPins)
     ∷ []
 
--- The check of withdrawing at p: a pin there. No pin is out of range.
+-- The check of withdrawing at p (SPEC 8.3): a pin there. No pin is out of range.
 abbrev pub withdrawChecks : Point → State → List Check
 withdrawChecks p s = check 9 (λ _. holdsPin p s) ∷ []
 
@@ -34,20 +34,21 @@ insertRefusal p s = firstFailed (addChecks p s)
 unfoldable pub removeRefusal : Point → State → Option ℕ
 removeRefusal p s = firstFailed (withdrawChecks p s)
 
--- The calls that change a deck.
+-- The calls that change a deck (SPEC 4.2 to 4.5).
 pub data Call : Type 0 where
   add : Point → Call
   withdraw : Point → Call
   oneRound : Call
   runToEnd : Call
 
--- What a call answers: done, a refusal by its number, a round's answer, or the number of rounds that added a tap.
+-- What a call answers (SPEC 4, 8.3): done, a refusal by its number, a round's answer, or how many rounds named a tap.
 pub data Reply : Type 0 where
   done : Reply
   refused : ℕ → Reply
   answered : RoundAnswer → Reply
   rounds : ℕ → Reply
 
+-- What a call hands back: the next state, and the reply.
 pub record Outcome : Type 0 where
   pub next : State
   pub reply : Reply
@@ -57,14 +58,14 @@ abbrev pub unless : Option ℕ → State → (Unit {0} → State) → Outcome
 unless none s after = record { next = after tt; reply = done }
 unless (some n) s after = record { next = s; reply = refused n }
 
--- A call on a state: the state that follows and the reply.
+-- A call on a state (SPEC 4.2 to 4.5): the state that follows and the reply.
 unfoldable pub step : State → Call → Outcome
 step s (add p) = unless (insertRefusal p s) s (λ _. insert p s)
 step s (withdraw p) = unless (removeRefusal p s) s (λ _. remove p s)
 step s oneRound = let r = round s in record { next = r .next; reply = answered (r .answer) }
 step s runToEnd = let e = finish s in record { next = e .final; reply = rounds (e .count) }
 
--- "each call in turn changes these two sets as said above": the state after a list of calls.
+-- The state after a list of calls: the points that SPEC 6.1 reckons.
 unfoldable pub stateAfter : State → List Call → State
 stateAfter s [] = s
 stateAfter s (c ∷ cs) = stateAfter (step s c .next) cs

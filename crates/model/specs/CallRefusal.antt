@@ -1,4 +1,4 @@
--- When adding and withdrawing are refused, number by number, apart from the list of checks that works it out.
+-- When adding and withdrawing are refused, number by number (SPEC 8.3), apart from the list of checks that works it out.
 use mathlib.Core.Path.{_≡_}
 use mathlib.Core.Logic.{_⊎_, _↔_}
 use mathlib.Core.List.{List·Memᴰ}

@@ -1,7 +1,7 @@
--- Document 01's table of decks: its rows, and the one statement that each of them holds.
+-- The table of decks (SPEC 11): its rows, and the one statement that each of them holds.
 use mathlib.Core.Path.{_≡_}
 use mathlib.Core.List.{List, [], _∷_}
-use Prim.Native.Nat.{ℕ}
+use Prim.Native.Nat.{ℕ, _/_, _%_}
 use lib.IntN.{pos}
 use Rattle.spanning.specs.Graph.{total, degree}
 use Rattle.spanning.specs.Kruskal.{comp, kruskal}
@@ -48,6 +48,7 @@ pub record DeckRow : Type 0 where
   pub calls : List Call
   pub shows : Trace
 
+-- The state that a row begins with: its pins, and no tap.
 abbrev pub firstState : DeckRow → State
 firstState r = record { pins = r .start; steiner = [] }
 
@@ -79,6 +80,11 @@ abbrev pub All : (TableRow → Type 0) → List TableRow → Type 0
 All P [] = Unit {0}
 All P (r ∷ l) = P r × All P l
 
+-- An offset and a length, both below 65,536, as eight bytes of a file's header: `pair 30 755` is 30 0 0 0 243 2 0 0.
+abbrev pub pair : ℕ → ℕ → List ℕ
+pair at size = at % 256 ∷ at / 256 ∷ 0 ∷ 0 ∷ size % 256 ∷ size / 256 ∷ 0 ∷ 0 ∷ []
+
+-- Points and runs of the rows.
 abbrev pub point : ℕ → ℕ → Point
 point x y = record { x = pos x; y = pos y }
 

@@ -1,4 +1,4 @@
--- The deck file, byte for byte: what is written for a state, and what reading a list of bytes gives.
+-- The deck file, byte for byte (SPEC 7): what is written for a state, and what reading a list of bytes gives (SPEC 8.2).
 use mathlib.Core.Bool.{Bool, _&&_, _||_}
 use mathlib.Core.Option.{Option, none, some}
 use mathlib.Core.List.{List, [], _∷_, _++_}
@@ -7,6 +7,7 @@ use lib.Dec.{leb, eqb}
 use lib.ListN.{length, take, drop}
 use Rattle.arrays.specs.Number.{bytes2, bytes4, number2, number4}
 use Rattle.arrays.specs.Test.{if}
+use Rattle.arrays.specs.Text.{bytes}
 use Rattle.plane.specs.Point.{Point, lower}
 use Rattle.plane.specs.Edge.{Edge}
 use Rattle.plane.specs.Coordinate.{signed16, word16}
@@ -16,41 +17,42 @@ use Rattle.model.specs.Refusal.{Check, check, firstFailed}
 use Rattle.model.specs.State.{State, points, placed, valid, maxPins}
 use Rattle.model.specs.Question.{listed}
 
--- "Bytes 0 to 3 spell DECK in ASCII."
+-- The first four bytes of every file (SPEC 7.1).
 abbrev pub magic : List ℕ
-magic = 68 ∷ 69 ∷ 67 ∷ 75 ∷ []
+magic = bytes "DECK"
 
--- Where the first section starts.
+-- Where the first section starts (SPEC 7.1).
 abbrev pub headerSize : ℕ
 headerSize = 30
 
--- "The longest file has 784 bytes."
+-- The length of the longest file (SPEC 7.5).
 abbrev pub longest : ℕ
 longest = 784
 
--- "A point is x then y, each a 16-bit two's complement number"
+-- The four bytes of a point (SPEC 7.2).
 abbrev pub pointBytes : Point → List ℕ
 pointBytes p = bytes2 (word16 (p .x)) ++ bytes2 (word16 (p .y))
 
+-- A section of points.
 unfoldable pub sectionOf : List Point → List ℕ
 sectionOf [] = []
 sectionOf (p ∷ l) = pointBytes p ++ sectionOf l
 
--- The number of a point: "Pins and taps together, sorted lower first, are numbered from 0".
+-- The number of a point among all points of the file, which are given lower first (SPEC 7.3).
 unfoldable pub numberOf : List Point → Point → ℕ
 numberOf [] p = 0
 numberOf (q ∷ l) p = if (tie lower p q) (λ _. 0) (λ _. suc (numberOf l p))
 
--- "a run is two bytes, the smaller number first"
+-- The two bytes of each run (SPEC 7.3).
 unfoldable pub runBytes : List Point → List Edge → List ℕ
 runBytes ps [] = []
 runBytes ps (e ∷ l) = numberOf ps (e .lo) ∷ numberOf ps (e .hi) ∷ runBytes ps l
 
--- The runs section of a state, in the listing order.
+-- The runs section of a state, in the listing order (SPEC 7.3).
 abbrev pub runSection : State → List ℕ
 runSection s = runBytes (points s) (listed s)
 
--- The header: the section count 3, then three pairs of offset and length.
+-- The header for three sections of these lengths (SPEC 7.1).
 abbrev pub header : ℕ → ℕ → ℕ → List ℕ
 header a b c =
     magic
@@ -59,7 +61,7 @@ header a b c =
     ++ (bytes4 a
     ++ (bytes4 (headerSize + a) ++ (bytes4 b ++ (bytes4 (headerSize + a + b) ++ bytes4 c))))))
 
--- The file of a state: the full form, every run written.
+-- The file of a state: a full file, with every run (SPEC 7.4, 7.5).
 unfoldable pub fileOf : State → List ℕ
 fileOf s =
     let pins = sectionOf (s .pins) in
@@ -67,7 +69,7 @@ fileOf s =
     let runs = runSection s in
     header (length pins) (length taps) (length runs) ++ (pins ++ (taps ++ runs))
 
--- What reading gives: the state of the deck, or a refusal by its number.
+-- What reading gives: the state of the deck, or the number of a refusal.
 pub data Read : Type 0 where
   deck : State → Read
   refusal : ℕ → Read
@@ -80,29 +82,30 @@ pointsOf (a ∷ b ∷ []) = []
 pointsOf (a ∷ b ∷ c ∷ []) = []
 pointsOf (a ∷ b ∷ c ∷ d ∷ l) = record { x = signed16 a b; y = signed16 c d } ∷ pointsOf l
 
--- The offset and the length of section k, from its pair in the header: "Then three pairs of offset and length, 4 bytes each".
+-- The offset and the length of section k, four bytes each, from its pair in the header (SPEC 7.1).
 abbrev pub offset : List ℕ → ℕ → ℕ
 offset b k = number4 b (6 + 8 * k)
 
 abbrev pub size : List ℕ → ℕ → ℕ
 size b k = number4 b (10 + 8 * k)
 
+-- The bytes of section k.
 abbrev pub section : List ℕ → ℕ → List ℕ
 section b k = take (size b k) (drop (offset b k) b)
 
--- 1: "under 30 or over 784 bytes, other first four bytes, or a section count other than 3"
+-- Check 1 (SPEC 8.2): the length of the file, its first four bytes and its number of sections.
 abbrev pub headed : List ℕ → Bool
 headed b =
     leb headerSize (length b) && (leb (length b) longest && (sameList (take 4 b) magic && eqb (number2 b 4) 3))
 
--- 2: "The first section starts at byte 30, each other where the one before ends, and the last ends with the file."
+-- Check 2 (SPEC 7.1, 8.2): the sections follow the header and one another, up to the end of the file.
 abbrev pub laidOut : List ℕ → Bool
 laidOut b =
     eqb (offset b 0) headerSize
     && (eqb (offset b 1) (offset b 0 + size b 0)
     && (eqb (offset b 2) (offset b 1 + size b 1) && eqb (length b) (offset b 2 + size b 2)))
 
--- 3: "pins or taps not a multiple of 4 bytes, or runs not of 2"
+-- Check 3 (SPEC 8.2): sections of whole points and whole runs.
 abbrev pub whole : List ℕ → Bool
 whole b = eqb (size b 0 % 4) 0 && (eqb (size b 1 % 4) 0 && eqb (size b 2 % 2) 0)
 
@@ -110,16 +113,16 @@ whole b = eqb (size b 0 % 4) 0 && (eqb (size b 1 % 4) 0 && eqb (size b 2 % 2) 0)
 abbrev pub fileState : List ℕ → State
 fileState b = record { pins = pointsOf (section b 0); steiner = pointsOf (section b 1) }
 
--- "With empty taps and runs sections the file is plain"
+-- A plain file has no taps and no runs (SPEC 7.4).
 abbrev pub plain : List ℕ → Bool
 plain b = eqb (size b 1) 0 && eqb (size b 2) 0
 
--- 6: "not plain, and its runs break the order or number rules above, or it shows no sound deck". The runs of a sound deck are
--- those of its tree in the listing order, so they are the runs section of the state.
+-- Check 6 (SPEC 8.2): a file that is not plain holds a sound deck. The runs of a sound deck are those of its tree in the listing order,
+-- so they are the runs section of the state.
 abbrev pub holdsDeck : List ℕ → State → Bool
 holdsDeck b s = plain b || (valid s && sameList (section b 2) (runSection s))
 
--- The checks of a file, in their order; each definition above says what its check asks.
+-- The checks of a file, in their order (SPEC 8.2); 4 and 5 are the number of pins and `placed`.
 abbrev pub fileChecks : List ℕ → List Check
 fileChecks b =
     let s = fileState b in
@@ -131,11 +134,11 @@ fileChecks b =
     ∷ check 6 (λ _. holdsDeck b s)
     ∷ []
 
--- The deck shown where no check failed, else the refusal.
+-- The deck of the file where no check failed, else the refusal.
 unfoldable pub readBy : State → Option ℕ → Read
 readBy s none = deck s
 readBy s (some n) = refusal n
 
--- Reading a file.
+-- Reading a file (SPEC 8.2).
 unfoldable pub readFile : List ℕ → Read
 readFile b = readBy (fileState b) (firstFailed (fileChecks b))

@@ -1,10 +1,10 @@
--- The listing's text for a state, as a list of bytes.
+-- The listing (SPEC 9), as a list of bytes.
 use mathlib.Core.List.{List, [], _∷_, _++_}
 use Prim.Native.Nat.{ℕ, zero, suc, _+_, _/_, _%_}
 use lib.Dec.{ltb}
-use lib.ListN.{length}
 use lib.IntN.{ℤ, pos, negsuc}
 use Rattle.arrays.specs.Test.{if}
+use Rattle.arrays.specs.Text.{bytes, byte}
 use Rattle.plane.specs.Point.{Point}
 use Rattle.plane.specs.Edge.{Edge, edgeLength}
 use Rattle.model.specs.State.{State}
@@ -16,72 +16,73 @@ use Rattle.model.specs.Round.{finish}
 unfoldable pub digitsFrom : ℕ → ℕ → List ℕ → List ℕ
 digitsFrom zero n rest = rest
 digitsFrom (suc k) n rest =
-    let front = (48 + n % 10) ∷ rest in
+    let front = (byte "0" + n % 10) ∷ rest in
     if (ltb n 10) (λ _. front) (λ _. digitsFrom k (n / 10) front)
 
--- "values are written in base ten": at most 20 digits, which every number below 10 ^ 20 fits.
+-- A number in base ten (SPEC 9.2): at most 20 digits, which every number below 10 ^ 20 fits.
 abbrev pub decimal : ℕ → List ℕ
 decimal n = digitsFrom 20 n []
 
--- "with a leading minus sign where negative"
+-- A whole number, with a minus sign in front of a negative one (SPEC 9.2).
 unfoldable pub signedDecimal : ℤ → List ℕ
 signedDecimal (pos n) = decimal n
-signedDecimal (negsuc n) = 45 ∷ decimal (suc n)
+signedDecimal (negsuc n) = byte "-" ∷ decimal (suc n)
 
--- "One space parts the fields, a line feed ends each line"
+-- What stands between fields, and behind each line (SPEC 9.2).
 abbrev pub space : ℕ
-space = 32
+space = byte " "
 
 abbrev pub lineFeed : ℕ
-lineFeed = 10
+lineFeed = byte "\n"
 
 -- The words deck, tap, run and refused.
 abbrev pub deckWord : List ℕ
-deckWord = 100 ∷ 101 ∷ 99 ∷ 107 ∷ []
+deckWord = bytes "deck"
 
 abbrev pub tapWord : List ℕ
-tapWord = 116 ∷ 97 ∷ 112 ∷ []
+tapWord = bytes "tap"
 
 abbrev pub runWord : List ℕ
-runWord = 114 ∷ 117 ∷ 110 ∷ []
+runWord = bytes "run"
 
 abbrev pub refusedWord : List ℕ
-refusedWord = 114 ∷ 101 ∷ 102 ∷ 117 ∷ 115 ∷ 101 ∷ 100 ∷ []
+refusedWord = bytes "refused"
 
 -- One more field behind a space.
 abbrev pub field : List ℕ → List ℕ
 field t = space ∷ t
 
+-- The two fields of a point.
 abbrev pub pointFields : Point → List ℕ
 pointFields p = field (signedDecimal (p .x)) ++ field (signedDecimal (p .y))
 
--- "Header: pins, taps, length."
+-- The first line: pins, taps and length (SPEC 9.2).
 abbrev pub headLine : State → List ℕ
 headLine s =
     deckWord
     ++ (field (decimal (pinCount s))
     ++ (field (decimal (steinerCount s)) ++ (field (decimal (lengthOfState s)) ++ (lineFeed ∷ []))))
 
--- "Each tap: x, y, lower first."
+-- A line for each tap (SPEC 9.2).
 unfoldable pub tapLines : List Point → List ℕ
 tapLines [] = []
 tapLines (q ∷ l) = tapWord ++ (pointFields q ++ (lineFeed ∷ tapLines l))
 
--- "Each run: lower end, higher end, length, in listing order."
+-- A line for each run: its ends and its length (SPEC 9.2).
 unfoldable pub runLines : List Edge → List ℕ
 runLines [] = []
 runLines (e ∷ l) =
     runWord ++ (pointFields (e .lo) ++ (pointFields (e .hi) ++ (field (decimal (edgeLength e)) ++ (lineFeed ∷ runLines l))))
 
--- The listing of a state.
+-- The listing of a state (SPEC 9.2).
 unfoldable pub listing : State → List ℕ
 listing s = headLine s ++ (tapLines (s .steiner) ++ runLines (listed s))
 
--- "one line with refused and the number"
+-- The line of a refusal (SPEC 9.1).
 abbrev pub refusedLine : ℕ → List ℕ
 refusedLine n = refusedWord ++ (field (decimal n) ++ (lineFeed ∷ []))
 
--- The listing program: "It reads a deck file on standard input, runs to the end and prints the text below, or one line with refused and the number."
+-- What the listing program prints for a file (SPEC 9.1): the deck after a run to the end, or the refusal.
 unfoldable pub listingOfFile : List ℕ → List ℕ
 listingOfFile b = answer (readFile b)
   where

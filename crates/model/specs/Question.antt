@@ -1,4 +1,4 @@
--- Questions on a deck.
+-- Questions on a deck (SPEC 4.6).
 use mathlib.Core.Option.{Option}
 use mathlib.Core.List.{List}
 use Prim.Native.Nat.{ℕ}
@@ -9,7 +9,7 @@ use Rattle.arrays.specs.Set.{setOf}
 use Rattle.model.specs.Tree.{mst, treeLength, edgesAt}
 use Rattle.model.specs.State.{State, points}
 
--- The tree of a state.
+-- The tree of a state (SPEC 2.2).
 abbrev pub treeOf : State → List Edge
 treeOf s = mst (points s)
 
@@ -17,7 +17,7 @@ treeOf s = mst (points s)
 abbrev pub lengthOfState : State → ℕ
 lengthOfState s = treeLength (points s)
 
--- The runs in the listing order.
+-- The runs in the listing order (SPEC 2.3).
 unfoldable pub listed : State → List Edge
 listed s = setOf listedBefore (treeOf s)
 
@@ -31,10 +31,10 @@ steinerCount s = length (s .steiner)
 abbrev pub edgeCount : State → ℕ
 edgeCount s = length (treeOf s)
 
--- "the run at a place in the listing order, places from 0", none beyond the last.
+-- The run at place i of the listing order, counted from 0; none beyond the last.
 abbrev pub edgeAtPlace : ℕ → State → Option Edge
 edgeAtPlace i s = getElem? (listed s) i
 
--- "the number of runs at a point (0 where none is held)"
+-- How many runs end at a point; 0 if the deck does not hold it.
 abbrev pub edgeCountAt : Point → State → ℕ
 edgeCountAt p s = edgesAt p (treeOf s)

@@ -1,4 +1,4 @@
--- Refusals: a list of checks, each a test with the number that is answered where it fails. The first that fails is the refusal.
+-- Refusals (SPEC 8): a list of checks, each a test with the number that is answered where it fails. The first that fails is the refusal.
 use mathlib.Core.Path.{_≡_}
 use mathlib.Core.Bool.{Bool}
 use mathlib.Core.Option.{Option, none, some}

@@ -1,4 +1,4 @@
--- The round and the run to the end.
+-- The round (SPEC 4.4) and the run to the end (SPEC 4.5).
 use mathlib.Core.Option.{Option, none, some}
 use mathlib.Core.List.{List, [], _∷_, _++_, map}
 use Prim.Native.Nat.{ℕ, zero, suc, _-_}
@@ -24,13 +24,13 @@ unfoldable pub notHeld : List Point → List Point → List Point
 notHeld ps [] = []
 notHeld ps (c ∷ l) = if (has lower c ps) (λ _. notHeld ps l) (λ _. c ∷ notHeld ps l)
 
--- "Candidates are the crossings of an x of any point held, taps included, with a y of any point held, at places not held." Lower first.
+-- The candidates (SPEC 4.4), lower first: where the x of a point held crosses the y of one, if no point is held there.
 unfoldable pub candidates : List Point → List Point
 candidates ps =
     notHeld ps
     (crossings (setOf ltZ (map (λ (p : Point). p .x) ps)) (setOf ltZ (map (λ (p : Point). p .y) ps)))
 
--- "A candidate's saving is the tree's length now less that of the tree with it. A saving may be negative."
+-- The saving of a candidate c (SPEC 4.4): `now`, the tree's length, less the length with c. It can be below 0.
 unfoldable pub saving : ℕ → List Point → Point → ℤ
 saving now ps c = subℕ now (treeLength (put lower c ps))
 
@@ -41,15 +41,16 @@ bestAbove now ps top found (c ∷ cs) =
     let v = saving now ps c in
     if (ltZ top v) (λ _. bestAbove now ps v (some c) cs) (λ _. bestAbove now ps top found cs)
 
--- "the lowest candidate of greatest saving", none where "no candidate saves more than 0"
+-- The candidate that a round chooses (SPEC 4.4): the lowest of those with the greatest saving; none where no saving is above 0.
 unfoldable pub best : List Point → Option Point
 best ps = bestAbove (treeLength ps) ps (pos 0) none (candidates ps)
 
--- The answer of a round: finished, or the new tap and the whole fall in length.
+-- The answer of a round (SPEC 4.4): finished, or the new tap and the fall in length.
 pub data RoundAnswer : Type 0 where
   finished : RoundAnswer
   tap : Point → ℕ → RoundAnswer
 
+-- What a round hands back: the next state, and its answer.
 pub record RoundResult : Type 0 where
   pub next : State
   pub answer : RoundAnswer
@@ -58,8 +59,8 @@ pub record RoundResult : Type 0 where
 abbrev pub withSteiner : Point → State → State
 withSteiner c s = record { pins = s .pins; steiner = put lower c (s .steiner) }
 
--- "If no candidate saves more than 0, the answer is finished and the deck is unchanged. Otherwise the lowest candidate of
--- greatest saving becomes a tap, a sweep follows, and the answer gives the tap and the whole fall in length."
+-- A round (SPEC 4.4): finished where no candidate is chosen, and then the state stays; else the candidate joins the taps, a sweep follows,
+-- and the answer names it with the fall in length over both.
 unfoldable pub round : State → RoundResult
 round s =
     elim (best (points s)) [
@@ -68,6 +69,7 @@ round s =
           record { next = s′; answer = tap c (treeLength (points s) - treeLength (points s′)) }
     ]
 
+-- Where a run to the end comes to, and how many of its rounds added a tap.
 pub record Ended : Type 0 where
   pub final : State
   pub count : ℕ
@@ -82,6 +84,6 @@ roundsFrom (suc k) s =
       | tap c fall ↦ let e = roundsFrom k (r .next) in record { final = e .final; count = suc (e .count) }
     ]
 
--- "Run to the end. Rounds until finished, with the number of rounds that added a tap." No more can add one than the tree has centimetres.
+-- The run to the end (SPEC 4.5). No more rounds can add a tap than the tree has centimetres.
 unfoldable pub finish : State → Ended
 finish s = roundsFrom (treeLength (points s)) s

@@ -1,7 +1,7 @@
--- Sessions: one claim about whole lists of calls on states. Demand 3 rests on it.
+-- One claim about whole lists of calls on states (SPEC 6). Demand 3 rests on it.
 use mathlib.Core.Path.{_≡_}
 use mathlib.Core.Logic.{_↔_}
-use mathlib.Core.List.{List, [], _∷_, List·Memᴰ}
+use mathlib.Core.List.{List, _∷_, List·Memᴰ}
 use Prim.Native.Nat.{ℕ, suc, _≤_}
 use lib.ListN.{length}
 use Rattle.spanning.specs.Graph.{Tree}
@@ -15,21 +15,21 @@ use Rattle.model.specs.Call.{Call, stateAfter}
 use Rattle.model.specs.Question.{treeOf, lengthOfState}
 use Rattle.model.specs.File.{deck, readFile}
 
--- "begin with no pins and no taps, or with the file's": the empty state, or that of an accepted file.
+-- What a list of calls starts from (SPEC 6.1): the empty state, or that of a file that is taken.
 pub data StartState : State → Type 0 where
   fresh : StartState empty
   file : (b : List ℕ) {s : State} → readFile b ≡ deck s → StartState s
 
--- Rounds alone lead from s to r, where the round is finished, and k of them add a tap ("even one swept out again").
+-- Rounds alone lead from s to r, where the round is finished (SPEC 6.4). k of them add a tap, and one that its own sweep takes out counts.
 pub data RoundsTo : State → ℕ → State → Type 0 where
   ended : {s : State} → round s .answer ≡ finished → RoundsTo s 0 s
   added : {s r : State} {k : ℕ} {c : Point} {fall : ℕ} → round s .answer ≡ tap c fall → RoundsTo (round s .next) k r → RoundsTo s (suc k) r
 
--- "It shortens the tree if, with it joined to the points held, some tree over them all is shorter than the deck's tree." q does not.
+-- With q as one more point there is no tree that is shorter than the tree of s (SPEC 6.3).
 abbrev pub NoShorter : State → Point → Type 0
 NoShorter s q = (t : List Edge) → Tree planar (q ∷ points s) t → lengthOfState s ≤ lengthOf t
 
--- The most points held between calls, and the longest tree with one point more, in centimetres.
+-- The most points held between calls (SPEC 4.7), and the longest tree with one point more, in centimetres.
 abbrev pub mostPoints : ℕ
 mostPoints = 126
 
@@ -53,6 +53,6 @@ pub record SessionState (s : State) : Type 0 where
   pub length-fits : lengthOfState s ≤ longestTree
   pub round-fits : (c : Point) → List·Memᴰ c (candidates (points s)) → treeLength (put lower c (points s)) ≤ longestTree
 
--- The claim: after any list of calls, refused ones too, from an empty deck or an accepted file.
+-- The claim (SPEC 6.2 to 6.4): after any list of calls, refused ones too, from an empty deck or an accepted file.
 abbrev pub Sessions : Type 0
 Sessions = (s : State) → StartState s → (calls : List Call) → SessionState (stateAfter s calls)

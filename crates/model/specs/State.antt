@@ -1,4 +1,4 @@
--- The state of a deck: its pins and its Steiner points (document 01: taps). What joins, leaves and is swept.
+-- The state of a deck: its pins and its Steiner points (SPEC 1.2: taps). What joins, leaves and is swept (SPEC 4.1 to 4.3).
 use mathlib.Core.Bool.{Bool, not, _&&_}
 use mathlib.Core.Option.{Option, none, some}
 use mathlib.Core.List.{List, [], _∷_, List·Memᴰ}
@@ -25,15 +25,15 @@ empty = record { pins = []; steiner = [] }
 unfoldable pub points : State → List Point
 points s = union lower (s .pins) (s .steiner)
 
--- The most pins that a deck holds.
+-- The most pins that a deck holds (SPEC 1.2).
 abbrev pub maxPins : ℕ
 maxPins = 64
 
--- "each tap of a deck between calls has three runs or more"
+-- A tap that a sweep leaves in the tree t: it has three runs there at least (SPEC 4.1).
 abbrev pub strong : List Edge → Point → Bool
 strong t q = leb 3 (edgesAt q t)
 
--- Points in range, strictly rising and at different places.
+-- Points in range, strictly rising and at different places (SPEC 1.2, 7.2).
 pub record Placed (s : State) : Type 0 where
   pub pinsRange : (p : Point) → List·Memᴰ p (s .pins) → T (inRange p)
   pub steinerRange : (p : Point) → List·Memᴰ p (s .steiner) → T (inRange p)
@@ -41,8 +41,8 @@ pub record Placed (s : State) : Type 0 where
   pub steinerRise : Sorted Lower (s .steiner)
   pub apart : (p : Point) → List·Memᴰ p (s .pins) → List·Memᴰ p (s .steiner) → ⊥
 
--- A valid state (document 01: sound, but for the struct's unused places): at most 64 pins; points in range, strictly rising
--- and at different places; each Steiner point with three edges or more.
+-- A valid state, which is what SPEC 5.2 asks of the points of a sound deck: at most 64 pins; points in range, strictly rising and at
+-- different places; each Steiner point with three edges or more.
 pub record Valid (s : State) : Type 0 where
   pub few : length (s .pins) ≤ maxPins
   pub placed : Placed s
@@ -71,8 +71,7 @@ lowestWeak t (q ∷ l) = if (strong t q) (λ _. lowestWeak t l) (λ _. some q)
 abbrev pub without : Point → State → State
 without q s = record { pins = s .pins; steiner = out lower q (s .steiner) }
 
--- The sweep, for at most as many removals as the first number says, each by the tree of the points that are left then.
--- "While some tap has at most two runs in the tree, the lowest such tap is taken out and the tree is that of the points left."
+-- The sweep, for at most as many removals as the first number says, each by the tree of the points held then (SPEC 4.1).
 unfoldable pub pruneFrom : ℕ → State → State
 pruneFrom zero s = s
 pruneFrom (suc k) s =
@@ -82,7 +81,7 @@ pruneFrom (suc k) s =
       | some q ↦ pruneFrom k (without q s)
     ]
 
--- The sweep (document 01's word; here prune). No more can be taken out than there are Steiner points.
+-- The sweep (SPEC 4.1; the field's word is prune). No more can be taken out than there are Steiner points.
 unfoldable pub prune : State → State
 prune s = pruneFrom (length (s .steiner)) s
 
@@ -93,10 +92,10 @@ withPin p s = record { pins = put lower p (s .pins); steiner = out lower p (s .s
 abbrev pub withoutPin : Point → State → State
 withoutPin p s = record { pins = out lower p (s .pins); steiner = s .steiner }
 
--- "Add a pin. The point joins, then a sweep. Where a tap stands, it becomes a pin."
+-- Adding a pin (SPEC 4.2), on a tap too.
 unfoldable pub insert : Point → State → State
 insert p s = prune (withPin p s)
 
--- "Withdraw a pin. The point leaves, then a sweep."
+-- Withdrawing a pin (SPEC 4.3).
 unfoldable pub remove : Point → State → State
 remove p s = prune (withoutPin p s)

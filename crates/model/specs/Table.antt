@@ -1,4 +1,5 @@
--- Document 01's table of decks: its own rows, and those of specs/TableMore.antt and specs/TableFiles.antt. Each is proved in proofs/Decks.antt.
+-- The table of decks: the rows of SPEC 11 by number, and those of specs/TableMore.antt and specs/TableFiles.antt. Each is proved in
+-- proofs/Decks.antt.
 use mathlib.Core.List.{List, [], _∷_}
 use lib.IntN.{pos, negsuc}
 use Rattle.model.specs.Round.{finished, tap}
@@ -6,10 +7,10 @@ use Rattle.model.specs.Call.{add, withdraw, oneRound, runToEnd, done, an
 use Rattle.model.specs.Decks.{DeckRow, TableRow, deckRow, octantRow, point, from}
 use Rattle.model.specs.TableFiles.{otherStart, otherCount, tooLong, sectionsApart, byteBehind, unevenSection, unevenRuns, pinTooMany, pinTwice}
 use Rattle.model.specs.TableFiles.{beyondRange, tapOnPin, runTurned, tapOfTwoRuns, otherTree, fullFile, plainFile}
-use Rattle.model.specs.TableMore.{sweptByItsRound, sweepOrder, tapLine, secondRemoval, anotherRunJoins, orderOfEntry, equalSavings}
+use Rattle.model.specs.TableMore.{sweptByItsRound, sweepOrder, lineOfTap, secondRemoval, anotherRunJoins, orderOfEntry, equalSavings}
 use Rattle.model.specs.TableMore.{greatestSaving, lowerEndFirst, octantBorder, refusals}
 
--- 1. "no pin: length 0, finished"
+-- Row 1: no pin.
 unfoldable pub deck1 : DeckRow
 deck1 =
     record {
@@ -24,7 +25,7 @@ deck1 =
           };
     }
 
--- 2. "pin (7,−3): length 0, finished"
+-- Row 2: one pin.
 unfoldable pub deck2 : DeckRow
 deck2 =
     record {
@@ -39,7 +40,7 @@ deck2 =
           };
     }
 
--- 3. "(−5,0), (5,4): length 14, finished"
+-- Row 3: two pins.
 unfoldable pub deck3 : DeckRow
 deck3 =
     record {
@@ -54,7 +55,7 @@ deck3 =
           };
     }
 
--- 4. "the deck above: 23, then 18 after one round"
+-- Row 4: the deck of the example, 23 cm and then 18.
 unfoldable pub deck4 : DeckRow
 deck4 =
     record {
@@ -69,7 +70,7 @@ deck4 =
           };
     }
 
--- 5. "(0,5), (5,0), (5,10), (10,5): 30; tap (5,5); 20"
+-- Row 5: four pins around (5,5), 30 cm and with the tap there 20.
 unfoldable pub deck5 : DeckRow
 deck5 =
     record {
@@ -84,7 +85,7 @@ deck5 =
           };
     }
 
--- 6. "deck 5 finished, (10,5) withdrawn: 15, tap kept"
+-- Row 6: row 5 finished, and a pin less: the tap has three runs and stays.
 unfoldable pub deck6 : DeckRow
 deck6 =
     record {
@@ -99,7 +100,7 @@ deck6 =
           };
     }
 
--- 7. "then (5,10) withdrawn: 10, no tap"
+-- Row 7: row 6 with one more pin less: the tap goes.
 unfoldable pub deck7 : DeckRow
 deck7 =
     record {
@@ -114,7 +115,7 @@ deck7 =
           };
     }
 
--- 8. "deck 5 finished, pin added at (5,5): five pins, no tap, 20"
+-- Row 8: row 5 finished, and a pin where the tap is.
 unfoldable pub deck8 : DeckRow
 deck8 =
     record {
@@ -129,7 +130,7 @@ deck8 =
           };
     }
 
--- 9. "(0,0), (0,10), (10,0), (10,10): 30, without the run (10,0) to (10,10), finished"
+-- Row 9: four runs as long as each other, of which the last in order is not in the tree.
 unfoldable pub deck9 : DeckRow
 deck9 =
     record {
@@ -144,7 +145,7 @@ deck9 =
           };
     }
 
--- 10. "(0,0), (5,8), (10,0), (40,0), (45,8), (50,0): 76; taps (5,0), then (45,0); 66 after two rounds"
+-- Row 10: two rounds, 76 cm and then 71 and 66.
 unfoldable pub deck10 : DeckRow
 deck10 =
     record {
@@ -161,7 +162,7 @@ deck10 =
           };
     }
 
--- 11. The octants of four differences.
+-- Row 11: the octants of four differences.
 unfoldable pub deck11 : TableRow
 deck11 = octantRow (point 1 0 ∷ point 1 1 ∷ point 0 1 ∷ record { x = negsuc 0; y = pos 1 } ∷ []) (0 ∷ 1 ∷ 2 ∷ 3 ∷ [])
 
@@ -169,7 +170,7 @@ deck11 = octantRow (point 1 0 ∷ point 1 1 ∷ point 0 1 ∷ record { x = negsu
 unfoldable pub table : List TableRow
 table =
     deckRow deck1 ∷ deckRow deck2 ∷ deckRow deck3 ∷ deckRow deck4 ∷ deckRow deck5 ∷ deckRow deck6 ∷ deckRow deck7 ∷ deckRow deck8
-    ∷ deckRow deck9 ∷ deckRow deck10 ∷ deck11 ∷ deckRow sweptByItsRound ∷ deckRow sweepOrder ∷ deckRow tapLine
+    ∷ deckRow deck9 ∷ deckRow deck10 ∷ deck11 ∷ deckRow sweptByItsRound ∷ deckRow sweepOrder ∷ deckRow lineOfTap
     ∷ deckRow secondRemoval ∷ deckRow anotherRunJoins ∷ deckRow orderOfEntry ∷ deckRow equalSavings ∷ deckRow greatestSaving
     ∷ deckRow lowerEndFirst ∷ deckRow octantBorder ∷ deckRow refusals
     ∷ otherStart ∷ otherCount ∷ tooLong ∷ sectionsApart ∷ byteBehind ∷ unevenSection ∷ unevenRuns ∷ pinTooMany

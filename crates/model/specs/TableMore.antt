@@ -1,4 +1,4 @@
--- Rows of the table of decks that tell apart what document 01's own rows leave together: its wrong turns, its ties and its refusals.
+-- Rows of the table of decks that tell apart what the numbered rows leave together: mistakes that tempt, ties and refusals.
 use mathlib.Core.List.{[], _∷_}
 use lib.IntN.{pos, negsuc}
 use Rattle.model.specs.Round.{tap}
@@ -38,8 +38,8 @@ sweepOrder =
     }
 
 -- A candidate on a line that only a tap has, after a withdrawal.
-unfoldable pub tapLine : DeckRow
-tapLine =
+unfoldable pub lineOfTap : DeckRow
+lineOfTap =
     record {
       start = [];
       calls = add (point 0 2) ∷ add (point 4 1) ∷ add (point 2 0) ∷ runToEnd ∷ add (point 3 2) ∷ withdraw (point 2 0) ∷ oneRound ∷ [];
@@ -52,7 +52,7 @@ tapLine =
           };
     }
 
--- A removal that leaves another tap with two runs, by the tree of the points left.
+-- A removal after which another tap has two runs, in the tree of the remaining points.
 unfoldable pub secondRemoval : DeckRow
 secondRemoval =
     record {
@@ -142,7 +142,7 @@ lowerEndFirst =
           };
     }
 
--- (0,0) joins (2,−2), (2,2) and (5,0): its run to (5,0) comes first among three of length 5.
+-- The pins (2,−2), (2,2) and (5,0), and then (0,0): of three runs that tie at length 5 the one between (0,0) and (5,0) comes first.
 unfoldable pub octantBorder : DeckRow
 octantBorder =
     record {

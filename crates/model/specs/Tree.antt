@@ -1,4 +1,4 @@
--- The tree of a set of points: Kruskal's method over all edges, and what document 01 says THE tree is.
+-- The tree of a set of points: Kruskal's method over all edges, and what SPEC 2.2 says THE tree is.
 use mathlib.Core.Path.{_≡_}
 use mathlib.Core.List.{List, [], _∷_, _++_, map, List·Memᴰ}
 use Prim.Native.Nat.{ℕ, _≤_}
@@ -14,7 +14,7 @@ unfoldable pub pairs : List Point → List Edge
 pairs [] = []
 pairs (p ∷ l) = map (λ (q : Point). record { lo = p; hi = q }) l ++ pairs l
 
--- All edges over a set of points, in the order of runs.
+-- All edges over a set of points, in the order of runs (SPEC 2.1).
 unfoldable pub edges : List Point → List Edge
 edges ps = setOf before (pairs ps)
 
@@ -22,7 +22,7 @@ edges ps = setOf before (pairs ps)
 unfoldable pub mst : List Point → List Edge
 mst ps = kruskal planar [] (edges ps)
 
--- The length of a list of edges ("Its length is the sum of its runs").
+-- The length of a list of edges (SPEC 1.5).
 abbrev pub lengthOf : List Edge → ℕ
 lengthOf t = total edgeLength t
 
@@ -40,7 +40,7 @@ pub record RunTree (ps : List Point) (t : List Edge) : Type 0 where
   pub rising : (e : Edge) → List·Memᴰ e t → Rising e
   pub sorted : Sorted Before t
 
--- "The tree of a set of points is the tree of least length; among several, the one whose runs, put in this order, come first at the first place of difference."
+-- THE tree (SPEC 2.2): no tree is shorter, and of those as long it comes first.
 pub record TheTree (ps : List Point) (t : List Edge) : Type 0 where
   pub tree : RunTree ps t
   pub least : (u : List Edge) → RunTree ps u → lengthOf t ≤ lengthOf u

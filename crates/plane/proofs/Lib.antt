@@ -1,3 +1,4 @@
+-- Laws of points, whole numbers, octants and the order of edges, for the proofs here and for other crates.
 pub mod EdgeAtPoint
 pub mod Median
 pub mod Metric

@@ -1,93 +1,73 @@
--- Every difference other than 0, 0 is in exactly one octant, and `octant` gives it. By a chain of tests, `byTests`, that finds
--- the octant: each octant's condition decides every test on its way.
-use mathlib.Core.Path.{_≡_, sym, ap, _∙_, subst}
+-- Every difference other than 0, 0 is in exactly one octant, and `octant` gives it. Both go by quarters: what holds of the first, octants 0
+-- and 1, holds of the others, which are the first one turned.
+use mathlib.Core.Path.{_≡_, refl, sym, ap, subst}
 use mathlib.Core.Logic.{_⊎_, inl, inr, ⊎-elim}
 use mathlib.Core.Bool.{Bool, true, false}
 use mathlib.Core.List.{List, [], _∷_}
-use Prim.Native.Nat.{ℕ, zero, suc, _+_, _<_}
+use Prim.Native.Nat.{ℕ, zero, suc, _+_, _≤_, _<_}
 use native.Mathlib.Nat.{suc-inj}
 use native.Mathlib.Omega.{arith}
 use native.Mathlib.Decide.{decLt}
-use lib.Dec.{T, ltb, leb}
+use lib.Dec.{T}
 use lib.ListN.{getD}
 use lib.IntN.{ℤ, pos}
-use borrow.Author.Tests.{lt-ltb, le-ltb, le-leb, lt-leb}
-use Rattle.arrays.specs.Test.{if}
 use Rattle.plane.specs.Octant.{conditions, inOctant, firstTrue, octant}
 use Rattle.plane.proofs.Whole.{plus, minus, whole-ext}
 use Rattle.plane.proofs.Sector.{Sector, to-sector, from-sector}
 
--- The octant of a − b, c − d by a chain of tests.
-abbrev byTests : ℕ → ℕ → ℕ → ℕ → ℕ
-byTests a b c d =
-    if (ltb b a)
-    (λ _. if (leb d c) (λ _. if (ltb (c + b) (a + d)) (λ _. 0) (λ _. 1)) (λ _. if (ltb (a + c) (d + b)) (λ _. 6) (λ _. 7)))
-    (λ _. if (ltb a b)
-    (λ _. if (leb c d) (λ _. if (ltb (d + a) (b + c)) (λ _. 4) (λ _. 5)) (λ _. if (ltb (b + d) (c + a)) (λ _. 2) (λ _. 3)))
-    (λ _. if (ltb d c) (λ _. 2) (λ _. 6)))
+-- In the first quarter, octants 0 and 1, no difference is in a later octant.
+later : (k a b c d : ℕ) → suc (suc k) < 8 → b < a → d ≤ c → Sector k c d b a → ⊥
+later zero a b c d h x y s = omega arith
+later (suc zero) a b c d h x y s = omega arith
+later (suc (suc zero)) a b c d h x y s = omega arith
+later (suc (suc (suc zero))) a b c d h x y s = omega arith
+later (suc (suc (suc (suc zero)))) a b c d h x y s = omega arith
+later (suc (suc (suc (suc (suc zero))))) a b c d h x y s = omega arith
+later (suc (suc (suc (suc (suc (suc k)))))) a b c d h x y s = omega arith
 
--- The octant that a sector's condition names is where the tests lead.
-tests-find : (k a b c d : ℕ) → Sector k a b c d → byTests a b c d ≡ k
-tests-find zero a b c d s = simp (lt-ltb b a (s .0), le-leb d c (s .1), lt-ltb (c + b) (a + d) (s .2))
-tests-find (suc zero) a b c d s =
-    simp (lt-ltb b a (s .0), le-leb d c (omega arith), le-ltb (c + b) (a + d) (s .1))
-tests-find (suc (suc zero)) a b c d s =
-    by (decLt a b)
-  where
-    by : Dec (a < b) → byTests a b c d ≡ 2
-    by (yes h) = simp (le-ltb b a (s .1), lt-ltb a b h, lt-leb c d (s .0), lt-ltb (b + d) (c + a) (s .2))
-    by (no n) = simp (le-ltb b a (s .1), le-ltb a b (omega arith), lt-ltb d c (s .0))
-tests-find (suc (suc (suc zero))) a b c d s =
-    simp (le-ltb b a (omega arith), lt-ltb a b (omega arith), lt-leb c d (s .0), le-ltb (b + d) (c + a) (s .1))
-tests-find (suc (suc (suc (suc zero)))) a b c d s =
-    simp (le-ltb b a (omega arith), lt-ltb a b (s .0), le-leb c d (s .1), lt-ltb (d + a) (b + c) (s .2))
-tests-find (suc (suc (suc (suc (suc zero))))) a b c d s =
-    simp (le-ltb b a (omega arith), lt-ltb a b (s .0), le-leb c d (omega arith), le-ltb (d + a) (b + c) (s .1))
-tests-find (suc (suc (suc (suc (suc (suc zero)))))) a b c d s =
-    by (decLt b a)
-  where
-    by : Dec (b < a) → byTests a b c d ≡ 6
-    by (yes h) = simp (lt-ltb b a h, lt-leb d c (s .0), lt-ltb (a + c) (d + b) (s .2))
-    by (no n) = simp (le-ltb b a (omega arith), le-ltb a b (s .1), le-ltb d c (omega arith))
-tests-find (suc (suc (suc (suc (suc (suc (suc zero))))))) a b c d s =
-    simp (lt-ltb b a (omega arith), lt-leb d c (s .0), le-ltb (a + c) (d + b) (s .1))
-tests-find (suc (suc (suc (suc (suc (suc (suc (suc k)))))))) a b c d s = absurd s
+only : (j k a b c d : ℕ) → j < 8 → k < 8 → Sector j a b c d → Sector k a b c d → j ≡ k
+only zero zero a b c d g h s t = refl
+only zero (suc zero) a b c d g h s t = absurd (omega arith)
+only zero (suc (suc k)) a b c d g h s t = absurd (later k a b c d h (s .0) (s .1) t)
+only (suc zero) zero a b c d g h s t = absurd (omega arith)
+only (suc zero) (suc zero) a b c d g h s t = refl
+only (suc zero) (suc (suc k)) a b c d g h s t = absurd (later k a b c d h (s .0) (omega arith) t)
+only (suc (suc j)) zero a b c d g h s t = absurd (later j a b c d g (t .0) (t .1) s)
+only (suc (suc j)) (suc zero) a b c d g h s t = absurd (later j a b c d g (t .0) (omega arith) s)
+only (suc (suc j)) (suc (suc k)) a b c d g h s t = ap (λ (n : ℕ). suc (suc n)) (only j k c d b a (omega arith) (omega arith) s t)
 
 -- No difference is in two octants.
 pub only-octant : (j k : ℕ) (dx dy : ℤ) → T (inOctant j dx dy) → T (inOctant k dx dy) → j ≡ k
 only-octant j k dx dy s t =
-    sym (tests-find j (plus dx) (minus dx) (plus dy) (minus dy) (to-sector j dx dy s))
-    ∙ tests-find k (plus dx) (minus dx) (plus dy) (minus dy) (to-sector k dx dy t)
+    let p = to-sector j dx dy s in
+    let q = to-sector k dx dy t in
+    only j k (plus dx) (minus dx) (plus dy) (minus dy) (p .0) (q .0) (p .1) (q .1)
 
--- Every difference is in one, unless both parts are 0.
-some-sector : (a b c d : ℕ) → ((k : ℕ) × (k < 8) × Sector k a b c d) ⊎ ((a ≡ b) × (c ≡ d))
-some-sector a b c d = byX (decLt b a) (decLt a b)
+-- Every difference is in one, unless both parts are 0: it is in the first quarter, or in one of the others, which are the first one turned.
+quarter : (a b c d : ℕ) → b < a → d ≤ c → (k : ℕ) × (k < 2) × Sector k a b c d
+quarter a b c d h g = by (decLt (c + b) (a + d))
   where
-    right : b < a → Dec (c < d) → Dec (c + b < a + d) → Dec (a + c < d + b) → (k : ℕ) × (k < 8) × Sector k a b c d
-    right h (no n) (yes e) f = (0, omega arith, (h, omega arith, e))
-    right h (no n) (no e) f = (1, omega arith, (h, omega arith))
-    right h (yes n) e (yes f) = (6, omega arith, (n, omega arith, f))
-    right h (yes n) e (no f) = (7, omega arith, (n, omega arith))
+    by : Dec (c + b < a + d) → (k : ℕ) × (k < 2) × Sector k a b c d
+    by (yes e) = (0, omega arith, (h, g, e))
+    by (no n) = (1, omega arith, (h, omega arith))
 
-    left : a < b → Dec (d < c) → Dec (d + a < b + c) → Dec (b + d < c + a) → (k : ℕ) × (k < 8) × Sector k a b c d
-    left h (no n) (yes e) f = (4, omega arith, (h, omega arith, e))
-    left h (no n) (no e) f = (5, omega arith, (h, omega arith))
-    left h (yes n) e (yes f) = (2, omega arith, (n, omega arith, f))
-    left h (yes n) e (no f) = (3, omega arith, (n, omega arith))
+some-sector : (a b c d : ℕ) → ((k : ℕ) × (k < 8) × Sector k a b c d) ⊎ ((a ≡ b) × (c ≡ d))
+some-sector a b c d = by (decLt b a) (decLt c d) (decLt d c) (decLt a b)
+  where
+    third : c < d → b ≤ a → ((k : ℕ) × (k < 8) × Sector k a b c d) ⊎ ((a ≡ b) × (c ≡ d))
+    third z h = let r = quarter d c a b z h in inl (suc (suc (suc (suc (suc (suc (r .0)))))), omega (arith, r .1), r .2)
 
-    level : a ≡ b → Dec (d < c) → Dec (c < d) → ((k : ℕ) × (k < 8) × Sector k a b c d) ⊎ ((a ≡ b) × (c ≡ d))
-    level e (yes h) g = inl (2, omega arith, (h, omega arith, omega arith))
-    level e (no h) (yes g) = inl (6, omega arith, (g, omega arith, omega arith))
-    level e (no h) (no g) = inr (e, omega arith)
-
-    byX : Dec (b < a) → Dec (a < b) → ((k : ℕ) × (k < 8) × Sector k a b c d) ⊎ ((a ≡ b) × (c ≡ d))
-    byX (yes h) g = inl (right h (decLt c d) (decLt (c + b) (a + d)) (decLt (a + c) (d + b)))
-    byX (no h) (yes g) = inl (left g (decLt d c) (decLt (d + a) (b + c)) (decLt (b + d) (c + a)))
-    byX (no h) (no g) = level (omega arith) (decLt d c) (decLt c d)
+    by : Dec (b < a) → Dec (c < d) → Dec (d < c) → Dec (a < b) → ((k : ℕ) × (k < 8) × Sector k a b c d) ⊎ ((a ≡ b) × (c ≡ d))
+    by (yes x) (no z) y l = let r = quarter a b c d x (omega arith) in inl (r .0, omega (arith, r .1), r .2)
+    by (no x) z (yes y) l = let r = quarter c d b a y (omega arith) in inl (suc (suc (r .0)), omega (arith, r .1), r .2)
+    by (no x) z (no y) (yes l) = let r = quarter b a d c l (omega arith) in inl (suc (suc (suc (suc (r .0)))), omega (arith, r .1), r .2)
+    by (yes x) (yes z) y l = third z (omega arith)
+    by (no x) (yes z) (no y) (no l) = third z (omega arith)
+    by (no x) (no z) (no y) (no l) = inr (omega arith, omega arith)
 
 pub some-octant : (dx dy : ℤ) → ¬ ((dx ≡ pos 0) × (dy ≡ pos 0)) → (k : ℕ) × (k < 8) × T (inOctant k dx dy)
 some-octant dx dy n =
-    ⊎-elim (λ s. (s .0, s .1, from-sector (s .0) dx dy (s .2)))
+    ⊎-elim (λ s. (s .0, s .1, from-sector (s .0) dx dy (s .1, s .2)))
     (λ e. absurd (n (whole-ext dx (pos 0) (omega arith), whole-ext dy (pos 0) (omega arith))))
     (some-sector (plus dx) (minus dx) (plus dy) (minus dy))
 
@@ -104,7 +84,7 @@ pub octant-is : (k : ℕ) (dx dy : ℤ) → T (inOctant k dx dy) → octant dx d
 unfolding octant
 octant-is k dx dy t = first-at (conditions dx dy) k t (λ j s. only-octant j k dx dy s t)
 
--- "The octant of a difference other than 0, 0 is exactly one of eight."
+-- SPEC 3.1: a difference that is not 0, 0 has one octant of the eight, and no other.
 pub one-octant : (dx dy : ℤ) → ¬ ((dx ≡ pos 0) × (dy ≡ pos 0))
     → (octant dx dy < 8) × T (inOctant (octant dx dy) dx dy) × ((k : ℕ) → T (inOctant k dx dy) → k ≡ octant dx dy)
 one-octant dx dy n =

@@ -1,16 +1,14 @@
 -- Lower, the listing order and the order of runs are strict total orders, each by one key and then by another.
--- The order of runs is what document 01 says: by length, then by the lower end, then by the higher end.
-use mathlib.Core.Path.{_≡_, sym, _∙_, subst, subst⁻¹}
+-- The order of runs is that of SPEC 2.1: by length, then by the lower end, then by the higher end.
+use mathlib.Core.Path.{_≡_, sym}
 use mathlib.Core.Logic.{_⊎_, inl, inr, ⊎-elim, _↔_}
-use mathlib.Core.Bool.{Bool, not}
 use Prim.Native.Nat.{ℕ, _+_, _≤_, _<_}
 use native.Mathlib.Omega.{arith}
 use native.Mathlib.Decide.{decLt}
-use lib.Dec.{T, T-not, not-T, ltb, ltb→lt, lt→ltb, nltb→le}
+use lib.Dec.{T, ltb, ltb→lt, lt→ltb, nltb→le}
 use lib.IntN.{ℤ}
 use lib.Signed.{ltZ}
 use Rattle.arrays.specs.Order.{StrictTotal}
-use Rattle.arrays.specs.Test.{thenBy}
 use Rattle.plane.specs.Point.{Point, lower, Lower}
 use Rattle.plane.specs.Edge.{Edge, edgeLength, listedBefore, before, Before, ComesBefore, shorter, byLowerEnd, byHigherEnd}
 use Rattle.arrays.proofs.Order.{tied, not-less, by-keys, nat-order}
@@ -50,7 +48,7 @@ listed-order =
     (λ e. lower-order .irrefl (e .hi)) (λ e f g. lower-order .trans (e .hi) (f .hi) (g .hi))
     (λ e f p. ⊎-elim (λ h. inl h) (λ r. inr (⊎-elim (λ q. inl (λ i. record { lo = p i; hi = q i })) (λ k. inr k) r)) (lower-order .compare (e .hi) (f .hi)))
 
--- The test of the order of runs passes exactly if document 01 puts r before s.
+-- The test of the order of runs passes exactly if r comes before s by SPEC 2.1.
 pub before-is : (r s : Edge) → Before r s ↔ ComesBefore r s
 unfolding before listedBefore
 before-is r s = (

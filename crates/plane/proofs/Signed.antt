@@ -12,14 +12,14 @@ use lib.Signed.{ltZ, leZ}
 use mir.Syntax.{w32}
 use mir.Val.{SFits}
 use Rattle.plane.specs.Point.{limit, coordinateInRange}
-use Rattle.plane.specs.Coordinate.{base, biased}
+use Rattle.plane.specs.Coordinate.{base, storedOf}
 use Rattle.plane.specs.Octant.{octant}
 use Rattle.arrays.proofs.Signed.{read, read-two}
 use Rattle.arrays.proofs.Test.{and-parts, and-both, same-test}
 use Rattle.plane.proofs.Whole.{plus, minus, one-sided, sub-value, add-value, difference-value, whole-ext, less-value, value-less, atmost-value}
 use Rattle.plane.proofs.Whole.{value-atmost}
 use Rattle.plane.proofs.Range.{range-values}
-use Rattle.plane.proofs.Stored.{value-range, biased-value}
+use Rattle.plane.proofs.Stored.{value-range, stored-value}
 use Rattle.plane.proofs.Sector.{SectorOf}
 use Rattle.plane.proofs.octants.Between.{sector-octant, octant-none}
 
@@ -79,10 +79,10 @@ between-limits z =
     (λ t. let h = range-values z t in
     and-both (leZ (negsuc 29999) z) (leZ z (pos limit)) (value-atmost (negsuc 29999) z (omega arith)) (value-atmost z (pos limit) (omega arith)))
 
-pub raised : (z : ℤ) → T (coordinateInRange z) → z +ℤ pos limit ≡ pos (biased z)
+pub raised : (z : ℤ) → T (coordinateInRange z) → z +ℤ pos limit ≡ pos (storedOf z)
 raised z t =
     let h = range-values z t in
-    whole-ext (z +ℤ pos limit) (pos (biased z)) (omega (arith, add-value z (pos limit), biased-value z (omega arith)))
+    whole-ext (z +ℤ pos limit) (pos (storedOf z)) (omega (arith, add-value z (pos limit), stored-value z (omega arith)))
 
 -- The difference of two numbers of 16 bits.
 pub lowered : (a b : ℕ) → pos a -ℤ pos b ≡ subℕ a b

@@ -13,7 +13,7 @@ use lib.Signed.{ltZ}
 use borrow.Author.Tests.{lt-ltb, le-ltb, ltb-false}
 use Rattle.arrays.specs.Test.{thenBy}
 use Rattle.plane.specs.Point.{limit, coordinateInRange, lower, gap}
-use Rattle.plane.specs.Coordinate.{coordinate, biased, signed16, word16}
+use Rattle.plane.specs.Coordinate.{coordinate, storedOf, signed16, word16}
 use Rattle.plane.specs.Stored.{pointAt}
 use Rattle.arrays.proofs.Test.{thenBy-cases, same-test}
 use Rattle.plane.proofs.Range.{range-values}
@@ -97,25 +97,25 @@ moved z n h =
     ⊎-elim (λ e. omega (arith, add-value z (pos n), abs-value (z +ℤ pos n))) (λ e. omega (arith, add-value z (pos n), abs-value (z +ℤ pos n)))
     (one-sided (z +ℤ pos n))
 
-pub biased-value : (z : ℤ) → minus z ≤ plus z + 30000 → biased z + minus z ≡ plus z + 30000
-unfolding biased
-biased-value z h = moved z 30000 h
+pub stored-value : (z : ℤ) → minus z ≤ plus z + 30000 → storedOf z + minus z ≡ plus z + 30000
+unfolding storedOf
+stored-value z h = moved z 30000 h
 
 -- The stored form of a whole number in range, and back.
-pub coordinate-biased : (z : ℤ) → T (coordinateInRange z) → coordinate (biased z) ≡ z
-coordinate-biased z t =
+pub coordinate-stored : (z : ℤ) → T (coordinateInRange z) → coordinate (storedOf z) ≡ z
+coordinate-stored z t =
     let h = range-values z t in
-    whole-ext (coordinate (biased z)) z (omega (arith, coordinate-value (biased z), biased-value z (omega arith)))
+    whole-ext (coordinate (storedOf z)) z (omega (arith, coordinate-value (storedOf z), stored-value z (omega arith)))
 
-pub biased-bound : (z : ℤ) → T (coordinateInRange z) → biased z ≤ 60000
-biased-bound z t = let h = range-values z t in omega (arith, biased-value z (omega arith))
+pub stored-bound : (z : ℤ) → T (coordinateInRange z) → storedOf z ≤ 60000
+stored-bound z t = let h = range-values z t in omega (arith, stored-value z (omega arith))
 
 pub coordinate-range : (u : ℕ) → u ≤ 60000 → T (coordinateInRange (coordinate u))
 coordinate-range u h = value-range (coordinate u) (omega (arith, coordinate-value u)) (omega (arith, coordinate-value u))
 
 -- This one holds of every natural number u, as no coordinate u is below −30,000.
-pub biased-coordinate : (u : ℕ) → biased (coordinate u) ≡ u
-biased-coordinate u = omega (arith, coordinate-value u, biased-value (coordinate u) (omega (arith, coordinate-value u)))
+pub stored-coordinate : (u : ℕ) → storedOf (coordinate u) ≡ u
+stored-coordinate u = omega (arith, coordinate-value u, stored-value (coordinate u) (omega (arith, coordinate-value u)))
 
 -- The whole number of two bytes.
 pub signed-value : (low high : ℕ) → plus (signed16 low high) + 65536 * (high / 128) ≡ low + 256 * high + minus (signed16 low high)
@@ -131,8 +131,8 @@ word-stored u =
 -- The two bytes of a coordinate in range are read as the same number, and two bytes that are read are written again.
 pub signed-word : (z : ℤ) → T (coordinateInRange z) → signed16 (word16 z % 256) (word16 z / 256 % 256) ≡ z
 signed-word z t =
-    subst (λ (y : ℤ). signed16 (word16 y % 256) (word16 y / 256 % 256) ≡ y) (coordinate-biased z t)
-    (go (biased z) (biased-bound z t) (word16 (coordinate (biased z))) (word-stored (biased z)))
+    subst (λ (y : ℤ). signed16 (word16 y % 256) (word16 y / 256 % 256) ≡ y) (coordinate-stored z t)
+    (go (storedOf z) (stored-bound z t) (word16 (coordinate (storedOf z))) (word-stored (storedOf z)))
   where
     go : (u : ℕ) → u ≤ 60000 → (w : ℕ) → w ≡ (u + 35536) % 65536 → signed16 (w % 256) (w / 256 % 256) ≡ coordinate u
     go u h w e =

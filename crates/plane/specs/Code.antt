@@ -6,7 +6,7 @@ use Rattle.plane.specs.declared.codes.Located.{Located}
 use Rattle.plane.specs.declared.codes.Located.the-variants.{OutOfRange, At}
 use Rattle.arrays.specs.Test.{if}
 use Rattle.plane.specs.Point.{Point, inRange}
-use Rattle.plane.specs.Coordinate.{base, storedLimit, biased}
+use Rattle.plane.specs.Coordinate.{base, storedLimit, storedOf}
 use Rattle.plane.specs.Stored.{pointAt}
 
 -- Two stored coordinates in one number, and each of them out of it. What the number holds above both does not count.
@@ -19,9 +19,9 @@ xOf k = k / base % base
 abbrev pub yOf : ℕ → ℕ
 yOf k = k % base
 
--- The code of a point in range: of two points the lower has the smaller code.
+-- The code of a point in range (SPEC 5.1): of two points the lower has the smaller code.
 unfoldable pub code : Point → ℕ
-code p = packed (biased (p .x)) (biased (p .y))
+code p = packed (storedOf (p .x)) (storedOf (p .y))
 
 -- The point of a code.
 abbrev pub pointOf : ℕ → Point

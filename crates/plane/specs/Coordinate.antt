@@ -11,15 +11,15 @@ base = 65536
 abbrev pub storedLimit : ℕ
 storedLimit = 60000
 
--- The whole number of a biased coordinate u, which is u − 30,000.
+-- The whole number of a stored coordinate u, which is u − 30,000.
 unfoldable pub coordinate : ℕ → ℤ
 coordinate u = subℕ u limit
 
--- The biased coordinate of a whole number from −30,000 on, which is z + 30,000.
-unfoldable pub biased : ℤ → ℕ
-biased z = natAbs (z +ℤ pos limit)
+-- The stored coordinate of a whole number from −30,000 on, which is z + 30,000.
+unfoldable pub storedOf : ℤ → ℕ
+storedOf z = natAbs (z +ℤ pos limit)
 
--- "a 16-bit two's complement number", little-endian: the whole number of two file bytes, the low one first.
+-- The whole number of two file bytes, the low one first, read as two's complement (SPEC 7.2).
 unfoldable pub signed16 : ℕ → ℕ → ℤ
 signed16 low high = subℕ (low + 256 * high) (base * (high / 128))
 

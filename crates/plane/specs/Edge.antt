@@ -1,4 +1,4 @@
--- Edges (document 01: runs) and their order.
+-- Edges (SPEC 1.4: runs) and their order (SPEC 2.1, 2.3).
 use mathlib.Core.Path.{_≡_}
 use mathlib.Core.Bool.{Bool}
 use Prim.Native.Nat.{ℕ, _<_}
@@ -7,7 +7,7 @@ use Rattle.spanning.specs.Graph.{Graph}
 use Rattle.arrays.specs.Test.{if, thenBy}
 use Rattle.plane.specs.Point.{Point, lower, Lower, dist, pointDec}
 
--- An edge (document 01: a run) as its lower and its higher end. `Rising` says that they are so; "a run joins two different points".
+-- An edge (a run) as its lower and its higher end. `Rising` says that they are so, and then they are different points.
 pub record Edge : Type 0 where
   pub lo : Point
   pub hi : Point
@@ -19,27 +19,27 @@ Rising e = Lower (e .lo) (e .hi)
 unfoldable pub joining : Point → Point → Edge
 joining p q = if (lower p q) (λ _. record { lo = p; hi = q }) (λ _. record { lo = q; hi = p })
 
--- The length of a run.
+-- The length of a run (SPEC 1.4).
 abbrev pub edgeLength : Edge → ℕ
 edgeLength e = dist (e .lo) (e .hi)
 
--- The order by the ends: the lower end first, then the higher. It is the listing order of runs ("runs rise by first then
--- second byte", the numbers of their ends), and it decides among runs of equal length.
+-- The listing order (SPEC 2.3): by the lower end, then by the higher. It also decides among runs of equal length.
 unfoldable pub listedBefore : Edge → Edge → Bool
 listedBefore r s = thenBy (lower (r .lo) (s .lo)) (lower (s .lo) (r .lo)) (λ _. lower (r .hi) (s .hi))
 
--- "Run r comes before run s if it is shorter; at equal length, if its lower end is lower; at the same lower end, if its higher end is lower."
+-- The order of runs (SPEC 2.1): by length, then as they are listed.
 unfoldable pub before : Edge → Edge → Bool
 before r s =
     let m = edgeLength r in
     let n = edgeLength s in
     thenBy (ltb m n) (ltb n m) (λ _. listedBefore r s)
 
+-- r comes before s, by that test.
 abbrev pub Before : Edge → Edge → Type 0
 Before r s = T (before r s)
 
--- The same order as a relation: r is shorter than s; or of the same length with the lower of the lower ends; or it has the same lower
--- end too, and the lower of the higher ends.
+-- The same order as a relation (SPEC 2.1): r is shorter than s; or as long, and its lower end is the lower of the two; or its lower end
+-- is the same too, and its higher end the lower of the two.
 pub data ComesBefore (r s : Edge) : Type 0 where
   shorter : edgeLength r < edgeLength s → ComesBefore r s
   byLowerEnd : edgeLength r ≡ edgeLength s → Lower (r .lo) (s .lo) → ComesBefore r s

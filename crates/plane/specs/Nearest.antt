@@ -9,7 +9,7 @@ use Rattle.arrays.specs.Test.{if}
 use Rattle.plane.specs.Point.{Point, dist}
 use Rattle.plane.specs.Octant.{inOctant}
 
--- "From a new point, dx and dy are the differences to a held point": q is in octant k of p.
+-- q is in octant k as seen from p (SPEC 3.1).
 abbrev pub inOctantOf : ℕ → Point → Point → Bool
 inOctantOf k p q = inOctant k (q .x -ℤ p .x) (q .y -ℤ p .y)
 
@@ -18,7 +18,7 @@ abbrev pub nearer : Point → Point → Option Point → Option Point
 nearer p q none = some q
 nearer p q (some r) = if (ltb (dist p r) (dist p q)) (λ _. some r) (λ _. some q)
 
--- "the nearest held point of an octant (the lower among equals)"; the points are given lower first.
+-- The nearest of the points in octant k of p, the lower one if two are as near (SPEC 3.2); the points are given lower first.
 unfoldable pub nearest : ℕ → Point → List Point → Option Point
 nearest k p [] = none
 nearest k p (q ∷ l) =

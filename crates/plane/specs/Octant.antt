@@ -1,4 +1,4 @@
--- The eight octants, as document 01's table has them.
+-- The eight octants (SPEC 3.1).
 use mathlib.Core.Bool.{Bool, false, _&&_}
 use mathlib.Core.List.{List, [], _∷_}
 use Prim.Native.Nat.{ℕ, suc}
@@ -7,7 +7,7 @@ use lib.IntN.{ℤ, pos, negℤ}
 use lib.Signed.{ltZ, leZ}
 use Rattle.arrays.specs.Test.{if}
 
--- Document 01's table: the condition of each octant, 0 to 7, on the differences dx and dy.
+-- The table of SPEC 3.1: the condition of each octant, 0 to 7, on the differences dx and dy.
 unfoldable pub conditions : ℤ → ℤ → List Bool
 conditions dx dy =
     (ltZ (pos 0) dx && (leZ (pos 0) dy && ltZ dy dx))

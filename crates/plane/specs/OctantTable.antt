@@ -3,8 +3,8 @@ use mathlib.Core.Path.{_≡_}
 use mathlib.Core.Option.{Option, none, some}
 use mathlib.Core.List.{List, [], _∷_}
 use Prim.Native.Nat.{ℕ}
-use lib.IntN.{ℤ, pos, negsuc}
-use Rattle.plane.specs.Point.{Point, gap, dist}
+use lib.IntN.{pos, negsuc}
+use Rattle.plane.specs.Point.{Point, point, gap, dist}
 use Rattle.plane.specs.Octant.{conditions, firstTrue, octant}
 use Rattle.plane.specs.Nearest.{nearest}
 
@@ -14,10 +14,7 @@ unfolding conditions firstTrue octant
 octants [] = []
 octants (d ∷ l) = octant (d .x) (d .y) ∷ octants l
 
-abbrev pub point : ℤ → ℤ → Point
-point x y = record { x = x; y = y }
-
--- The borders of all eight octants in turn, and a difference inside each; 8 is the answer for no difference.
+-- The borders of all eight octants, and a difference inside each; 8 is the answer for no difference.
 abbrev pub Borders : Type 0
 Borders =
     octants (point (negsuc 0) (pos 0) ∷ point (negsuc 0) (negsuc 0) ∷ point (pos 0) (negsuc 0) ∷ point (pos 1) (negsuc 0)
@@ -32,7 +29,8 @@ star p ps =
     nearest 0 p ps ∷ nearest 1 p ps ∷ nearest 2 p ps ∷ nearest 3 p ps ∷ nearest 4 p ps ∷ nearest 5 p ps
     ∷ nearest 6 p ps ∷ nearest 7 p ps ∷ []
 
--- "Where (0,0) joins (2,−2), (2,2) and (5,0), its run to (5,0) ties at length 5 [..] and comes first": octant 0 must offer (5,0).
+-- (5,0) lies on the ray where octant 0 begins and octant 7 ends. Octant 0 has it, and octant 7 offers (2,−2): with octants closed at both
+-- ends the nearer points (2,2) and (2,−2) would hide it from (0,0).
 abbrev pub NearestInOctants : Type 0
 NearestInOctants =
     star (point (pos 0) (pos 0)) (point (pos 2) (negsuc 1) ∷ point (pos 2) (pos 2) ∷ point (pos 5) (pos 0) ∷ [])

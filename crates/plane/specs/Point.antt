@@ -7,7 +7,7 @@ use lib.IntN.{ℤ, pos, negsuc, natAbs, _-ℤ_}
 use lib.Signed.{ltZ}
 use Rattle.arrays.specs.Test.{thenBy}
 
--- A point (document 01: a pair x, y of whole centimetres), here any pair of whole numbers.
+-- A point (SPEC 1.1): any two whole numbers of centimetres, in range or not.
 pub record Point : Type 0 where
   pub x : ℤ
   pub y : ℤ
@@ -16,22 +16,23 @@ pub record Point : Type 0 where
 abbrev pub point : ℤ → ℤ → Point
 point x y = record { x = x; y = y }
 
--- The largest coordinate, and without its sign the smallest.
+-- The largest coordinate in range, and without its sign the smallest (SPEC 1.1).
 abbrev pub limit : ℕ
 limit = 30000
 
--- A coordinate in range: at most the limit without its sign.
+-- A coordinate in range (SPEC 1.1): at most the limit without its sign.
 abbrev pub coordinateInRange : ℤ → Bool
 coordinateInRange z = leb (natAbs z) limit
 
--- A point in range.
+-- A point in range (SPEC 1.1).
 abbrev pub inRange : Point → Bool
 inRange p = coordinateInRange (p .x) && coordinateInRange (p .y)
 
--- "Point a is lower than b if its x is smaller, or the x are equal and its y is smaller."
+-- Which point is lower (SPEC 1.3): by x, then by y.
 unfoldable pub lower : Point → Point → Bool
 lower a b = thenBy (ltZ (a .x) (b .x)) (ltZ (b .x) (a .x)) (λ _. ltZ (a .y) (b .y))
 
+-- a is lower than b, by that test.
 abbrev pub Lower : Point → Point → Type 0
 Lower a b = T (lower a b)
 
@@ -39,7 +40,7 @@ Lower a b = T (lower a b)
 unfoldable pub gap : ℤ → ℤ → ℕ
 gap a b = natAbs (a -ℤ b)
 
--- The distance of two points, |x1 − x2| + |y1 − y2|.
+-- The distance of two points (SPEC 1.4): the gaps of both axes together.
 unfoldable pub dist : Point → Point → ℕ
 dist p q = gap (p .x) (q .x) + gap (p .y) (q .y)
 
@@ -60,7 +61,7 @@ pub sameZ-refl : (a : ℤ) → T (sameZ a a)
 sameZ-refl (pos a) = eqb-refl a
 sameZ-refl (negsuc a) = eqb-refl a
 
--- Two points are told apart by their coordinates.
+-- Whether two points are equal, by their coordinates.
 unfoldable pub pointDec : Discrete Point
 pointDec p q =
     byX (sameZ (p .x) (q .x)) (sameZ-eq (p .x) (q .x))

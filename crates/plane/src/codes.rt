@@ -5,7 +5,7 @@ ghost use mathlib.Core.Path.{_≡_};
 ghost use Prim.Native.Nat.{_*_, _<_};
 ghost use lib.Dec.{T};
 ghost use Rattle.plane.specs.Point.{coordinateInRange};
-ghost use Rattle.plane.specs.Coordinate.{base, biased};
+ghost use Rattle.plane.specs.Coordinate.{base, storedOf};
 ghost use Rattle.plane.specs.Code.{packed, xOf, yOf, isCode, located};
 
 // The stored form of the largest coordinate in range.
@@ -20,28 +20,28 @@ pub enum Located {
     At(u64),
 }
 
-// Two stored coordinates as one number.
+// Returns two stored coordinates as one number.
 pub fn pack(x: u16, y: u16) -> u64
     ensures { λ r. ⌜ (r ≡ packed x y) × (r < base * base) ⌝ }
 {
     x as u64 * BASE + y as u64
 }
 
-// The stored x in a number.
+// Returns the stored x in a number.
 pub fn x_of(k: u64) -> u16
     ensures { λ r. ⌜ r ≡ xOf k ⌝ }
 {
     (k / BASE % BASE) as u16
 }
 
-// The stored y in a number.
+// Returns the stored y in a number.
 pub fn y_of(k: u64) -> u16
     ensures { λ r. ⌜ r ≡ yOf k ⌝ }
 {
     (k % BASE) as u16
 }
 
-// Whether a number is the code of a point in range.
+// Returns whether a number is the code of a point in range.
 pub fn is_code(k: u64) -> bool
     ensures { λ r. ⌜ r ≡ isCode k ⌝ }
 {
@@ -58,12 +58,12 @@ fn is_in_range(z: i32) -> bool
 // The stored form of a coordinate in range.
 fn stored(z: i32) -> u16
     requires { ⌜ T (coordinateInRange z) ⌝ }
-    ensures { λ r. ⌜ r ≡ biased z ⌝ }
+    ensures { λ r. ⌜ r ≡ storedOf z ⌝ }
 {
     (z + LIMIT) as u16
 }
 
-// Where a point is.
+// Returns the code of a point, or that it is out of range.
 pub fn locate(x: i32, y: i32) -> Located
     ensures { λ r. ⌜ r ≡ located (record { x = x; y = y }) ⌝ }
 {

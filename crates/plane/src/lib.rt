@@ -25,14 +25,14 @@ pub const PLACES: usize = 128;
 // The least high byte of a negative number.
 const SIGN: u64 = 128;
 
-// The distance along one axis.
+// Returns the distance along one axis.
 pub fn apart(a: u16, b: u16) -> u16
     ensures { λ r. ⌜ r ≡ gap (coordinate a) (coordinate b) ⌝ }
 {
     if a < b { b - a } else { a - b }
 }
 
-// The distance of two points.
+// Returns the distance of two points, |ax − bx| + |ay − by|.
 pub fn distance(ax: u16, ay: u16, bx: u16, by: u16) -> u32
     ensures { λ r. ⌜ r ≡ dist (pointAt ax ay) (pointAt bx by) ⌝ }
     ensures { λ r. ⌜ r ≤ 131070 ⌝ }
@@ -40,7 +40,7 @@ pub fn distance(ax: u16, ay: u16, bx: u16, by: u16) -> u32
     apart(ax, bx) as u32 + apart(ay, by) as u32
 }
 
-// Whether a is lower than b.
+// Returns whether a is lower than b: by x, then by y.
 pub fn is_lower(ax: u16, ay: u16, bx: u16, by: u16) -> bool
     ensures { λ r. ⌜ r ≡ lower (pointAt ax ay) (pointAt bx by) ⌝ }
 {
@@ -55,14 +55,14 @@ fn difference(a: u64, b: u64) -> i32
     a as i32 - b as i32
 }
 
-// The 16 bits of a coordinate in two's complement, from its stored form.
+// Returns the 16 bits of a coordinate in two's complement, from its stored form.
 pub fn word_of(u: u16) -> usize
     ensures { λ r. ⌜ r ≡ word16 (coordinate u) ⌝ }
 {
     ((u as u64 + BASE - LIMIT as u64) % BASE) as usize
 }
 
-// The whole number of two file bytes.
+// Returns the whole number of two file bytes, the low one first.
 pub fn from_bytes(low: u8, high: u8) -> i32
     ensures { λ r. ⌜ r ≡ signed16 low high ⌝ }
 {
@@ -70,7 +70,7 @@ pub fn from_bytes(low: u8, high: u8) -> i32
     difference(bits, BASE * (high as u64 / SIGN))
 }
 
-// The whole number of a stored coordinate.
+// Returns the whole number of a stored coordinate.
 pub fn to_signed(u: u16) -> i32
     ensures { λ r. ⌜ r ≡ coordinate u ⌝ }
 {

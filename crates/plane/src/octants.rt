@@ -12,7 +12,7 @@ pub const OCTANTS: usize = 8;
 
 pub const NO_OCTANT: u8 = OCTANTS as u8;
 
-// The octant of a difference, 0 to 7, and NO_OCTANT for no difference. A sum is taken only of numbers with unlike signs, so that it fits.
+// Returns the octant of a difference (SPEC 3.1), 0 to 7, and NO_OCTANT for no difference. A sum is taken only of numbers with unlike signs, so that it fits.
 pub fn octant(dx: i32, dy: i32) -> u8
     ensures { λ r. ⌜ r ≡ table.octant dx dy ⌝ }
 {
@@ -45,8 +45,8 @@ fn passes(p: bool, q: bool, s: bool) -> u8
     p as u8 + q as u8 + s as u8
 }
 
-// The octant of b seen from a, NO_OCTANT where they are one point. A half turn has three rays inside it where an octant starts, and b's
-// octant in it is the count of those that b has reached. The first half turn, from the ray to the right, is where b comes after a
+// Returns the octant of b seen from a, NO_OCTANT where they are one point. A half plane has three rays inside it where an octant starts,
+// and b's octant in it is the count of those that b has reached. The first half plane, from the ray to the right, is where b comes after a
 // by y and then by x; the second is where it comes before.
 pub fn octant_between(ax: u16, ay: u16, bx: u16, by: u16) -> u8
     ensures { λ r. ⌜ r ≡ table.octant (coordinate bx -ℤ coordinate ax) (coordinate by -ℤ coordinate ay) ⌝ }

@@ -2,6 +2,6 @@
 use mathlib.Core.List.{List, [], _∷_}
 use Rattle.model.specs.Call.{Call, runToEnd}
 
--- "read, run to the end, write": the only call between reading and writing.
+-- The one call between reading and writing (SPEC 10.1).
 abbrev pub toEnd : List Call
 toEnd = runToEnd ∷ []

@@ -9,8 +9,8 @@ ghost use Rattle.model.specs.File.{readFile};
 ghost use Rattle.deckfile.specs.Answer.{answerNumber, answerBuffer};
 ghost use Rattle.planner.specs.Entry.{toEnd};
 
-// Reads a deck file, runs to the end and writes the deck into `out`. Answers the length written, always 30 or more, or the
-// refusal's number.
+// Reads a deck file, runs to the end and writes the deck into `out` (SPEC 10.1). Returns how many bytes were written, which are 30 at least,
+// or the number of the refusal.
 #[no_mangle]
 pub extern "C" fn planner_plan(file: &[u8], out: &mut [u8]) -> usize
     ensures { λ n. ⌜ n ≡ answerNumber (readFile (now (file .entry))) toEnd (now (out .entry)) ⌝ }

@@ -4,7 +4,7 @@ use mathlib.Core.Logic.{⊎-elim}
 use mathlib.Core.List.{List, _++_, map, List·Memᴰ}
 use Prim.Native.Nat.{ℕ, _+_, _-_, _≤_}
 use native.Mathlib.Omega.{arith}
-use lib.ListN.{length, take, drop, replicate, length-map, take-append-drop}
+use lib.ListN.{length, take, replicate, length-map, take-append-drop}
 use Rattle.plane.specs.Point.{Point, lower}
 use Rattle.plane.specs.Code.{code, pointOf}
 use Rattle.plane.proofs.Order.{lower-order}
@@ -14,7 +14,7 @@ use Rattle.model.specs.State.{State, Placed, Valid, maxPins}
 use Rattle.model.proofs.Candidate.{map-in}
 use Rattle.model.proofs.Prune.{few-steiner}
 use Rattle.points.specs.declared.Points.{Points}
-use Rattle.points.specs.Coded.{maxPoints, places, padded, coded, stateOf, Codes, Arranged}
+use Rattle.points.specs.Coded.{places, padded, coded, stateOf, Codes, Arranged}
 use Rattle.points.proofs.Codes.{codes-full, padded-take, padded-codes}
 
 -- The state of the points of a placed state is the state.

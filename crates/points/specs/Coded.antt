@@ -16,7 +16,7 @@ use Rattle.points.specs.declared.Points.{Points}
 abbrev pub maxSteiner : ℕ
 maxSteiner = 62
 
--- "At most 126 points are held between calls, 127 during a round": the most points.
+-- The most points held, which is in a round (SPEC 4.7).
 abbrev pub maxPoints : ℕ
 maxPoints = 127
 
@@ -57,6 +57,7 @@ pub record Arranged (q : Points) : Type 0 where
 abbrev pub ordered : List ℕ → ℕ → Bool
 ordered a n = all isCode (take n a) && (rising ltb (take n a) && allZero (drop n a))
 
+-- Whether points are arranged.
 abbrev pub arranged : Points → Bool
 arranged q =
     leb (q .npins) maxPins

@@ -12,7 +12,7 @@ ghost use Rattle.model.specs.State as state;
 ghost use Rattle.model.specs.Round.{withSteiner};
 ghost use Rattle.points.specs.Coded.{Arranged, stateOf, maxPoints};
 
-// A pin joins; where a Steiner point stands, it becomes a pin.
+// Returns the points with a pin of code k, where no Steiner point stands then.
 pub fn with_pin(q: Points, k: u64) -> Points
     requires { ⌜ Arranged q ⌝ }
     requires { ⌜ T (isCode k) ⌝ }
@@ -31,7 +31,7 @@ pub fn with_pin(q: Points, k: u64) -> Points
     }
 }
 
-// A pin leaves.
+// Returns the points without the pin of code k.
 pub fn without_pin(q: Points, k: u64) -> Points
     requires { ⌜ Arranged q ⌝ }
     requires { ⌜ T (isCode k) ⌝ }
@@ -48,7 +48,7 @@ pub fn without_pin(q: Points, k: u64) -> Points
     }
 }
 
-// A Steiner point joins where no pin stands.
+// Returns the points with a Steiner point of code k, where no pin stands.
 pub fn with_steiner(q: Points, k: u64) -> Points
     requires { ⌜ Arranged q ⌝ }
     requires { ⌜ T (isCode k) ⌝ }
@@ -67,7 +67,7 @@ pub fn with_steiner(q: Points, k: u64) -> Points
     }
 }
 
-// A Steiner point leaves.
+// Returns the points without the Steiner point of code k.
 pub fn without_steiner(q: Points, k: u64) -> Points
     requires { ⌜ Arranged q ⌝ }
     requires { ⌜ T (isCode k) ⌝ }

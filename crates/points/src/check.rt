@@ -38,7 +38,7 @@ fn is_ordered(a: &[u64], n: usize) -> bool
     arrays::sorted::zeros_from(a, n)
 }
 
-// Whether the pins and the Steiner points are sets of codes apart from each other, few enough.
+// Returns whether the pins and the Steiner points are sets of codes apart from each other, few enough.
 pub fn is_arranged(q: Points) -> bool
     ensures { λ r. ⌜ r ≡ arranged q ⌝ }
 {

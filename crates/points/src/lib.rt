@@ -1,4 +1,4 @@
-// The points of a deck: its pins and its Steiner points (document 01: taps) as codes.
+// The points of a deck: its pins and its Steiner points (taps) as codes (SPEC 5.1).
 pub mod change;
 pub mod check;
 
@@ -27,7 +27,7 @@ pub struct Points {
 }
 
 impl Points {
-    // No point.
+    // Returns the points of an empty deck.
     pub fn empty() -> Points
         ensures { λ r. ⌜ r ≡ coded state.empty ⌝ }
     {

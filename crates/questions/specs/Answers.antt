@@ -1,4 +1,4 @@
--- What the questions answer, by the model.
+-- What the questions answer (SPEC 4.6), by the model.
 use mathlib.Core.Option.{Option, none, some}
 use Prim.Native.Nat.{ℕ}
 use Rattle.plane.specs.Point.{Point}
@@ -10,15 +10,15 @@ use Rattle.working.specs.Edges.{edgeOf}
 use Rattle.questions.specs.declared.Answer.{Answer}
 use Rattle.questions.specs.declared.Answer.the-variants.{Length, Counts, Edge, NoEdge, Degree}
 
--- "its length"
+-- The length of the deck.
 abbrev pub lengthAnswer : State → Answer
 lengthAnswer s = Length (question.lengthOfState s)
 
--- "its counts of pins, taps and runs"
+-- How many pins, taps and runs it has.
 abbrev pub countsAnswer : State → Answer
 countsAnswer s = Counts (question.pinCount s) (question.steinerCount s) (question.edgeCount s)
 
--- A run: "lower end, higher end, length".
+-- A run, by its lower end, its higher end and its length.
 abbrev pub edgeAnswer : PlaneEdge → Answer
 edgeAnswer e = Edge (e .lo .x) (e .lo .y) (e .hi .x) (e .hi .y) (edgeLength e)
 
@@ -26,15 +26,16 @@ edgeAnswer e = Edge (e .lo .x) (e .lo .y) (e .hi .x) (e .hi .y) (edgeLength e)
 abbrev pub codedAnswer : CodedEdge → Answer
 codedAnswer e = let p = edgeOf e in Edge (p .lo .x) (p .lo .y) (p .hi .x) (p .hi .y) (e .distance)
 
+-- A run, or that there is none.
 unfoldable pub edgeOrNone : Option PlaneEdge → Answer
 edgeOrNone none = NoEdge
 edgeOrNone (some e) = edgeAnswer e
 
--- "the run at a place in the listing order, places from 0"; "A run asked for beyond the last is answered 'no run'".
+-- The run at a place of the listing order, counted from 0; beyond the last there is none.
 abbrev pub edgeAtAnswer : ℕ → State → Answer
 edgeAtAnswer i s = edgeOrNone (question.edgeAtPlace i s)
 
--- "the number of runs at a point (0 where none is held)"
+-- How many runs a point has; none if the deck does not hold it.
 abbrev pub degreeAnswer : Point → State → Answer
 degreeAnswer p s = Degree (question.edgeCountAt p s)
 

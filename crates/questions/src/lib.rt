@@ -54,7 +54,7 @@ fn degree_of(w: Working, k: u64) -> usize
     )
 }
 
-// The length of the tree.
+// Returns the length of the tree.
 pub fn length(w: Working) -> Answer
     requires { ⌜ InOrder w ⌝ }
     ensures { λ r. ⌜ r ≡ lengthAnswer (stateOf w) ⌝ }
@@ -62,7 +62,7 @@ pub fn length(w: Working) -> Answer
     Answer::Length(rounds::length_of(w))
 }
 
-// The counts of pins, Steiner points and edges.
+// Returns the numbers of pins, Steiner points and edges.
 pub fn counts(w: Working) -> Answer
     requires { ⌜ InOrder w ⌝ }
     ensures { λ r. ⌜ r ≡ countsAnswer (stateOf w) ⌝ }
@@ -74,7 +74,7 @@ pub fn counts(w: Working) -> Answer
     )
 }
 
-// The edge at a place in the listing order, places from 0.
+// Returns the edge at a place of the listing order, counted from 0, or that there is none.
 pub fn edge_at(w: Working, i: usize) -> Answer
     requires { ⌜ InOrder w ⌝ }
     ensures { λ r. ⌜ r ≡ edgeAtAnswer i (stateOf w) ⌝ }
@@ -86,7 +86,7 @@ pub fn edge_at(w: Working, i: usize) -> Answer
     answer_of(working::edges::edge_at(w, &ends, i))
 }
 
-// The number of edges at a point, 0 where none is held.
+// Returns how many edges a point has, 0 where it is not held.
 pub fn degree_at(w: Working, x: i32, y: i32) -> Answer
     requires { ⌜ InOrder w ⌝ }
     requires { ⌜ Valid (stateOf w) ⌝ }

@@ -21,6 +21,7 @@ sideOffset west = places
 sideOffset north = 2 * places
 sideOffset south = 3 * places
 
+-- Room for the rays of four sides.
 abbrev pub rayPlaces : ℕ
 rayPlaces = 4 * places
 

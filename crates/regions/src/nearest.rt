@@ -28,14 +28,14 @@ pub const SOUTH: usize = 3 * PLACES;
 // Room for the rays of four sides.
 pub const RAY_PLACES: usize = 4 * PLACES;
 
-// No ray at any row.
+// Returns an array with no ray at any row.
 pub fn no_rays() -> [u32; RAY_PLACES]
     ensures { λ r. ⌜ spec.NoRays r ⌝ }
 {
     [0u32; RAY_PLACES]
 }
 
-// The ray of a complement.
+// Returns the ray of a complement.
 pub fn ray_of(complement: u32) -> u32
     requires { ⌜ complement ≤ farRay ⌝ }
     ensures { λ r. ⌜ r ≡ farRay - complement ⌝ }
@@ -130,7 +130,7 @@ fn relax_point(
     );
 }
 
-// The same, on the side where the point is.
+// The least rays with one point more, which is west of the column or not.
 fn join_point(
     xs: &[u16],
     n: usize,
@@ -152,7 +152,7 @@ fn join_point(
     relax_point(xs, n, j, gaps, ranks, count, x, least, EAST);
 }
 
-// The least ray of each side at each of the first `count` rows of the column x, into an array with no ray.
+// Puts the least ray of each side at each of the first `count` rows of the column x into an array with no ray. Returns nothing.
 pub fn nearest(
     xs: &[u16],
     n: usize,

@@ -12,7 +12,7 @@ pub const SCALE: u32 = PLACES as u32;
 // A table of PLACES rows of PLACES.
 pub const TABLE_SIZE: usize = PLACES * PLACES;
 
-// Room for an entry for each point and row, or for each two points.
+// Returns room for an entry for each point and row, or for each two points, all 0.
 pub fn blank() -> [u32; TABLE_SIZE]
     ensures { λ r. ⌜ length r ≡ tableSize ⌝ }
 {
@@ -46,7 +46,8 @@ fn row_gaps(rows: &[u16], count: usize, y: u16, start: usize, gaps: &mut [u32])
     }
 }
 
-// Locates each point among the rows: its distances to them, those of the point j from the place j * 128 on, and how many are below.
+// Locates each point among the rows: puts its distances to them, those of the point j from the place j * 128 on, and how many are below.
+// Returns nothing.
 pub fn locate(
     ys: &[u16],
     n: usize,

@@ -1,4 +1,4 @@
--- A list of calls in bytes, twelve bytes each, and the deck that it starts from.
+-- A list of calls in bytes (SPEC 6.5), twelve bytes each, and the deck that it starts from.
 use mathlib.Core.List.{List, [], _∷_, _++_}
 use Prim.Native.Nat.{ℕ, zero, suc, _+_, _*_, _/_}
 use lib.Dec.{eqb}
@@ -37,7 +37,7 @@ firstCalls (suc n) b = firstCalls n b ++ callAt b (n * 12)
 unfoldable pub callsOf : List ℕ → List Call
 callsOf b = firstCalls (length b / 12) b
 
--- A list starts from the deck of a file, or from an empty deck where there are no bytes.
+-- A list starts from the deck of a file, or from an empty deck where there are no bytes (SPEC 10.2).
 unfoldable pub startOf : List ℕ → Read
 startOf [] = deck empty
 startOf (a ∷ b) = readFile (a ∷ b)

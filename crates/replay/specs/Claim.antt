@@ -1,4 +1,4 @@
--- The claim on lists of calls in bytes, on what `replay_calls` answers and leaves by its contract.
+-- The claim on lists of calls in bytes (SPEC 10.2), on what `replay_calls` answers and leaves by its contract.
 use mathlib.Core.Path.{_≡_}
 use mathlib.Core.List.{List}
 use Prim.Native.Nat.{ℕ}

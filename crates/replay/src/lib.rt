@@ -25,8 +25,8 @@ fn start(file: &[u8]) -> Outcome
     deckfile::read(file)
 }
 
-// Makes a list of calls, twelve bytes each, on the deck of a file, or on an empty deck where `file` has no bytes, and writes the
-// deck that they leave into `out`. Answers the length written, always 30 or more, or the refusal's number.
+// Makes a list of calls, twelve bytes each, on the deck of a file, or on an empty deck where `file` has no bytes, and writes the deck that
+// they leave into `out` (SPEC 10.2). Returns how many bytes were written, which are 30 at least, or the number of the refusal.
 #[no_mangle]
 pub extern "C" fn replay_calls(file: &[u8], calls: &[u8], out: &mut [u8]) -> usize
     ensures { λ n. ⌜ n ≡ answerNumber (startOf (now (file .entry))) (callsOf (now (calls .entry))) (now (out .entry)) ⌝ }

@@ -59,7 +59,7 @@ fn call_at(d: Deck, calls: &[u8], at: usize) -> Deck
     call(d, calls[at], x, y)
 }
 
-// The deck after all calls, each handed the deck that the one before it left. Fewer than twelve bytes at the end are no call.
+// Returns the deck after all calls, each made on the deck of the one before. Fewer than twelve bytes at the end are no call.
 pub fn call_all(d: Deck, calls: &[u8]) -> Deck
     ensures { λ r. ⌜ r ≡ deckAfter d (bytes.callsOf (now (calls .entry))) ⌝ }
 {

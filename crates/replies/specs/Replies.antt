@@ -1,7 +1,8 @@
--- The lines for replies and answers of a deck's calls and questions, without the line feed.
-use mathlib.Core.List.{List, [], _∷_, _++_}
+-- The lines for replies and answers of a deck's calls and questions (SPEC 9.3, 9.4), without the line feed.
+use mathlib.Core.List.{List, _++_}
 use Prim.Native.Nat.{ℕ}
 use lib.IntN.{ℤ}
+use Rattle.arrays.specs.Text.{bytes}
 use Rattle.model.specs.Listing.{field, decimal, signedDecimal, refusedWord, tapWord, runWord}
 use Rattle.calls.specs.declared.Reply.{Reply}
 use Rattle.calls.specs.declared.Reply.the-variants as reply
@@ -10,34 +11,34 @@ use Rattle.questions.specs.declared.Answer.the-variants as answer
 
 -- The words ok, error, finished, fall, rounds, length, counts, no, degree, octant.
 abbrev pub okWord : List ℕ
-okWord = 111 ∷ 107 ∷ []
+okWord = bytes "ok"
 
 abbrev pub errorWord : List ℕ
-errorWord = 101 ∷ 114 ∷ 114 ∷ 111 ∷ 114 ∷ []
+errorWord = bytes "error"
 
 abbrev pub finishedWord : List ℕ
-finishedWord = 102 ∷ 105 ∷ 110 ∷ 105 ∷ 115 ∷ 104 ∷ 101 ∷ 100 ∷ []
+finishedWord = bytes "finished"
 
 abbrev pub fallWord : List ℕ
-fallWord = 102 ∷ 97 ∷ 108 ∷ 108 ∷ []
+fallWord = bytes "fall"
 
 abbrev pub roundsWord : List ℕ
-roundsWord = 114 ∷ 111 ∷ 117 ∷ 110 ∷ 100 ∷ 115 ∷ []
+roundsWord = bytes "rounds"
 
 abbrev pub lengthWord : List ℕ
-lengthWord = 108 ∷ 101 ∷ 110 ∷ 103 ∷ 116 ∷ 104 ∷ []
+lengthWord = bytes "length"
 
 abbrev pub countsWord : List ℕ
-countsWord = 99 ∷ 111 ∷ 117 ∷ 110 ∷ 116 ∷ 115 ∷ []
+countsWord = bytes "counts"
 
 abbrev pub noWord : List ℕ
-noWord = 110 ∷ 111 ∷ []
+noWord = bytes "no"
 
 abbrev pub degreeWord : List ℕ
-degreeWord = 100 ∷ 101 ∷ 103 ∷ 114 ∷ 101 ∷ 101 ∷ []
+degreeWord = bytes "degree"
 
 abbrev pub octantWord : List ℕ
-octantWord = 111 ∷ 99 ∷ 116 ∷ 97 ∷ 110 ∷ 116 ∷ []
+octantWord = bytes "octant"
 
 -- Room for the parts of a line: a fall in length, three counts, the ends of an edge, an edge; and for any line.
 abbrev pub fallRoom : ℕ
@@ -64,6 +65,7 @@ abbrev pub fallText : ℤ → ℤ → ℕ → List ℕ
 fallText x y n =
     tapWord ++ (field (signedDecimal x) ++ (field (signedDecimal y) ++ (field fallWord ++ field (decimal n))))
 
+-- The three counts: `counts PINS TAPS RUNS`.
 abbrev pub countsText : ℕ → ℕ → ℕ → List ℕ
 countsText p t r = countsWord ++ (field (decimal p) ++ (field (decimal t) ++ field (decimal r)))
 
@@ -74,6 +76,7 @@ endsText x y u v = field (signedDecimal x) ++ (field (signedDecimal y) ++ (field
 abbrev pub edgeText : ℤ → ℤ → ℤ → ℤ → ℕ → List ℕ
 edgeText x y u v n = runWord ++ (endsText x y u v ++ field (decimal n))
 
+-- The line of a reply.
 unfoldable pub replyText : Reply → List ℕ
 replyText reply.Done = okWord
 replyText (reply.Refused n) = numberText refusedWord n
@@ -81,6 +84,7 @@ replyText reply.Finished = finishedWord
 replyText (reply.Tap x y n) = fallText x y n
 replyText (reply.Rounds n) = numberText roundsWord n
 
+-- The line of an answer.
 unfoldable pub answerText : Answer → List ℕ
 answerText (answer.Refused n) = numberText refusedWord n
 answerText (answer.Length n) = numberText lengthWord n

@@ -68,7 +68,7 @@ fn edge_line(out: &mut [u8], x: i32, y: i32, u: i32, v: i32, n: u64) -> usize
     decimal_field(out, b, n)
 }
 
-// The line of a reply at the front of `out`, which has to have room for 128 bytes. Returns its length; 0 where there is no room.
+// Puts the line of a reply at the front of `out`, which has to have room for 128 bytes. Returns its length; 0 where there is no room.
 pub fn reply_line(reply: Reply, out: &mut [u8]) -> usize
     ensures { λ r. ⌜ Pasted (fitting lineRoom (now (out .entry)) (replyText reply)) (now (out .entry)) (now (out .exit)) 0 r ⌝ }
 {
@@ -84,7 +84,7 @@ pub fn reply_line(reply: Reply, out: &mut [u8]) -> usize
     }
 }
 
-// The line of an answer, by the same rule.
+// Puts the line of an answer at the front of `out`, which has to have room for 128 bytes. Returns its length; 0 where there is no room.
 pub fn answer_line(answer: Answer, out: &mut [u8]) -> usize
     ensures { λ r. ⌜ Pasted (fitting lineRoom (now (out .entry)) (answerText answer)) (now (out .entry)) (now (out .exit)) 0 r ⌝ }
 {
@@ -101,7 +101,7 @@ pub fn answer_line(answer: Answer, out: &mut [u8]) -> usize
     }
 }
 
-// `error`, by the same rule.
+// Puts `error` at the front of `out`, which has to have room for 128 bytes. Returns its length; 0 where there is no room.
 pub fn error_line(out: &mut [u8]) -> usize
     ensures { λ r. ⌜ Pasted (fitting lineRoom (now (out .entry)) errorWord) (now (out .entry)) (now (out .exit)) 0 r ⌝ }
 {
@@ -111,7 +111,7 @@ pub fn error_line(out: &mut [u8]) -> usize
     put_bytes(out, 0, b"error")
 }
 
-// `octant N`, by the same rule.
+// Puts `octant N` at the front of `out`, which has to have room for 128 bytes. Returns its length; 0 where there is no room.
 pub fn octant_line(n: u64, out: &mut [u8]) -> usize
     ensures { λ r. ⌜ Pasted (fitting lineRoom (now (out .entry)) (numberText octantWord n)) (now (out .entry)) (now (out .exit)) 0 r ⌝ }
 {

@@ -1,18 +1,17 @@
 -- A round on a working form is the model's: the crossing found is its best candidate.
 use mathlib.Core.Path.{_≡_, refl, sym, ap, ap₂, _∙_, subst}
-use mathlib.Core.Logic.{inl, ⊎-elim}
+use mathlib.Core.Logic.{inl}
 use mathlib.Core.Bool.{true, false}
 use mathlib.Core.Option.{Option, none, some}
 use mathlib.Core.List.{List·Memᴰ}
 use Prim.Native.Nat.{ℕ, _+_, _-_, _≤_, _<_}
 use native.Mathlib.Omega.{arith}
 use lib.Dec.{T}
-use lib.ListN.{length}
 use lib.IntN.{ℤ}
 use Rattle.plane.specs.Point.{Point, lower, coordinateInRange}
 use Rattle.arrays.proofs.Test.{and-parts}
-use Rattle.plane.proofs.Stored.{coordinate-biased}
-use Rattle.plane.specs.Coordinate.{coordinate, biased}
+use Rattle.plane.proofs.Stored.{coordinate-stored}
+use Rattle.plane.specs.Coordinate.{coordinate, storedOf}
 use Rattle.arrays.specs.Set.{put}
 use Rattle.model.specs.State.{State, Valid, points, prune}
 use Rattle.model.specs.Tree.{treeLength}
@@ -81,8 +80,8 @@ found-at s valid u v k is e = go (best-choice (points s)) refl e
     go (some-chosen c w) b q =
         let h = w .candidate in
         let less = saved-shorter (points s) c (w .saves) in
-        let x : biased (c .x) ≡ u = cc in
-        let y : biased (c .y) ≡ v = cc in
+        let x : storedOf (c .x) ≡ u = cc in
+        let y : storedOf (c .y) ≡ v = cc in
         let r = candidate-range s (valid .placed) c h in
         let ins = and-parts (coordinateInRange (c .x)) (coordinateInRange (c .y)) r in
         let same : code c ≡ k = ap₂ packed x y ∙ sym is in
@@ -91,8 +90,8 @@ found-at s valid u v k is e = go (best-choice (points s)) refl e
           isPoint = subst (λ (z : ℕ). T (isCode z)) same (code-is c r);
           candidate = subst (Candidate (points s)) back h;
           chosen = b ∙ ap some back;
-          atX = ap coordinate (sym x) ∙ coordinate-biased (c .x) (ins .0) ∙ ap (λ (p : Point). p .x) back;
-          atY = ap coordinate (sym y) ∙ coordinate-biased (c .y) (ins .1) ∙ ap (λ (p : Point). p .y) back;
+          atX = ap coordinate (sym x) ∙ coordinate-stored (c .x) (ins .0) ∙ ap (λ (p : Point). p .x) back;
+          atY = ap coordinate (sym y) ∙ coordinate-stored (c .y) (ins .1) ∙ ap (λ (p : Point). p .y) back;
           shorter = subst (λ (z : Point). treeLength (put lower z (points s)) < treeLength (points s)) back less;
         }
 

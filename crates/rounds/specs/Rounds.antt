@@ -19,12 +19,14 @@ unfoldable pub stepOf : RoundAnswer → Step
 stepOf finished = Finished
 stepOf (tap p fall) = Tap (p .x) (p .y) fall
 
+-- A round on w leaves and answers r: the model's next state and answer, in a working form in order.
 pub record RoundOf (w : Working) (r : Rounded) : Type 0 where
   pub inOrder : work.InOrder (r .working)
   pub next : work.stateOf (r .working) ≡ round (work.stateOf w) .next
   pub added : r .added ≡ adds (round (work.stateOf w) .answer)
   pub step : r .step ≡ stepOf (round (work.stateOf w) .answer)
 
+-- A run to the end of w leaves and answers r.
 pub record FinishOf (w : Working) (r : Ended) : Type 0 where
   pub inOrder : work.InOrder (r .working)
   pub final : work.stateOf (r .working) ≡ finish (work.stateOf w) .final

@@ -29,7 +29,7 @@ pub struct Ended {
     pub count: u64,
 }
 
-// The length of its tree.
+// Returns the length of the tree of a working form.
 pub fn length_of(w: Working) -> u64
     requires { ⌜ work.InOrder w ⌝ }
     ensures { λ r. ⌜ r ≡ treeLength (points (work.stateOf w)) ⌝ }
@@ -49,7 +49,7 @@ fn best_of(w: Working) -> Best
     crossing::best(&xs, &ys, w.npoints, &keys, w.nkeys)
 }
 
-// One round: finished, or the best crossing joins as a Steiner point and a sweep follows.
+// One round: finished, or the best crossing joins as a Steiner point and a sweep follows. Returns the next working form and which it was.
 pub fn round_of(w: Working) -> Rounded
     requires { ⌜ work.InOrder w ⌝ }
     requires { ⌜ Valid (work.stateOf w) ⌝ }
@@ -75,7 +75,7 @@ pub fn round_of(w: Working) -> Rounded
     }
 }
 
-// Rounds until one is finished.
+// Rounds until one is finished. Returns the working form that they lead to, and how many added a Steiner point.
 pub fn finish_of(w: Working) -> Ended
     requires { ⌜ work.InOrder w ⌝ }
     requires { ⌜ Valid (work.stateOf w) ⌝ }

@@ -1,4 +1,4 @@
--- What a crossing spares.
+-- What a crossing spares, by its rays and the bottlenecks of the tree.
 use mathlib.Core.List.{List, [], _∷_}
 use Prim.Native.Nat.{ℕ, _+_, _*_, _-_, min, max}
 use lib.ListN.{getD}
@@ -9,17 +9,17 @@ use Rattle.regions.specs.Nearest.{Side, east, west, north, south, rayAt}
 abbrev pub tableAt : List ℕ → ℕ → ℕ → ℕ
 tableAt table u v = getD table (u * places + v) 0
 
--- The bottleneck of the crossing and the point q over the edge of the ray k, or `rest`, what it is without it. The function t gives
--- the bottleneck of two held points.
+-- min(rest, max(length of k, bottleneck of k's point and q)): the bottleneck of the crossing and the point q with the ray k, where it is
+-- `rest` without it. The function t gives the bottleneck of two held points.
 unfoldable pub over : (ℕ → ℕ → ℕ) → ℕ → ℕ → ℕ → ℕ
 over t k q rest = min (max (rayLength k) (t (rayPoint k) q)) rest
 
--- The same over one of several rays, or over an edge of length `far`.
+-- The same with all rays of a list: the least of max(length of k, bottleneck of k's point and q), and `far` with no ray.
 unfoldable pub bound : (ℕ → ℕ → ℕ) → List ℕ → ℕ → ℕ
 bound t [] q = far
 bound t (k ∷ ks) q = over t k q (bound t ks q)
 
--- How much the rays of a list, taken one after the other from the last on, lower the least weight.
+-- How much the rays of a list lower the least weight: the sum of max(0, bound of k's point by the rays behind k − length of k).
 unfoldable pub gain : (ℕ → ℕ → ℕ) → List ℕ → ℕ
 gain t [] = 0
 gain t (k ∷ ks) = gain t ks + (bound t ks (rayPoint k) - rayLength k)

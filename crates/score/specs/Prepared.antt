@@ -30,6 +30,6 @@ pub record Prepared (xs ys : List ℕ) (n : ℕ) (table gaps ranks rows : List �
   pub given : RowsGiven rows count
   pub located : Located ys n rows count gaps ranks
 
--- How much shorter than with an edge of length `far` the tree of the points is with c. The tree's own length stands for `far`.
+-- far + length of the tree of ps − length of the tree of ps and c: more than `far` exactly if c makes the tree shorter.
 abbrev pub sparedBy : List Point → Point → ℕ
 sparedBy ps c = far + treeLength ps - treeLength (put lower c ps)

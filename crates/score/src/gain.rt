@@ -18,7 +18,8 @@ ghost use Rattle.score.specs.Gain as spec;
 // Longer than every edge between two points.
 pub const FAR: u64 = regions::nearest::FAR as u64;
 
-// The bottleneck of the crossing and the point of the ray q: over the ray k, or `rest`, what it is without it.
+// min(rest, max(length of k, bottleneck of the two points)): the bottleneck of the crossing and the point of the ray q with the ray k, where
+// it is `rest` without it.
 fn over(table: &[u32], k: u32, q: u32, rest: u64) -> u64
     requires { ⌜ (length (now table) ≡ tableSize) × (rest ≤ far) ⌝ }
     ensures { λ r. ⌜ (r ≡ spec.over (spec.tableAt (now (table .entry))) k (rayPoint q) rest) × (r ≤ far) ⌝ }
@@ -27,7 +28,7 @@ fn over(table: &[u32], k: u32, q: u32, rest: u64) -> u64
     smaller(larger((k / SCALE) as u64, b as u64), rest)
 }
 
-// How much longer than the ray k the bottleneck b is.
+// max(0, b − length of k).
 fn spared(b: u64, k: u32) -> u64
     requires { ⌜ b ≤ far ⌝ }
     ensures { λ r. ⌜ (r ≡ b - rayLength k) × (r ≤ far) ⌝ }
@@ -36,7 +37,8 @@ fn spared(b: u64, k: u32) -> u64
     if d < b { b - d } else { 0 }
 }
 
-// How much four rays, one after the other, lower the least weight below that with an edge of length FAR.
+// How much four rays, one after the other, lower the least weight below that with an edge of length FAR: for each,
+// max(0, bottleneck of its point and the crossing by the rays before it − its length).
 fn gain(table: &[u32], east: u32, west: u32, north: u32, south: u32) -> u64
     requires { ⌜ length (now table) ≡ tableSize ⌝ }
     ensures { λ r. ⌜ r ≡ spec.gain (spec.tableAt (now (table .entry))) (south ∷ north ∷ west ∷ east ∷ []) ⌝ }
@@ -52,7 +54,7 @@ fn gain(table: &[u32], east: u32, west: u32, north: u32, south: u32) -> u64
     spared(FAR, east) + spared(w, west) + spared(n, north) + spared(s, south)
 }
 
-// The gain of the least rays at a row.
+// Returns the gain of the least rays at a row.
 pub fn gain_at(table: &[u32], least: &[u32], row: usize) -> u64
     requires { ⌜ (length (now table) ≡ tableSize) × Complements (now least) × (row < places) ⌝ }
     ensures { λ r. ⌜ r ≡ spec.gain (spec.tableAt (now (table .entry))) (spec.raysAt (now (least .entry)) row) ⌝ }

@@ -11,8 +11,8 @@ ghost use Rattle.tree.specs.Build.{lengthWith};
 ghost use Rattle.regions.specs.Rays.{tableSize};
 ghost use Rattle.score.specs.Length.{Measured};
 
-// The length of the tree of the first n points and a point at (x, y), the crossing of the column x with the only row y. Their own tree
-// has this total length and the bottlenecks in the table. What `gaps` and `ranks` hold before is of no account.
+// Returns the length of the tree of the first n points and a point at (x, y), the crossing of the column x with the only row y. Their own
+// tree has this total length and the bottlenecks in the table. What `gaps` and `ranks` hold before is of no account.
 pub fn length_with(
     xs: &[u16],
     ys: &[u16],

@@ -16,7 +16,7 @@ use Rattle.arrays.specs.Text.{bytes}
 use Rattle.arrays.specs.Same.{sameList}
 use Rattle.words.specs.Numbers.{numberOf, sizeOf}
 use Rattle.words.specs.Hex.{isHex}
-use Rattle.script.specs.Commands.{sized, withOne, withPair, withTwo}
+use Rattle.script.specs.Commands.{withSize, withOne, withPair, withTwo}
 use Rattle.arrays.proofs.Signed.{read, read-two}
 
 module _ (w x : List ℕ) where
@@ -36,7 +36,7 @@ module _ (w x : List ℕ) where
   unfolding withOne
   one-none a r e f = rw (a, sym e ∙ f) refl
 
-  pub one-size : sameList w (bytes "read") ≡ false → (r : Size) (n : ℕ) (y : Command) → r ≡ sizeOf x → r ≡ Of n → y ≡ sized w n → y ≡ withOne w x
+  pub one-size : sameList w (bytes "read") ≡ false → (r : Size) (n : ℕ) (y : Command) → r ≡ sizeOf x → r ≡ Of n → y ≡ withSize w n → y ≡ withOne w x
   unfolding withOne
   one-size a r n y e f g = rw (a, sym e ∙ f) g
 

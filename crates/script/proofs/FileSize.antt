@@ -1,19 +1,18 @@
 -- For the caller: the file of a line that asks for a reading is at most 1,000 bytes long, so a buffer of 1,000 holds all of it.
 -- The words of a line are together no longer than the line, and a byte takes two digits.
-use mathlib.Core.Path.{_≡_, refl, sym, ap, _∙_}
+use mathlib.Core.Path.{_≡_, refl}
 use mathlib.Core.Bool.{Bool, true, false}
 use mathlib.Core.List.{List, [], _∷_, _++_}
 use Prim.Native.Nat.{ℕ, _+_, _*_, _≤_}
 use native.Mathlib.Omega.{arith}
 use lib.Dec.{ltb}
-use lib.ListN.{length, take, drop, length-append}
-use lib.Seq.{take-all, take-at}
+use lib.ListN.{length, length-append}
 use borrow.Author.Tests.{ltb-false}
 use Rattle.arrays.specs.Test.{if}
 use Rattle.script.specs.declared.Command.the-variants.{Blank, Error, Read}
 use Rattle.words.specs.Words.{isSpace, ended, split, wordsOf}
 use Rattle.words.specs.Hex.{isHex, pairs}
-use Rattle.script.specs.Commands.{ofWords, isBlank, commandOf, second, fileOf}
+use Rattle.script.specs.Commands.{ofWords, isBlank, commandOf, second, fileInLine}
 
 -- The lengths of words, added up.
 unfoldable total : List (List ℕ) → ℕ
@@ -47,8 +46,8 @@ pairs-short [] = omega arith
 pairs-short (a ∷ []) = omega arith
 pairs-short (a ∷ b ∷ l) = omega (arith, pairs-short l)
 
-pub file-short : (line : List ℕ) → 2 * length (fileOf line) ≤ length line
-unfolding fileOf
+pub file-short : (line : List ℕ) → 2 * length (fileInLine line) ≤ length line
+unfolding fileInLine
 file-short line = go (isHex (second (wordsOf line)))
   where
     go : (t : Bool) → 2 * length (if t (λ _. pairs (second (wordsOf line))) (λ _. [])) ≤ length line
@@ -65,5 +64,5 @@ read-long line e = go (ltb 4000 (length line)) (ltb-false 4000 (length line)) e
     go true f g = let z : _≡_ {A = ℕ} 0 1 = cc in absurd (omega arith)
     go false f g = f refl
 
-pub read-fits : (line : List ℕ) → commandOf line ≡ Read → length (fileOf line) ≤ 2000
+pub read-fits : (line : List ℕ) → commandOf line ≡ Read → length (fileInLine line) ≤ 2000
 read-fits line e = omega (arith, file-short line, read-long line e)

@@ -15,7 +15,7 @@ use Rattle.words.specs.Words.{split, wordsOf, Next}
 use Rattle.arrays.specs.Paste.{Pasted}
 use Rattle.arrays.proofs.paste.Parts.{front-same}
 use Rattle.words.specs.Hex.{isHex, pairs}
-use Rattle.script.specs.Commands.{alone, withOne, withTwo, ofWords, isBlank, commandOf, second, fileOf}
+use Rattle.script.specs.Commands.{ofOneWord, withOne, withTwo, ofWords, isBlank, commandOf, second, fileInLine}
 
 -- The bytes from place a up to place b.
 abbrev part : ℕ → ℕ → List ℕ → List ℕ
@@ -28,7 +28,7 @@ module _ (line : List ℕ) (a b : ℕ) (n : Next line 0 a b) where
   words-none e = rw (n .none e) refl
 
   module _ (s : ¬ (a ≡ b)) (c d : ℕ) (m : Next line b c d) (r : Command) where
-    pub words-one : c ≡ d → r ≡ alone (part a b line) → r ≡ ofWords (wordsOf line)
+    pub words-one : c ≡ d → r ≡ ofOneWord (part a b line) → r ≡ ofWords (wordsOf line)
     unfolding ofWords
     words-one e f = rw (n .some s, m .none e) f
 
@@ -64,13 +64,13 @@ module _ (line : List ℕ) (a b c d : ℕ) (n : Next line 0 a b) (m : Next line 
       go (no e) (yes f) = rw (n .some e, m .none f) (sym (empty f))
       go (no e) (no f) = rw (n .some e, m .some f) refl
 
-  pub file-none : (before : List ℕ) → isHex (part c d line) ≡ false → Pasted (take (length before) (fileOf line)) before before 0 0
-  unfolding fileOf
+  pub file-none : (before : List ℕ) → isHex (part c d line) ≡ false → Pasted (take (length before) (fileInLine line)) before before 0 0
+  unfolding fileInLine
   file-none before e = rw (second-is, e, take-nil) (front-same 0 before (omega arith))
 
   pub file-some : (before after : List ℕ) (r : ℕ) → isHex (part c d line) ≡ true → Pasted (take (length before) (pairs (part c d line))) before after 0 r
-      → Pasted (take (length before) (fileOf line)) before after 0 r
-  unfolding fileOf
+      → Pasted (take (length before) (fileInLine line)) before after 0 r
+  unfolding fileInLine
   file-some before after r e f = rw (second-is, e) f
 
 is-blank : (line : List ℕ) → ¬ (length line ≡ 0) → isBlank line ≡ eqb (getD line 0 0) 35

@@ -4,75 +4,77 @@ use mathlib.Core.Bool.{true, false}
 use mathlib.Core.List.{List}
 use Prim.Native.Nat.{ℕ}
 use lib.IntN.{ℤ}
-use Rattle.script.specs.declared.Command.the-variants.{Error, Write, Add, Withdraw, Round, Finish, Length, Counts, Run, Degree, Octant}
+use Rattle.script.specs.declared.Command.the-variants.{Error, Write, Call, Ask, Octant}
+use Rattle.script.specs.declared.Change.the-variants.{Add, Withdraw, Round, Finish}
+use Rattle.script.specs.declared.Query.the-variants.{Length, Counts, Run, Degree}
 use Rattle.script.specs.declared.Command.the-variants as command
 use Rattle.arrays.specs.Text.{bytes}
 use Rattle.arrays.specs.Same.{sameList}
-use Rattle.script.specs.Commands.{alone, sized, withPair}
+use Rattle.script.specs.Commands.{ofOneWord, withSize, withPair}
 
 -- The names of one word.
 module _ (w : List ℕ) where
-  pub alone-write : sameList w (bytes "write") ≡ true → Write 784 ≡ alone w
-  unfolding alone
+  pub alone-write : sameList w (bytes "write") ≡ true → Write 784 ≡ ofOneWord w
+  unfolding ofOneWord
   alone-write a = rw a refl
 
   module _ (a : sameList w (bytes "write") ≡ false) where
-    pub alone-round : sameList w (bytes "round") ≡ true → Round ≡ alone w
-    unfolding alone
+    pub alone-round : sameList w (bytes "round") ≡ true → Call Round ≡ ofOneWord w
+    unfolding ofOneWord
     alone-round b = rw (a, b) refl
 
     module _ (b : sameList w (bytes "round") ≡ false) where
-      pub alone-finish : sameList w (bytes "finish") ≡ true → Finish ≡ alone w
-      unfolding alone
+      pub alone-finish : sameList w (bytes "finish") ≡ true → Call Finish ≡ ofOneWord w
+      unfolding ofOneWord
       alone-finish c = rw (a, b, c) refl
 
       module _ (c : sameList w (bytes "finish") ≡ false) where
-        pub alone-length : sameList w (bytes "length") ≡ true → Length ≡ alone w
-        unfolding alone
+        pub alone-length : sameList w (bytes "length") ≡ true → Ask Length ≡ ofOneWord w
+        unfolding ofOneWord
         alone-length d = rw (a, b, c, d) refl
 
         module _ (d : sameList w (bytes "length") ≡ false) where
-          pub alone-counts : sameList w (bytes "counts") ≡ true → Counts ≡ alone w
-          unfolding alone
+          pub alone-counts : sameList w (bytes "counts") ≡ true → Ask Counts ≡ ofOneWord w
+          unfolding ofOneWord
           alone-counts e = rw (a, b, c, d, e) refl
 
           module _ (e : sameList w (bytes "counts") ≡ false) where
-            pub alone-list : sameList w (bytes "list") ≡ true → command.List ≡ alone w
-            unfolding alone
+            pub alone-list : sameList w (bytes "list") ≡ true → command.List ≡ ofOneWord w
+            unfolding ofOneWord
             alone-list f = rw (a, b, c, d, e, f) refl
 
-            pub alone-none : sameList w (bytes "list") ≡ false → Error ≡ alone w
-            unfolding alone
+            pub alone-none : sameList w (bytes "list") ≡ false → Error ≡ ofOneWord w
+            unfolding ofOneWord
             alone-none f = rw (a, b, c, d, e, f) refl
 
 -- Those with a size.
 module _ (w : List ℕ) (n : ℕ) where
-  pub sized-write : sameList w (bytes "write") ≡ true → Write n ≡ sized w n
-  unfolding sized
+  pub sized-write : sameList w (bytes "write") ≡ true → Write n ≡ withSize w n
+  unfolding withSize
   sized-write a = rw a refl
 
   module _ (a : sameList w (bytes "write") ≡ false) where
-    pub sized-run : sameList w (bytes "run") ≡ true → Run n ≡ sized w n
-    unfolding sized
+    pub sized-run : sameList w (bytes "run") ≡ true → Ask (Run n) ≡ withSize w n
+    unfolding withSize
     sized-run b = rw (a, b) refl
 
-    pub sized-none : sameList w (bytes "run") ≡ false → Error ≡ sized w n
-    unfolding sized
+    pub sized-none : sameList w (bytes "run") ≡ false → Error ≡ withSize w n
+    unfolding withSize
     sized-none b = rw (a, b) refl
 
 -- Those with two numbers.
 module _ (w : List ℕ) (i j : ℤ) where
-  pub pair-add : sameList w (bytes "add") ≡ true → Add i j ≡ withPair w i j
+  pub pair-add : sameList w (bytes "add") ≡ true → Call (Add i j) ≡ withPair w i j
   unfolding withPair
   pair-add a = rw a refl
 
   module _ (a : sameList w (bytes "add") ≡ false) where
-    pub pair-withdraw : sameList w (bytes "withdraw") ≡ true → Withdraw i j ≡ withPair w i j
+    pub pair-withdraw : sameList w (bytes "withdraw") ≡ true → Call (Withdraw i j) ≡ withPair w i j
     unfolding withPair
     pair-withdraw b = rw (a, b) refl
 
     module _ (b : sameList w (bytes "withdraw") ≡ false) where
-      pub pair-degree : sameList w (bytes "degree") ≡ true → Degree i j ≡ withPair w i j
+      pub pair-degree : sameList w (bytes "degree") ≡ true → Ask (Degree i j) ≡ withPair w i j
       unfolding withPair
       pair-degree c = rw (a, b, c) refl
 

@@ -1,4 +1,4 @@
--- The command of a line.
+-- The command of a line (SPEC 9.3, 9.5).
 use mathlib.Core.Bool.{Bool, true, _||_}
 use mathlib.Core.List.{List, [], _∷_}
 use Prim.Native.Nat.{ℕ}
@@ -7,13 +7,15 @@ use lib.ListN.{length}
 use lib.IntN.{ℤ}
 use Rattle.arrays.specs.Test.{if}
 use Rattle.script.specs.declared.Command.{Command}
-use Rattle.script.specs.declared.Command.the-variants.{Blank, Error, Read, Write, Add, Withdraw, Round, Finish, Length, Counts, Run, Degree, Octant}
+use Rattle.script.specs.declared.Command.the-variants.{Blank, Error, Read, Write, Call, Ask, Octant}
+use Rattle.script.specs.declared.Change.the-variants.{Add, Withdraw, Round, Finish}
+use Rattle.script.specs.declared.Query.the-variants.{Length, Counts, Run, Degree}
 use Rattle.script.specs.declared.Command.the-variants as command
 use Rattle.words.specs.declared.numbers.Number.{Number}
 use Rattle.words.specs.declared.numbers.Number.the-variants.{NoNumber, Is}
 use Rattle.words.specs.declared.numbers.Size.{Size}
 use Rattle.words.specs.declared.numbers.Size.the-variants.{NoSize, Of}
-use Rattle.arrays.specs.Text.{bytes}
+use Rattle.arrays.specs.Text.{bytes, byte}
 use Rattle.arrays.specs.Same.{sameList}
 use Rattle.words.specs.Words.{wordsOf}
 use Rattle.words.specs.Numbers.{numberOf, sizeOf}
@@ -27,20 +29,20 @@ abbrev pub longestFile : ℕ
 longestFile = 784
 
 -- One word: `write`, `round`, `finish`, `length`, `counts`, `list`. The capacity of `write` is then that of the longest file.
-unfoldable pub alone : List ℕ → Command
-alone w =
+unfoldable pub ofOneWord : List ℕ → Command
+ofOneWord w =
     if (sameList w (bytes "write")) (λ _. Write longestFile)
-    (λ _. if (sameList w (bytes "round")) (λ _. Round)
-    (λ _. if (sameList w (bytes "finish")) (λ _. Finish)
-    (λ _. if (sameList w (bytes "length")) (λ _. Length)
-    (λ _. if (sameList w (bytes "counts")) (λ _. Counts)
+    (λ _. if (sameList w (bytes "round")) (λ _. Call Round)
+    (λ _. if (sameList w (bytes "finish")) (λ _. Call Finish)
+    (λ _. if (sameList w (bytes "length")) (λ _. Ask Length)
+    (λ _. if (sameList w (bytes "counts")) (λ _. Ask Counts)
     (λ _. if (sameList w (bytes "list")) (λ _. command.List) (λ _. Error))))))
 
 -- A word and a size: `write CAPACITY`, `run I`.
-unfoldable pub sized : List ℕ → ℕ → Command
-sized w n =
+unfoldable pub withSize : List ℕ → ℕ → Command
+withSize w n =
     if (sameList w (bytes "write")) (λ _. Write n)
-    (λ _. if (sameList w (bytes "run")) (λ _. Run n) (λ _. Error))
+    (λ _. if (sameList w (bytes "run")) (λ _. Ask (Run n)) (λ _. Error))
 
 -- What is said of a size, an error where there is none.
 abbrev pub ofSize : (ℕ → Command) → Size → Command
@@ -52,14 +54,14 @@ unfoldable pub withOne : List ℕ → List ℕ → Command
 withOne w x =
     if (sameList w (bytes "read"))
     (λ _. if (sameList x (bytes "-") || isHex x) (λ _. Read) (λ _. Error))
-    (λ _. ofSize (sized w) (sizeOf x))
+    (λ _. ofSize (withSize w) (sizeOf x))
 
 -- A word and two numbers: `add X Y`, `withdraw X Y`, `degree X Y`, `octant DX DY`.
 unfoldable pub withPair : List ℕ → ℤ → ℤ → Command
 withPair w i j =
-    if (sameList w (bytes "add")) (λ _. Add i j)
-    (λ _. if (sameList w (bytes "withdraw")) (λ _. Withdraw i j)
-    (λ _. if (sameList w (bytes "degree")) (λ _. Degree i j)
+    if (sameList w (bytes "add")) (λ _. Call (Add i j))
+    (λ _. if (sameList w (bytes "withdraw")) (λ _. Call (Withdraw i j))
+    (λ _. if (sameList w (bytes "degree")) (λ _. Ask (Degree i j))
     (λ _. if (sameList w (bytes "octant")) (λ _. Octant i j) (λ _. Error))))
 
 -- What is said of two numbers, an error where one is missing.
@@ -75,17 +77,17 @@ withTwo w x y = ofNumbers (withPair w) (numberOf x) (numberOf y)
 -- The command of a line's words; no command has more than three.
 unfoldable pub ofWords : List (List ℕ) → Command
 ofWords [] = Error
-ofWords (w ∷ []) = alone w
+ofWords (w ∷ []) = ofOneWord w
 ofWords (w ∷ x ∷ []) = withOne w x
 ofWords (w ∷ x ∷ y ∷ []) = withTwo w x y
 ofWords (w ∷ x ∷ y ∷ z ∷ l) = Error
 
--- Whether a line is empty or a comment, which begins with `#` (35).
+-- Whether a line is empty or a comment, which begins with `#`.
 abbrev pub isBlank : List ℕ → Bool
 isBlank [] = true
-isBlank (b ∷ l) = eqb b 35
+isBlank (b ∷ l) = eqb b (byte "#")
 
--- The command of a line, which has no line feed. A line of more than 2,000 bytes is an error.
+-- The command of a line, which has no line feed. A line of more than 4,000 bytes is an error.
 unfoldable pub commandOf : List ℕ → Command
 commandOf line =
     if (ltb lineLimit (length line)) (λ _. Error)
@@ -98,5 +100,5 @@ second (w ∷ []) = []
 second (w ∷ x ∷ l) = x
 
 -- The bytes that the second word of a line stands for: none where it is not pairs of hexadecimal digits.
-unfoldable pub fileOf : List ℕ → List ℕ
-fileOf line = let x = second (wordsOf line) in if (isHex x) (λ _. pairs x) (λ _. [])
+unfoldable pub fileInLine : List ℕ → List ℕ
+fileInLine line = let x = second (wordsOf line) in if (isHex x) (λ _. pairs x) (λ _. [])

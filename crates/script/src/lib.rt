@@ -10,25 +10,35 @@ use words::numbers::number_of;
 use words::numbers::size_of;
 ghost use mathlib.Core.Path.{_≡_};
 ghost use lib.ListN.{length, take};
-ghost use Rattle.script.specs.Commands.{commandOf, ofWords, alone, withOne, withTwo, sized, withPair, fileOf};
+ghost use Rattle.script.specs.Commands.{commandOf, ofWords, ofOneWord, withOne, withTwo, withSize, withPair, fileInLine};
 ghost use Rattle.arrays.specs.Paste.{Pasted};
 ghost use Rattle.words.specs.Words.{wordsOf};
 
+// A call that changes the deck.
+pub enum Change {
+    Add(i32, i32),
+    Withdraw(i32, i32),
+    Round,
+    Finish,
+}
+
+// A question on the deck.
+pub enum Query {
+    Length,
+    Counts,
+    Run(u32),
+    Degree(i32, i32),
+}
+
 // What a line asks for: nothing, as it is empty or a comment; no command; a file to read, which `bytes_of` gives; a file to write,
-// into so many bytes; the calls and the questions.
+// into so many bytes; a call; a question; the octant of a difference; the listing.
 pub enum Command {
     Blank,
     Error,
     Read,
     Write(u32),
-    Add(i32, i32),
-    Withdraw(i32, i32),
-    Round,
-    Finish,
-    Length,
-    Counts,
-    Run(u32),
-    Degree(i32, i32),
+    Call(Change),
+    Ask(Query),
     Octant(i32, i32),
     List,
 }
@@ -39,7 +49,7 @@ pub const LINE_LIMIT: usize = 4000;
 // The most bytes of a deck file, the capacity of `write` where none is given.
 pub const LONGEST_FILE: u32 = 784;
 
-// The command of a line, which is given without its line feed.
+// Returns the command of a line, which is given without its line feed.
 pub fn parse(line: &[u8]) -> Command
     ensures { λ r. ⌜ r ≡ commandOf (now (line .entry)) ⌝ }
 {
@@ -55,7 +65,7 @@ pub fn parse(line: &[u8]) -> Command
     by_words(line)
 }
 
-// The command of a line's words. They stand from a to b, from c to d and from e to f, and from g to h what may follow.
+// The command of a line's words. The name stands from a to b, two arguments from c to d and from e to f, and from g to h a word too many.
 fn by_words(line: &[u8]) -> Command
     ensures { λ r. ⌜ r ≡ ofWords (wordsOf (now (line .entry))) ⌝ }
 {
@@ -91,22 +101,22 @@ fn by_words(line: &[u8]) -> Command
 
 // The command of one word.
 fn by_name(name: &[u8]) -> Command
-    ensures { λ r. ⌜ r ≡ alone (now (name .entry)) ⌝ }
+    ensures { λ r. ⌜ r ≡ ofOneWord (now (name .entry)) ⌝ }
 {
     if same_bytes(name, b"write") {
         return Command::Write(LONGEST_FILE);
     }
     if same_bytes(name, b"round") {
-        return Command::Round;
+        return Command::Call(Change::Round);
     }
     if same_bytes(name, b"finish") {
-        return Command::Finish;
+        return Command::Call(Change::Finish);
     }
     if same_bytes(name, b"length") {
-        return Command::Length;
+        return Command::Ask(Query::Length);
     }
     if same_bytes(name, b"counts") {
-        return Command::Counts;
+        return Command::Ask(Query::Counts);
     }
     if same_bytes(name, b"list") {
         return Command::List;
@@ -135,13 +145,13 @@ fn with_one(name: &[u8], x: &[u8]) -> Command
 
 // The command of a word and a size.
 fn with_size(name: &[u8], n: u32) -> Command
-    ensures { λ r. ⌜ r ≡ sized (now (name .entry)) n ⌝ }
+    ensures { λ r. ⌜ r ≡ withSize (now (name .entry)) n ⌝ }
 {
     if same_bytes(name, b"write") {
         return Command::Write(n);
     }
     if same_bytes(name, b"run") {
-        return Command::Run(n);
+        return Command::Ask(Query::Run(n));
     }
     Command::Error
 }
@@ -164,13 +174,13 @@ fn with_pair(name: &[u8], i: i32, j: i32) -> Command
     ensures { λ r. ⌜ r ≡ withPair (now (name .entry)) i j ⌝ }
 {
     if same_bytes(name, b"add") {
-        return Command::Add(i, j);
+        return Command::Call(Change::Add(i, j));
     }
     if same_bytes(name, b"withdraw") {
-        return Command::Withdraw(i, j);
+        return Command::Call(Change::Withdraw(i, j));
     }
     if same_bytes(name, b"degree") {
-        return Command::Degree(i, j);
+        return Command::Ask(Query::Degree(i, j));
     }
     if same_bytes(name, b"octant") {
         return Command::Octant(i, j);
@@ -181,7 +191,7 @@ fn with_pair(name: &[u8], i: i32, j: i32) -> Command
 // Writes the bytes that the second word of a line stands for to the front of `out`, as many as it holds, and returns how many. A
 // word that is not pairs of hexadecimal digits stands for none.
 pub fn bytes_of(line: &[u8], out: &mut [u8]) -> usize
-    ensures { λ r. ⌜ Pasted (take (length (now (out .entry))) (fileOf (now (line .entry)))) (now (out .entry)) (now (out .exit)) 0 r ⌝ }
+    ensures { λ r. ⌜ Pasted (take (length (now (out .entry))) (fileInLine (now (line .entry)))) (now (out .entry)) (now (out .exit)) 0 r ⌝ }
 {
     let w = next(line, 0);
     let x = next(line, w.end);

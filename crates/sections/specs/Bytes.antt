@@ -6,12 +6,13 @@ use Rattle.plane.specs.Code.{pointOf}
 use Rattle.model.specs.File.{pointBytes}
 
 -- An edge kept as 128 times the first number and the second: two bytes, the first number first.
-abbrev pub edgeTwo : ℕ → List ℕ
-edgeTwo k = k / 128 % 256 ∷ k % 128 ∷ []
+abbrev pub endsBytes : ℕ → List ℕ
+endsBytes k = k / 128 % 256 ∷ k % 128 ∷ []
 
+-- The bytes of several edges.
 abbrev pub edgeBytes : List ℕ → List ℕ
-edgeBytes l = each edgeTwo l
+edgeBytes l = each endsBytes l
 
 -- The point of a code: four bytes.
-abbrev pub pointFour : ℕ → List ℕ
-pointFour k = pointBytes (pointOf k)
+abbrev pub codeBytes : ℕ → List ℕ
+codeBytes k = pointBytes (pointOf k)

@@ -1,4 +1,4 @@
--- The points of a section as codes, and check 5 on them.
+-- The points of a section as codes, and check 5 on them (SPEC 8.2).
 use mathlib.Core.Path.{_≡_}
 use mathlib.Core.Bool.{Bool, _&&_}
 use mathlib.Core.List.{List, [], _∷_, _++_, map}
@@ -33,7 +33,7 @@ codesInFront (p ∷ l) = if (inRange p) (λ _. code p ∷ codesInFront l) (λ _.
 abbrev pub decoded : List Point → List ℕ → List ℕ
 decoded ps old = codesInFront ps ++ drop (length (codesInFront ps)) old
 
--- What is left of check 5 where all points are in range, on their codes.
+-- What check 5 still asks where all points are in range, on their codes.
 abbrev pub placedCodes : List ℕ → List ℕ → Bool
 placedCodes pins steiner = rising ltb pins && (rising ltb steiner && noneIn steiner pins)
 

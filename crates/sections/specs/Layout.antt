@@ -1,4 +1,4 @@
--- What the checks of the header leave: where the sections of a file stand.
+-- What checks 1 to 4 leave (SPEC 8.2): where the sections of a file stand.
 use mathlib.Core.Path.{_≡_}
 use mathlib.Core.List.{List}
 use Prim.Native.Nat.{ℕ, _+_, _%_, _≤_}

@@ -28,7 +28,7 @@ fn locate_at(b: &[u8], i: usize) -> Located
     locate(from_bytes(b[i], b[i + 1]), from_bytes(b[i + 2], b[i + 3]))
 }
 
-// Whether the n points from place `at` on are in range. The codes of those before the first that is not, or of all, are put at
+// Returns whether the n points from place `at` on are in range. The codes of those before the first that is not, or of all, are put at
 // the front of `out`.
 pub fn decode(b: &[u8], at: usize, n: usize, out: &mut [u64]) -> bool
     requires { ⌜ (at + 4 * n ≤ length (now b)) × (n ≤ length (now out)) ⌝ }
@@ -66,7 +66,7 @@ pub struct FilePoints {
     pub steiner: [u64; FILE_PLACES],
 }
 
-// Check 5: whether all points are in range, strictly rising in their section, and no Steiner point on a pin; with their codes.
+// Check 5: returns whether all points are in range, strictly rising in their section, and no Steiner point on a pin; with their codes.
 pub fn decode_points(b: &[u8]) -> FilePoints
     requires { ⌜ Sections (now b) ⌝ }
     requires { ⌜ FewPins (now b) ⌝ }

@@ -1,4 +1,4 @@
-// The section of edges (document 01: runs).
+// The section of edges (SPEC 7.3: runs).
 use super::header::EDGE_SIZE;
 use arrays::number::wide;
 use plane::PLACES;
@@ -11,7 +11,7 @@ ghost use Rattle.sections.specs.Bytes.{edgeBytes};
 // An edge is kept as FACTOR times the number of its lower end and the number of its higher end.
 const FACTOR: u64 = PLACES as u64;
 
-// Whether the bytes from place `at` on are those of the first n edges.
+// Returns whether the bytes from place `at` on are those of the first n edges.
 pub fn same_edges(b: &[u8], at: usize, ends: &[u64], n: usize) -> bool
     requires { ⌜ (at + 2 * n ≤ length (now b)) × (n ≤ length (now ends)) ⌝ }
     ensures { λ r. ⌜ r ≡ sameList (take (2 * n) (drop at (now (b .entry)))) (edgeBytes (take n (now (ends .entry)))) ⌝ }

@@ -35,7 +35,7 @@ pub const POINT_SIZE: usize = 4;
 
 pub const EDGE_SIZE: usize = 2;
 
-// 1: "under 30 or over 784 bytes, other first four bytes, or a section count other than 3"
+// Check 1 (SPEC 8.2): returns whether the length of the file, its first four bytes and its number of sections are right.
 pub fn is_headed(b: &[u8]) -> bool
     ensures { λ r. ⌜ r ≡ headed (now (b .entry)) ⌝ }
 {
@@ -51,8 +51,7 @@ pub fn is_headed(b: &[u8]) -> bool
     number2(b, COUNT) == SECTIONS
 }
 
-// 2: offsets and lengths other than "The first section starts at byte 30, each other where the one before ends, and the last
-// ends with the file".
+// Check 2 (SPEC 8.2): returns whether the sections follow the header and one another, up to the end of the file.
 pub fn is_laid_out(b: &[u8]) -> bool
     requires { ⌜ headerSize ≤ length (now b) ⌝ }
     ensures { λ r. ⌜ r ≡ laidOut (now (b .entry)) ⌝ }
@@ -71,7 +70,7 @@ pub fn is_laid_out(b: &[u8]) -> bool
     b.len() == third + number4(b, EDGES_LENGTH)
 }
 
-// 3: "pins or taps not a multiple of 4 bytes, or runs not of 2"
+// Check 3 (SPEC 8.2): returns whether the sections consist of whole points and whole runs.
 pub fn is_whole(b: &[u8]) -> bool
     requires { ⌜ headerSize ≤ length (now b) ⌝ }
     ensures { λ r. ⌜ r ≡ whole (now (b .entry)) ⌝ }
@@ -85,7 +84,7 @@ pub fn is_whole(b: &[u8]) -> bool
     number4(b, EDGES_LENGTH) % EDGE_SIZE == 0
 }
 
-// "With empty taps and runs sections the file is plain"
+// Returns whether the file is plain (SPEC 7.4): it has no taps and no runs.
 pub fn is_plain(b: &[u8]) -> bool
     requires { ⌜ headerSize ≤ length (now b) ⌝ }
     ensures { λ r. ⌜ r ≡ plain (now (b .entry)) ⌝ }

@@ -9,7 +9,7 @@ use native.Mathlib.Omega.{arith}
 use lib.ListN.{length}
 use Rattle.spanning.specs.Graph.{Graph, Conn, stop, fwd, bwd, In, Tree, total, degree}
 use Rattle.arrays.proofs.Members.{Distinct}
-use Rattle.spanning.proofs.Totals.{Without, take-out, total-same-terms, total-least, total-const, total-union}
+use Rattle.spanning.proofs.Totals.{take-out, total-same-terms, total-least, total-const, total-union}
 use Rattle.spanning.proofs.Count.{tree-count, forest-ends}
 
 -- The vertex p is an end of the edge e.

@@ -3,7 +3,7 @@ use mathlib.Core.Path.{_≡_}
 use mathlib.Core.List.{List, [], _∷_, _++_, List·Memᴰ}
 use Prim.Native.Nat.{ℕ, _+_}
 
--- The edges of a graph: each edge has two ends, and two vertices can be told apart.
+-- The edges of a graph: each edge has two ends, and of two vertices it can be decided whether they are equal.
 pub record Graph (P E : Type 0) : Type 0 where
   pub lo : E → P
   pub hi : E → P
@@ -19,19 +19,19 @@ pub data Conn {P E : Type 0} (G : Graph P E) (S : E → Type 0) (v : P) : P → 
 abbrev pub In : {E : Type 0} → List E → E → Type 0
 In F e = List·Memᴰ e F
 
--- A forest: no edge of F has its ends connected by the other edges of F ("without a cycle").
+-- A forest (SPEC 1.5): no edge of F has its ends connected by the other edges of F, so there is no cycle.
 abbrev pub Forest : {P E : Type 0} → Graph P E → List E → Type 0
 Forest {E = E} G F =
     (before after : List E) (e : E) → F ≡ before ++ (e ∷ after)
     → ¬ Conn G (In (before ++ after)) (G .hi e) (G .lo e)
 
--- A tree over the vertices `ps` (document 01: a tree): edges between two of them that connect them all, without a cycle.
+-- A tree over the vertices `ps` (SPEC 1.5): its edges end in them and connect them all, and without any one of them they would not.
 pub record Tree {P E : Type 0} (G : Graph P E) (ps : List P) (F : List E) : Type 0 where
   pub ends : (e : E) → List·Memᴰ e F → List·Memᴰ (G .lo e) ps × List·Memᴰ (G .hi e) ps
   pub spans : (u v : P) → List·Memᴰ u ps → List·Memᴰ v ps → Conn G (In F) v u
   pub forest : Forest G F
 
--- The total weight of a list of edges (document 01: the length of a tree is the sum of its runs).
+-- The total weight of a list of edges; of a tree by its lengths, the length of the tree (SPEC 1.5).
 unfoldable pub total : {E : Type 0} → (E → ℕ) → List E → ℕ
 total w [] = 0
 total w (e ∷ F) = w e + total w F

@@ -17,11 +17,12 @@ comp G (e ∷ F) =
 abbrev pub Closed : {P E : Type 0} → Graph P E → List E → E → Type 0
 Closed G F e = comp G F (G .lo e) ≡ comp G F (G .hi e)
 
+-- The same, decided.
 abbrev pub closed? : {P E : Type 0} (G : Graph P E) (F : List E) (e : E) → Dec (Closed G F e)
 closed? G F e = let r = comp G F in G .dec (r (G .lo e)) (r (G .hi e))
 
--- Kruskal's method over the base F, whose edges are there already: of the list, each edge in turn is kept
--- if its ends are not connected by the base and the edges kept so far.
+-- Kruskal's method over the base F, whose edges are there already: an edge of the list is kept if its ends are not connected by the base
+-- and the edges kept before it.
 unfoldable pub kruskal : {P E : Type 0} → Graph P E → List E → List E → List E
 kruskal G F [] = []
 kruskal G F (e ∷ es) = dite (closed? G F e) (λ _. kruskal G F es) (λ _. e ∷ kruskal G (e ∷ F) es)

@@ -11,7 +11,7 @@ use Rattle.questions.specs.declared.Answer.the-variants as answer
 use Rattle.test_deck.specs.declared.parts.Parts.{Parts}
 use Rattle.test_deck.specs.Words.{deckIn}
 
--- The parts as they are lent.
+-- The parts in the caller's arrays.
 abbrev pub partsIn : ℕ → List ℕ → List ℤ → Parts
 partsIn k n p = record { kind = k; numbers = n; places = p }
 
@@ -37,7 +37,7 @@ partsOfAnswer (answer.Edge x y u v l) = partsIn 7 (l ∷ 0 ∷ 0 ∷ []) (x ∷ 
 partsOfAnswer answer.NoEdge = oneNumber 8 0
 partsOfAnswer (answer.Degree n) = oneNumber 9 n
 
--- What is lent holds an outcome: the next deck, and the reply in its parts.
+-- The caller's arrays hold an outcome: the next deck, and the reply in its parts.
 pub record Holds (o : Outcome) (w : List ℕ) (p : Parts) : Type 0 where
   pub next : deckIn w ≡ o .next
   pub reply : p ≡ partsOfReply (o .reply)

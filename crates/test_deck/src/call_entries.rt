@@ -14,7 +14,7 @@ ghost use Rattle.deck.specs.Calls.{called};
 ghost use Rattle.test_deck.specs.Words.{deckIn};
 ghost use Rattle.test_deck.specs.Parts.{partsIn, Holds};
 
-// The empty deck.
+// Puts the empty deck into the words. Returns nothing.
 #[no_mangle]
 pub extern "C" fn entry_empty(words: &mut [u64; WORDS])
     ensures { λ _. ⌜ deckIn (now (words .exit)) ≡ deckOf state.empty ⌝ }
@@ -22,7 +22,7 @@ pub extern "C" fn entry_empty(words: &mut [u64; WORDS])
     put_deck(Deck::empty(), words);
 }
 
-// Puts an outcome where it is lent. The result is the kind of the reply.
+// Puts an outcome into the caller's arrays. Returns the kind of the reply.
 fn put_outcome<'a>(
     o: Outcome,
     words: &'a mut [u64; WORDS],
@@ -37,7 +37,7 @@ fn put_outcome<'a>(
     put_parts(parts_of_reply(reply), numbers, places)
 }
 
-// Adds a pin.
+// Adds a pin. Returns the kind of the reply; its numbers and its point stand in the caller's arrays.
 #[no_mangle]
 pub extern "C" fn entry_add(
     x: i32,
@@ -53,7 +53,7 @@ pub extern "C" fn entry_add(
     put_outcome(d.add(x, y), words, numbers, places)
 }
 
-// Withdraws a pin.
+// Withdraws a pin. Returns as `entry_add` does.
 #[no_mangle]
 pub extern "C" fn entry_withdraw(
     x: i32,
@@ -69,7 +69,7 @@ pub extern "C" fn entry_withdraw(
     put_outcome(d.withdraw(x, y), words, numbers, places)
 }
 
-// One round.
+// One round. Returns as `entry_add` does.
 #[no_mangle]
 pub extern "C" fn entry_round(
     words: &mut [u64; WORDS],
@@ -83,7 +83,7 @@ pub extern "C" fn entry_round(
     put_outcome(d.round(), words, numbers, places)
 }
 
-// Rounds until finished.
+// Rounds until one is finished. Returns as `entry_add` does.
 #[no_mangle]
 pub extern "C" fn entry_run_to_end(
     words: &mut [u64; WORDS],

@@ -21,7 +21,7 @@ fn one_number(kind: u8, number: u64) -> Parts
     }
 }
 
-// The parts of a reply.
+// Returns the parts of a reply.
 pub fn parts_of_reply(reply: Reply) -> Parts
     ensures { λ r. ⌜ r ≡ partsOfReply reply ⌝ }
 {
@@ -38,7 +38,7 @@ pub fn parts_of_reply(reply: Reply) -> Parts
     }
 }
 
-// The parts of an answer.
+// Returns the parts of an answer.
 pub fn parts_of_answer(answer: Answer) -> Parts
     ensures { λ r. ⌜ r ≡ partsOfAnswer answer ⌝ }
 {
@@ -60,7 +60,7 @@ pub fn parts_of_answer(answer: Answer) -> Parts
     }
 }
 
-// Puts parts where they are lent. The result is the kind.
+// Puts parts into the caller's arrays. Returns the kind.
 pub fn put_parts<'a>(p: Parts, numbers: &'a mut [u64; 3], places: &'a mut [i32; 4]) -> u8
     ensures { λ r. ⌜ partsIn r (now (numbers .exit)) (now (places .exit)) ≡ p ⌝ }
 {

@@ -10,7 +10,7 @@ ghost use Rattle.questions.specs.Answers.{ofLength, ofCounts, ofEdge, ofDegree}
 ghost use Rattle.test_deck.specs.Words.{deckIn};
 ghost use Rattle.test_deck.specs.Parts.{partsIn, partsOfAnswer};
 
-// Whether the deck is sound.
+// Returns whether the deck is sound.
 #[no_mangle]
 pub extern "C" fn entry_is_valid(words: &[u64; WORDS]) -> bool
     ensures { λ r. ⌜ r ≡ sound (deckIn (now (words .entry))) ⌝ }
@@ -19,7 +19,7 @@ pub extern "C" fn entry_is_valid(words: &[u64; WORDS]) -> bool
     d.is_valid()
 }
 
-// The length of the deck.
+// Asks for the length of the deck. Returns the kind of the answer; its numbers and points stand in the caller's arrays.
 #[no_mangle]
 pub extern "C" fn entry_length(
     words: &[u64; WORDS],
@@ -33,7 +33,7 @@ pub extern "C" fn entry_length(
     put_parts(parts_of_answer(d.length()), numbers, places)
 }
 
-// The counts of pins, Steiner points and edges.
+// Asks for the numbers of pins, Steiner points and edges. Returns as `entry_length` does.
 #[no_mangle]
 pub extern "C" fn entry_counts(
     words: &[u64; WORDS],
@@ -47,7 +47,7 @@ pub extern "C" fn entry_counts(
     put_parts(parts_of_answer(d.counts()), numbers, places)
 }
 
-// The edge at a place in the listing order.
+// Asks for the edge at a place of the listing order. Returns as `entry_length` does.
 #[no_mangle]
 pub extern "C" fn entry_edge_at(
     i: usize,
@@ -62,7 +62,7 @@ pub extern "C" fn entry_edge_at(
     put_parts(parts_of_answer(d.edge_at(i)), numbers, places)
 }
 
-// The number of edges at a point.
+// Asks how many edges a point has. Returns as `entry_length` does.
 #[no_mangle]
 pub extern "C" fn entry_degree_at(
     x: i32,

@@ -21,7 +21,7 @@ const NSTEINER: usize = 193;
 // The first place of the ends of edges.
 const ENDS: usize = 194;
 
-// The deck that stands in the words.
+// Returns the deck that stands in the words.
 pub fn deck_in(words: [u64; WORDS]) -> Deck
     ensures { λ r. ⌜ r ≡ deckIn words ⌝ }
 {
@@ -42,7 +42,7 @@ pub fn deck_in(words: [u64; WORDS]) -> Deck
     Deck { points, ends }
 }
 
-// Puts a deck into the words.
+// Puts a deck into the words. Returns nothing.
 pub fn put_deck(d: Deck, words: &mut [u64; WORDS])
     ensures { λ _. ⌜ now (words .exit) ≡ wordsOf d ⌝ }
     ensures { λ _. ⌜ deckIn (now (words .exit)) ≡ d ⌝ }

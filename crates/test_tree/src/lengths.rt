@@ -61,7 +61,7 @@ fn try_each(
     }
 }
 
-// Builds the tree, and tries each crossing on it.
+// Builds the tree, and puts its length with each crossing at the front of `out`. Returns nothing.
 pub fn lengths(xs: &[u16], ys: &[u16], cx: &[u16], cy: &[u16], out: &mut [u64])
     requires { ⌜ Points (now xs) (now ys) × (length (now cx) ≤ length (now cy)) × (length (now cx) ≤ length (now out)) ⌝ }
     ensures { λ _. ⌜ now (out .exit)

@@ -16,7 +16,8 @@ ghost use Rattle.test_tree.specs.Answers.{Builds, Measures, Lists};
 // No count: the largest usize.
 const REFUSED: usize = 18446744073709551615;
 
-// The keys of the tree of the points, at the front of `keys`, and their number.
+// Puts the keys of the tree of the points at the front of `keys`. Returns their number, or REFUSED where the points do not rise or there is
+// too little room.
 #[no_mangle]
 pub extern "C" fn entry_build(xs: &[u16], ys: &[u16], keys: &mut [u64]) -> usize
     ensures { λ r. ⌜ Builds (now (xs .entry)) (now (ys .entry)) (now (keys .entry)) (now (keys .exit)) r ⌝ }
@@ -31,7 +32,8 @@ pub extern "C" fn entry_build(xs: &[u16], ys: &[u16], keys: &mut [u64]) -> usize
     build(xs, ys, n, keys)
 }
 
-// For each crossing, the length of the tree of the points and the point there, at the front of `out`; the number of crossings.
+// Puts for each crossing the length of the tree of the points and the point there at the front of `out`. Returns the number of crossings, or
+// REFUSED where the points do not rise or there is too little room.
 #[no_mangle]
 pub extern "C" fn entry_lengths(
     xs: &[u16],
@@ -56,7 +58,7 @@ pub extern "C" fn entry_lengths(
     c
 }
 
-// How many of the keys have an end at the number i.
+// Returns how many of the keys have an end at the number i.
 #[no_mangle]
 pub extern "C" fn entry_degree(keys: &[u64], i: usize) -> usize
     ensures { λ r. ⌜ r ≡ degree keyGraph i (now (keys .entry)) ⌝ }
@@ -64,7 +66,8 @@ pub extern "C" fn entry_degree(keys: &[u64], i: usize) -> usize
     degree_of(keys, keys.len(), i)
 }
 
-// The two numbers of each key as one code, least first, at the front of `out`; their number.
+// Puts the two numbers of each key as one code, least first, at the front of `out`. Returns their number, or REFUSED where there is too
+// little room.
 #[no_mangle]
 pub extern "C" fn entry_listing(keys: &[u64], out: &mut [u64]) -> usize
     ensures { λ r. ⌜ Lists (now (keys .entry)) (now (out .entry)) (now (out .exit)) r ⌝ }

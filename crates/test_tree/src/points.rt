@@ -21,7 +21,7 @@ fn rises(xs: &[u16], ys: &[u16], n: usize) -> bool
     true
 }
 
-// Whether these are at most 127 points that rise.
+// Returns whether these are at most 127 points that rise.
 pub fn accepts(xs: &[u16], ys: &[u16]) -> bool
     ensures { λ r. ⌜ Says (Points (now (xs .entry)) (now (ys .entry))) r ⌝ }
 {

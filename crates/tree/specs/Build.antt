@@ -14,6 +14,7 @@ use Rattle.tree.specs.Keys.{places, octantCount, tab, treeKeys}
 abbrev pub Rises : (ℕ → Point) → ℕ → Type 0
 Rises at n = (i j : ℕ) → i < j → j < n → Lower (at i) (at j)
 
+-- What building asks: n points that rise, and room for as many keys as there are points and octants.
 pub record BuildRequires (xs ys : List ℕ) (n room : ℕ) : Type 0 where
   pub inXs : n ≤ length xs
   pub inYs : n ≤ length ys
@@ -21,6 +22,7 @@ pub record BuildRequires (xs ys : List ℕ) (n room : ℕ) : Type 0 where
   pub fits : n + octantCount ≤ room
   pub rises : Rises (held xs ys) n
 
+-- What joining the point n asks: the keys of the tree of the points before it, and room in both arrays.
 pub record JoinRequires (xs ys : List ℕ) (n : ℕ) (keys : List ℕ) (m room : ℕ) : Type 0 where
   pub inXs : n < length xs
   pub inYs : n < length ys

@@ -78,7 +78,7 @@ leastKey at c n o (suc j) =
 unfoldable pub octantKeys : (ℕ → Point) → Point → ℕ → List ℕ
 octantKeys at c n = tab (λ (o : ℕ). leastKey at c n o n) octantCount
 
--- The keys of a list that are keys.
+-- The list without those that are no key.
 unfoldable pub offered : List ℕ → List ℕ
 offered [] = []
 offered (k ∷ l) = if (ltb k noKey) (λ _. k ∷ offered l) (λ _. offered l)

@@ -13,7 +13,7 @@ const PAIRS: u64 = FACTOR * FACTOR;
 // Larger than every key, since the longest edge has 17 bits and two numbers have 14.
 pub const NO_KEY: u64 = 4294967295;
 
-// The key of an edge of length d.
+// Returns the key of an edge of length d between the points i and j, i the smaller.
 pub fn key(d: u32, i: usize, j: usize) -> u64
     requires { ⌜ (d ≤ spec.longestEdge) × (i < spec.places) × (j < spec.places) ⌝ }
     ensures { λ r. ⌜ r ≡ spec.key d i j ⌝ }
@@ -21,27 +21,28 @@ pub fn key(d: u32, i: usize, j: usize) -> u64
     (d as u64 * FACTOR + i as u64) * FACTOR + j as u64
 }
 
-// The two numbers of a key, the smaller first.
+// Returns the smaller of the two numbers of a key.
 pub fn low(k: u64) -> usize
     ensures { λ r. ⌜ r ≡ spec.low k ⌝ }
 {
     (k / FACTOR % FACTOR) as usize
 }
 
+// Returns the larger of the two numbers of a key.
 pub fn high(k: u64) -> usize
     ensures { λ r. ⌜ r ≡ spec.high k ⌝ }
 {
     (k % FACTOR) as usize
 }
 
-// The length of a key's edge.
+// Returns the length of a key's edge.
 pub fn weight(k: u64) -> u64
     ensures { λ r. ⌜ r ≡ spec.weight k ⌝ }
 {
     k / PAIRS
 }
 
-// The two numbers of a key as one, which compares by low and then high: the listing order.
+// Returns the two numbers of a key as one, which compares by low and then high: the listing order.
 pub fn ends(k: u64) -> u64
     ensures { λ r. ⌜ r ≡ spec.endsOf k ⌝ }
 {

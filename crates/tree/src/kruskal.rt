@@ -1,4 +1,4 @@
-// Kruskal's pass over a list of keys: of each key in turn, whether its two numbers are connected already by the keys that
+// Kruskal's pass over a list of keys: for each key, whether its two numbers are connected already by the keys that
 // were kept before. Each of the numbers below PLACES has a label, and two numbers are connected exactly if they have the same one.
 use super::keys::high;
 use super::keys::low;
@@ -19,7 +19,7 @@ fn choice(c: u8, a: u8, b: u8) -> u8
     if c == a { b } else { c }
 }
 
-// Puts the label b in the place of the label a, everywhere.
+// Puts the label b in the place of the label a, everywhere. Returns nothing.
 pub fn relabel(labels: &mut [u8], a: u8, b: u8)
     requires { ⌜ length (now labels) ≡ places ⌝ }
     ensures { λ _. ⌜ ((u : ℕ) → u < places → getD (now (labels .exit)) u 0 ≡ moved a b (getD (now (labels .entry)) u 0)) ⌝ }
@@ -31,7 +31,7 @@ pub fn relabel(labels: &mut [u8], a: u8, b: u8)
     }
 }
 
-// Gives each number its own label.
+// Gives each number its own label. Returns nothing.
 pub fn separate(labels: &mut [u8])
     requires { ⌜ length (now labels) ≡ places ⌝ }
     ensures { λ _. ⌜ ((u : ℕ) → u < places → getD (now (labels .exit)) u 0 ≡ u) ⌝ }

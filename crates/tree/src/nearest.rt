@@ -9,7 +9,7 @@ ghost use Rattle.plane.specs.Stored.{pointAt};
 ghost use Rattle.tree.specs.Held.{held};
 ghost use Rattle.tree.specs.Keys.{places, octantKeys};
 
-// For each octant of the point at (x, y), whose number is n, the least key to one of the first n points, or NO_KEY.
+// Returns for each octant of the point at (x, y), whose number is n, the least key to one of the first n points, or NO_KEY.
 pub fn nearest(xs: &[u16], ys: &[u16], n: usize, x: u16, y: u16) -> [u64; OCTANTS]
     requires { ⌜ (n ≤ length (now xs)) × (n ≤ length (now ys)) × (n < places) ⌝ }
     ensures { λ r. ⌜ r ≡ octantKeys (held (now (xs .entry)) (now (ys .entry))) (pointAt x y) n ⌝ }

@@ -1,24 +1,25 @@
--- Whole numbers of 32 bits, signed, as words.
+-- Whole numbers of 32 bits, signed, as words (SPEC 9.3).
 use mathlib.Core.Bool.{Bool, true, false, _&&_}
 use mathlib.Core.List.{List, [], _∷_}
 use Prim.Native.Nat.{ℕ, _+_, _*_, _-_}
 use lib.Dec.{leb, eqb}
 use lib.IntN.{pos, negsuc, negℤ}
 use Rattle.arrays.specs.Test.{if}
+use Rattle.arrays.specs.Text.{byte}
 use Rattle.words.specs.declared.numbers.Number.{Number}
 use Rattle.words.specs.declared.numbers.Number.the-variants.{NoNumber, Is}
 use Rattle.words.specs.declared.numbers.Size.{Size}
 use Rattle.words.specs.declared.numbers.Size.the-variants.{NoSize, Of}
 
--- Whether every byte is a digit, 0 (48) to 9 (57).
+-- Whether every byte is a digit, 0 to 9.
 unfoldable pub areDigits : List ℕ → Bool
 areDigits [] = true
-areDigits (b ∷ l) = leb 48 b && (leb b 57 && areDigits l)
+areDigits (b ∷ l) = leb (byte "0") b && (leb b (byte "9") && areDigits l)
 
 -- The value of digits that follow digits of the value v.
 unfoldable pub valueFrom : ℕ → List ℕ → ℕ
 valueFrom v [] = v
-valueFrom v (b ∷ l) = valueFrom (10 * v + (b - 48)) l
+valueFrom v (b ∷ l) = valueFrom (10 * v + (b - byte "0")) l
 
 -- Whether a word is one digit or more, of a value that is at most `most`.
 abbrev pub isMagnitude : ℕ → List ℕ → Bool
@@ -36,11 +37,11 @@ largest = 2147483647
 abbrev pub smallest : ℕ
 smallest = 2147483648
 
--- The number of a word: digits, with a minus sign (45) before them or with none, of a value that 32 bits hold.
+-- The number of a word: digits, with a minus sign before them or with none, of a value that 32 bits hold.
 unfoldable pub numberOf : List ℕ → Number
 numberOf [] = NoNumber
 numberOf (b ∷ l) =
-    if (eqb b 45)
+    if (eqb b (byte "-"))
     (λ _. if (isMagnitude smallest l) (λ _. Is (negℤ (pos (valueFrom 0 l)))) (λ _. NoNumber))
     (λ _. if (isMagnitude largest (b ∷ l)) (λ _. Is (pos (valueFrom 0 (b ∷ l)))) (λ _. NoNumber))
 

@@ -1,15 +1,16 @@
--- The words of a line: what stands between white space.
+-- The words of a line (SPEC 9.3): what stands between white space.
 use mathlib.Core.Path.{_≡_}
-use mathlib.Core.Bool.{Bool, true, false, _&&_, _||_}
+use mathlib.Core.Bool.{Bool, _||_}
 use mathlib.Core.List.{List, [], _∷_, _++_}
 use Prim.Native.Nat.{ℕ, suc, _-_, _≤_}
 use lib.Dec.{eqb}
 use lib.ListN.{length, take, drop}
 use Rattle.arrays.specs.Test.{if}
+use Rattle.arrays.specs.Text.{byte}
 
 -- White space: tab, line feed, form feed, carriage return and space.
 unfoldable pub isSpace : ℕ → Bool
-isSpace b = eqb b 9 || (eqb b 10 || (eqb b 12 || (eqb b 13 || eqb b 32)))
+isSpace b = eqb b (byte "\t") || (eqb b (byte "\n") || (eqb b (byte "\u{c}") || (eqb b (byte "\r") || eqb b (byte " "))))
 
 -- The words w and ws, without w where it is empty.
 abbrev pub ended : List ℕ → List (List ℕ) → List (List ℕ)

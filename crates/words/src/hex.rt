@@ -13,13 +13,13 @@ fn digit(b: u8) -> u8
 {
     match b {
         b'0'..=b'9' => b - b'0',
-        b'A'..=b'F' => b - 55,
-        b'a'..=b'f' => b - 87,
+        b'A'..=b'F' => b - b'A' + 10,
+        b'a'..=b'f' => b - b'a' + 10,
         _ => 16,
     }
 }
 
-// Whether a word is pairs of hexadecimal digits.
+// Returns whether a word is pairs of hexadecimal digits.
 pub fn is_hex(word: &[u8]) -> bool
     ensures { λ r. ⌜ r ≡ isHex (now (word .entry)) ⌝ }
 {

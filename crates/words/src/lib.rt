@@ -61,7 +61,7 @@ fn past(line: &[u8], from: usize) -> usize
     i
 }
 
-// The first word from `from` on; an empty one where there is none.
+// Returns where the first word from `from` on stands; an empty one where there is none.
 pub fn next(line: &[u8], from: usize) -> Span
     requires { ⌜ from ≤ length (now line) ⌝ }
     ensures { λ r. ⌜ Next (now (line .entry)) from (r .start) (r .end) ⌝ }

@@ -65,7 +65,7 @@ fn positive(m: u64) -> i32
     m as i32
 }
 
-// The number that a word stands for.
+// Returns the number that a word stands for, or that it stands for none.
 pub fn number_of(word: &[u8]) -> Number
     ensures { λ r. ⌜ r ≡ numberOf (now (word .entry)) ⌝ }
 {
@@ -86,7 +86,7 @@ pub fn number_of(word: &[u8]) -> Number
     Number::Is(positive(m))
 }
 
-// The number that a word stands for, where it is not negative.
+// Returns the number that a word stands for, or that it stands for none or is negative.
 pub fn size_of(word: &[u8]) -> Size
     ensures { λ r. ⌜ r ≡ sizeOf (now (word .entry)) ⌝ }
 {

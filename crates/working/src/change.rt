@@ -12,7 +12,7 @@ ghost use Rattle.plane.specs.Code.{pointOf, isCode};
 ghost use Rattle.points.specs.Coded.{maxPoints};
 ghost use Rattle.working.specs.InOrder.{InOrder, stateOf};
 
-// A pin joins; where a Steiner point stands, it becomes a pin.
+// Returns the working form with a pin of code k, where no Steiner point stands then, after the sweep.
 pub fn insert(w: Working, k: u64) -> Working
     requires { ⌜ InOrder w ⌝ }
     requires { ⌜ T (isCode k) ⌝ }
@@ -22,7 +22,7 @@ pub fn insert(w: Working, k: u64) -> Working
     prune(points::change::with_pin(w.points, k))
 }
 
-// A pin leaves.
+// Returns the working form without the pin of code k, after the sweep.
 pub fn remove(w: Working, k: u64) -> Working
     requires { ⌜ InOrder w ⌝ }
     requires { ⌜ T (isCode k) ⌝ }
@@ -31,7 +31,7 @@ pub fn remove(w: Working, k: u64) -> Working
     prune(points::change::without_pin(w.points, k))
 }
 
-// A Steiner point joins where no point is held.
+// Returns the working form with a Steiner point of code k, where no point is held, after the sweep.
 pub fn with_steiner(w: Working, k: u64) -> Working
     requires { ⌜ InOrder w ⌝ }
     requires { ⌜ T (isCode k) ⌝ }

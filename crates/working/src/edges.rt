@@ -18,7 +18,7 @@ pub struct CodedEdge {
     pub distance: u64,
 }
 
-// The edges of the tree in the listing order, each by the numbers of its two ends in one, with zeros behind.
+// Returns the edges of the tree in the listing order, each by the numbers of its two ends in one, with zeros behind.
 pub fn edge_numbers(w: Working) -> [u64; PLACES]
     requires { ⌜ InOrder w ⌝ }
     ensures { λ r. ⌜ r ≡ edgeRow (stateOf w) ⌝ }
@@ -36,7 +36,7 @@ fn distance_of(a: u64, b: u64) -> u64
     plane::distance(x_of(a), y_of(a), x_of(b), y_of(b)) as u64
 }
 
-// The edge at a place of the listing order, from the numbers of all edges.
+// Returns the edge at a place of the listing order, from the numbers of all edges.
 pub fn edge_at(w: Working, ends: &[u64; PLACES], i: usize) -> CodedEdge
     requires { ⌜ InOrder w ⌝ }
     requires { ⌜ now ends ≡ edgeRow (stateOf w) ⌝ }

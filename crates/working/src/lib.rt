@@ -41,7 +41,7 @@ fn unpack(codes: &[u64], n: usize, xs: &mut [u16], ys: &mut [u16])
     }
 }
 
-// The working form of points: all of them merged, and the tree built.
+// Returns the working form of points: all of them merged, and the tree built.
 pub fn arrange(q: Points) -> Working
     requires { ⌜ Arranged q ⌝ }
     ensures { λ r. ⌜ InOrder r × (r .points ≡ q) ⌝ }

@@ -1,4 +1,4 @@
-// The sweep on a working form (document 01's word; here prune).
+// The sweep on a working form (SPEC 4.1; the field's word is prune).
 use super::Working;
 use super::arrange;
 use points::Points;
@@ -26,7 +26,7 @@ fn first_weak(codes: &[u64], n: usize, keys: &[u64], m: usize, steiner: &[u64], 
     j
 }
 
-// The same of a working form.
+// Returns where the lowest Steiner point stands that has at most two edges, or how many Steiner points there are if none has.
 pub fn lowest_weak(w: Working) -> usize
     requires { ⌜ InOrder w ⌝ }
     ensures { λ r. ⌜ r ≡ weakAt w ⌝ }
@@ -44,8 +44,8 @@ pub fn lowest_weak(w: Working) -> usize
     )
 }
 
-// The working form that a sweep leaves: while some Steiner point has at most two edges, the lowest such is taken out and the
-// tree built again.
+// Returns the working form that a sweep leaves: as long as there is a Steiner point of two edges or fewer, the lowest of them goes and the
+// tree is built again.
 pub fn prune(q: Points) -> Working
     requires { ⌜ coded.Arranged q ⌝ }
     ensures { λ r. ⌜ InOrder r × (stateOf r ≡ state.prune (coded.stateOf q)) ⌝ }

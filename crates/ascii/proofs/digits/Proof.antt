@@ -16,30 +16,15 @@ abbrev μ-loop : tie.MeasureT-loop
 loop-holds : tie.Need-loop-holds Inv-loop μ-loop
 loop-holds c = filled-none _ _ (c .pre)
 
-sub-i : tie.Need-sub-i Inv-loop μ-loop
-sub-i c = search needs
-
-add-places : tie.Need-add-places Inv-loop μ-loop
-add-places c = search needs
-
-cast-places : tie.Need-cast-places Inv-loop μ-loop
-cast-places c = search needs
-
-slice-write-places : tie.Need-slice-write-places Inv-loop μ-loop
-slice-write-places c = search needs
-
 same-length : tie.Need-same-length Inv-loop μ-loop
 same-length c =
     let at-loop-test = c .before in
     let at-loop = at-loop-test .before in
-    let at-start = at-loop .before in
-    filled-size _ _ _ _ (at-loop .loop .inv) (at-loop-test .loop-test .taken) (at-start .args .places .now) (at-start .pre)
+    let entry = at-loop .before in
+    filled-size _ _ _ _ (at-loop .loop .inv) (at-loop-test .loop-test .taken) (entry .args .places .now) (entry .pre)
 
 returns : tie.Need-returns Inv-loop μ-loop
 returns c = (omega arith, filled-end _ _ _ _ (c .before .before .loop .inv) (c .before .loop-test .taken) (c .if1 .taken))
-
-loop-less : tie.Need-loop-less Inv-loop μ-loop
-loop-less c = search needs
 
 loop-again : tie.Need-loop-again Inv-loop μ-loop
 loop-again c = filled-more _ _ _ _ (c .before .before .loop .inv) (c .before .loop-test .taken) (c .if1 .left)
@@ -57,13 +42,13 @@ digits-spec =
     Inv-loop
     μ-loop
     loop-holds
-    sub-i
-    add-places
-    cast-places
-    slice-write-places
+    (λ c. search needs)
+    (λ c. search needs)
+    (λ c. search needs)
+    (λ c. search needs)
     same-length
     returns
-    loop-less
+    (λ c. search needs)
     loop-again
     same-length-2
     returns-2)

@@ -1,14 +1,13 @@
 -- A text spelled byte by byte: one byte more adds what stands for it. With the digits, the length and the last line feed of a text.
-use mathlib.Core.Path.{_≡_, refl, sym, ap, _∙_}
+use mathlib.Core.Path.{_≡_, refl, sym, ap}
 use mathlib.Core.Bool.{Bool}
-use mathlib.Core.List.{List, [], _∷_, _++_, append-assoc, append-nil}
+use mathlib.Core.List.{List, [], _∷_}
 use Prim.Native.Nat.{ℕ, _+_, _-_, _*_, _/_, _%_, _≤_, _<_}
-use native.Mathlib.Numerals.{add-one}
 use native.Mathlib.Omega.{arith}
-use lib.ListN.{length, take, getD}
-use lib.Seq.{take-suc, take-length}
+use lib.ListN.{length, getD}
 use borrow.Author.Tests.{lt-ltb, le-ltb, eq-eqb, ne-eqb}
 use Rattle.arrays.specs.Test.{if}
+use Rattle.arrays.specs.Text.{bytes}
 use Rattle.arrays.specs.Paste.{Pasted}
 use Rattle.ascii.specs.Encoding.{hexDigit, hexPair, fileText, spread, bodyLength}
 use Rattle.ascii.specs.Text.{fitting}
@@ -16,10 +15,10 @@ use Rattle.ascii.proofs.Room.{front-none, front-put}
 
 -- The digits.
 pub digit-low : (n : ℕ) → n < 10 → 48 + n ≡ hexDigit n
-digit-low n h = ap (λ (b : Bool). if b (λ _. 48 + n) (λ _. 87 + n)) (sym (lt-ltb n 10 h))
+digit-low n h = ap (λ (b : Bool). if b (λ _. 48 + n) (λ _. 97 + (n - 10))) (sym (lt-ltb n 10 h))
 
-pub digit-high : (n : ℕ) → 10 ≤ n → 87 + n ≡ hexDigit n
-digit-high n h = ap (λ (b : Bool). if b (λ _. 48 + n) (λ _. 87 + n)) (sym (le-ltb n 10 h))
+pub digit-high : (n : ℕ) → 10 ≤ n → 97 + (n - 10) ≡ hexDigit n
+digit-high n h = ap (λ (b : Bool). if b (λ _. 48 + n) (λ _. 97 + (n - 10))) (sym (le-ltb n 10 h))
 
 pub pair-is : (b c d : ℕ) → c ≡ hexDigit (b / 16) → d ≡ hexDigit (b % 16) → c ∷ d ∷ [] ≡ hexPair b
 pair-is b c d e f = λ i. e i ∷ f i ∷ []
@@ -39,11 +38,11 @@ module _ (l before : List ℕ) where
   file-long {after} {r} h k p = front-put (64 + 2 * length l) before after (fileText l) r (omega arith) p
 
 -- A line feed, and any other byte.
-pub spread-feed : (b : ℕ) → b ≡ 10 → 32 ∷ 47 ∷ 32 ∷ [] ≡ spread b
-spread-feed b e = ap (λ (t : Bool). if t (λ _. 32 ∷ 47 ∷ 32 ∷ []) (λ _. b ∷ [])) (sym (eq-eqb b 10 e))
+pub spread-feed : (b : ℕ) → b ≡ 10 → bytes " / " ≡ spread b
+spread-feed b e = ap (λ (t : Bool). if t (λ _. bytes " / ") (λ _. b ∷ [])) (sym (eq-eqb b 10 e))
 
 pub spread-other : (b : ℕ) → ¬ (b ≡ 10) → b ∷ [] ≡ spread b
-spread-other b n = ap (λ (t : Bool). if t (λ _. 32 ∷ 47 ∷ 32 ∷ []) (λ _. b ∷ [])) (sym (ne-eqb b 10 n))
+spread-other b n = ap (λ (t : Bool). if t (λ _. bytes " / ") (λ _. b ∷ [])) (sym (ne-eqb b 10 n))
 
 -- The length without the last line feed.
 module _ (l : List ℕ) where

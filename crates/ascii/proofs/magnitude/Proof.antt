@@ -16,8 +16,8 @@ cast-result c = flip-cast _ (read-fits _ (c .before .fits .z)) (c .if1 .taken)
 
 add-result : tie.Need-add-result
 add-result c =
-    let at-start = c .before in
-    record { fits = omega (arith, flip-value _ (read-fits _ (at-start .fits .z)) (c .if1 .taken), magnitude-small _ (read-fits _ (at-start .fits .z))) }
+    let entry = c .before in
+    record { fits = omega (arith, flip-value _ (read-fits _ (entry .fits .z)) (c .if1 .taken), magnitude-small _ (read-fits _ (entry .fits .z))) }
 
 cast-result-2 : tie.Need-cast-result-2
 cast-result-2 c = keep-cast _ (read-fits _ (c .before .fits .z)) (c .if1 .left)

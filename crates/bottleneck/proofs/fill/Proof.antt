@@ -1,8 +1,9 @@
 -- `bottleneck::fill` meets its contract. The invariant: the labels are those of the keys seen so far, and the table has the bottlenecks of
 -- the numbers that these connect. A key between two labels fills the entries that it connects, and one within a label is skipped.
-use mathlib.Core.Path.{refl, sym, _∙_}
+use mathlib.Core.Path.{refl}
 use Prim.Native.Nat.{_-_}
 use native.Mathlib.Omega.{arith}
+use borrow.Author.Needs.{needs}
 use Rattle.tree.proofs.kruskal.Labels.{labels-none}
 use Rattle.bottleneck.proofs.TablePass.{TablePass, pass-none, pass-skip, pass-merge, pass-end, next-short}
 use Rattle.bottleneck.proofs.fill.Statement.{statement}
@@ -19,50 +20,38 @@ clear-diagonal-requires c κs = (c .before .before .before .pre .few, c .before 
 
 loop-holds : tie.Need-loop-holds Inv-loop μ-loop
 loop-holds c =
-    let cleared = c .before .before .before .before .before in
-    pass-none (cleared .before .before .before .before .pre) (cleared .clear-diagonal .kept .1 .0)
-    (labels-none (c .before .separate .kept .0) (c .before .separate .ensures)) (cleared .clear-diagonal .ensures)
+    let at-separate = c .before in
+    let at-labels = at-separate .before in
+    let at-clear-diagonal = at-labels .before .before .before in
+    let at-clear-diagonal-arg = at-clear-diagonal .before in
+    let entry = at-clear-diagonal-arg .before .before .before in
+    pass-none (entry .pre) (at-clear-diagonal .clear-diagonal .kept .1 .0)
+    (labels-none (at-separate .separate .kept .0) (at-separate .separate .ensures)) (at-clear-diagonal .clear-diagonal .ensures)
 
 cast-join : tie.Need-cast-join Inv-loop μ-loop
 cast-join c =
-    let head = c .before .before .before .before .before .before .before in
-    omega (arith, next-short (head .loop .inv) (c .before .before .before .before .before .before .loop-test .taken))
-
-join-requires : tie.Need-join-requires Inv-loop μ-loop
-join-requires c κs =
-    let r = c .before .before .before .before .before .before .before .before .loop .inv in
-    (r .labelled .size, r .given .few, r .size)
-
-relabel-requires : tie.Need-relabel-requires Inv-loop μ-loop
-relabel-requires c κs =
-    let weighed = c .before .before .before .before .before in
-    weighed .before .before .before .before .before .before .before .loop .inv .labelled .size
-
-slice-aggregate-relabel : tie.Need-slice-aggregate-relabel Inv-loop μ-loop
-slice-aggregate-relabel c =
-    let weighed = c .before .before .before .before .before in
-    sym (weighed .before .before .before .before .before .before .before .loop .inv .labelled .size)
+    let at-high = c .before .before .before in
+    let at-loop-test = at-high .before .before .before in
+    omega (arith, next-short (at-loop-test .before .loop .inv) (at-loop-test .loop-test .taken))
 
 loop-again : tie.Need-loop-again Inv-loop μ-loop
 loop-again c =
-    let filled = c .before .before .before .before .before in
-    let weighed = filled .before .before in
-    let test = weighed .before .before in
-    let read = test .before .before in
-    let turn = read .before .before in
-    pass-merge (turn .before .loop .inv) (turn .loop-test .taken) _ refl (read .low .ensures) (test .before .high .ensures) (test .if1 .taken)
-    (weighed .weight .ensures) (filled .join .kept .1 .1 .1 .1 .1 .0) (filled .join .ensures) (c .before .relabel .kept .0) (c .before .relabel .ensures)
+    let at-relabel = c .before in
+    let at-labels = at-relabel .before in
+    let at-join = at-labels .before .before .before in
+    let at-weight = at-join .before .before in
+    let at-test = at-weight .before .before in
+    let at-low = at-test .before .before in
+    let at-loop-test = at-low .before .before in
+    pass-merge (at-loop-test .before .loop .inv) (at-loop-test .loop-test .taken) _ refl (at-low .low .ensures) (at-test .before .high .ensures)
+    (at-test .if1 .taken)
+    (at-weight .weight .ensures) (at-join .join .kept .1 .1 .1 .1 .1 .0) (at-join .join .ensures) (at-relabel .relabel .kept .0) (at-relabel .relabel .ensures)
 
 loop-again-2 : tie.Need-loop-again-2 Inv-loop μ-loop
 loop-again-2 c =
-    let read = c .before .before in
-    let turn = read .before .before in
-    pass-skip (turn .before .loop .inv) (turn .loop-test .taken) _ refl (read .low .ensures) (c .before .high .ensures) (c .if1 .left)
-
-same-length : tie.Need-same-length Inv-loop μ-loop
-same-length c =
-    let cleared = c .before .before .before .before .before .before .before in
-    c .before .loop .inv .size ∙ sym (cleared .before .before .before .before .pre .room)
+    let at-low = c .before .before in
+    let at-loop-test = at-low .before .before in
+    pass-skip (at-loop-test .before .loop .inv) (at-loop-test .loop-test .taken) _ refl (at-low .low .ensures) (c .before .high .ensures) (c .if1 .left)
 
 pub fill-spec : {M : Type 1} → statement M
 fill-spec =
@@ -81,15 +70,15 @@ fill-spec =
     (λ c. omega arith)
     (λ c. omega arith)
     (λ c. omega arith)
-    (λ c. sym (c .before .before .before .before .before .before .loop .inv .labelled .size))
+    (λ c. search needs)
     (λ c κs. tt)
     cast-join
-    join-requires
-    slice-aggregate-relabel
-    relabel-requires
+    (λ c κs. search needs)
+    (λ c. search needs)
+    (λ c κs. search needs)
     (λ c. omega arith)
     loop-again
     (λ c. omega arith)
     loop-again-2
-    same-length
+    (λ c. search needs)
     (λ c. pass-end (c .before .loop .inv) (c .loop-test .left)))

@@ -17,12 +17,14 @@ abbrev μ-loop : tie.MeasureT-loop
 
 loop-again : tie.Need-loop-again Inv-loop μ-loop
 loop-again c =
-    let head = c .before .before .before .before in
-    let r = head .loop .inv in
-    let a = head .before .before .before .args in
-    let old = r .rest (a .start + head .loop .j) (λ u h e. omega arith) in
+    let at-loop-test = c .before .before .before in
+    let at-loop = at-loop-test .before in
+    let entry = at-loop .before .before .before in
+    let r = at-loop .loop .inv in
+    let a = entry .args in
+    let old = r .rest (a .start + at-loop .loop .j) (λ u h e. omega arith) in
     fill-more r (omega arith) (omega arith) (λ u h e. omega arith)
-    (c .choice .ensures ∙ ap (chosen (a .wanted) (a .w) (getD (a .labels .now) (head .loop .j) 0)) old)
+    (c .choice .ensures ∙ ap (chosen (a .wanted) (a .w) (getD (a .labels .now) (at-loop .loop .j) 0)) old)
 
 returns : tie.Need-returns Inv-loop μ-loop
 returns c =

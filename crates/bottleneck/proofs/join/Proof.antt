@@ -17,23 +17,29 @@ fill-row-requires c κs = (omega arith, omega arith)
 
 loop-again : tie.Need-loop-again Inv-loop μ-loop
 loop-again c =
-    let filled = c .before .before in
-    let test = filled .before .before in
-    rows-first (test .before .before .before .loop .inv) (omega arith) (omega arith) (test .if1 .taken) (filled .fill-row .kept .1 .1 .1 .1 .1 .0)
-    (filled .fill-row .ensures)
+    let at-fill-row = c .before .before in
+    let at-test-a = at-fill-row .before .before in
+    let at-loop = at-test-a .before .before .before in
+    rows-first (at-loop .loop .inv) (omega arith) (omega arith) (at-test-a .if1 .taken) (at-fill-row .fill-row .kept .1 .1 .1 .1 .1 .0)
+    (at-fill-row .fill-row .ensures)
 
 fill-row-requires-2 : tie.Need-fill-row-requires-2 Inv-loop μ-loop
 fill-row-requires-2 c κs = (omega arith, omega arith)
 
 loop-again-2 : tie.Need-loop-again-2 Inv-loop μ-loop
 loop-again-2 c =
-    let filled = c .before .before in
-    let test = filled .before .before in
-    rows-second (test .before .before .before .before .loop .inv) (omega arith) (omega arith) (test .before .if1 .left) (test .if2 .taken)
-    (filled .fill-row2 .kept .1 .1 .1 .1 .1 .0) (filled .fill-row2 .ensures)
+    let at-fill-row2 = c .before .before in
+    let at-test-b = at-fill-row2 .before .before in
+    let at-test-a = at-test-b .before in
+    let at-loop = at-test-a .before .before .before in
+    rows-second (at-loop .loop .inv) (omega arith) (omega arith) (at-test-a .if1 .left) (at-test-b .if2 .taken)
+    (at-fill-row2 .fill-row2 .kept .1 .1 .1 .1 .1 .0) (at-fill-row2 .fill-row2 .ensures)
 
 loop-again-3 : tie.Need-loop-again-3 Inv-loop μ-loop
-loop-again-3 c = rows-skip (c .before .before .before .before .loop .inv) (omega arith) (omega arith) (c .before .if1 .left) (c .if2 .left)
+loop-again-3 c =
+    let at-test-a = c .before in
+    let at-loop = at-test-a .before .before .before in
+    rows-skip (at-loop .loop .inv) (omega arith) (omega arith) (at-test-a .if1 .left) (c .if2 .left)
 
 pub join-spec : {M : Type 1} → statement M
 join-spec =

@@ -5,32 +5,20 @@ use borrow.Author.Needs.{needs}
 use Rattle.buffer.proofs.put_edge.Statement.{statement}
 use Rattle.buffer.proofs.put_edge.Tie as tie
 
-cast-put-byte : tie.Need-cast-put-byte
-cast-put-byte c = search needs
-
-put-byte-requires : tie.Need-put-byte-requires
-put-byte-requires c κs = search needs
-
-cast-put-byte-2 : tie.Need-cast-put-byte-2
-cast-put-byte-2 c = search needs
-
-put-byte-requires-2 : tie.Need-put-byte-requires-2
-put-byte-requires-2 c κs = search needs
-
-same-length : tie.Need-same-length
-same-length c = search needs
-
 returns : tie.Need-returns
 returns c =
-    pasted-then (c .before .before .before .before .before .before .put-byte .ensures) (omega arith) (c .before .before .put-byte2 .ensures)
+    let at-put-byte2 = c .before .before in
+    let at-put-byte-arg2 = at-put-byte2 .before in
+    let at-put-byte = at-put-byte-arg2 .before .before .before in
+    pasted-then (at-put-byte .put-byte .ensures) (omega arith) (at-put-byte2 .put-byte2 .ensures)
 
 pub put-edge-spec : {M : Type 1} → statement M
 put-edge-spec =
     tie.close
     (tie.spec
-    cast-put-byte
-    put-byte-requires
-    cast-put-byte-2
-    put-byte-requires-2
-    same-length
+    (λ c. search needs)
+    (λ c κs. search needs)
+    (λ c. search needs)
+    (λ c κs. search needs)
+    (λ c. search needs)
     returns)

@@ -5,60 +5,44 @@ use borrow.Author.Needs.{needs}
 use Rattle.buffer.proofs.put_header.Statement.{statement}
 use Rattle.buffer.proofs.put_header.Tie as tie
 
-slice-aggregate-put-bytes : tie.Need-slice-aggregate-put-bytes
-slice-aggregate-put-bytes c = search needs
-
-put-bytes-requires : tie.Need-put-bytes-requires
-put-bytes-requires c κs = search needs
-
-put2-requires : tie.Need-put2-requires
-put2-requires c κs = search needs
-
-put-pair-requires : tie.Need-put-pair-requires
-put-pair-requires c κs = search needs
-
-add-put-pair : tie.Need-add-put-pair
-add-put-pair c = search needs
-
-put-pair-requires-2 : tie.Need-put-pair-requires-2
-put-pair-requires-2 c κs = search needs
-
-add-put-pair-2 : tie.Need-add-put-pair-2
-add-put-pair-2 c = search needs
-
-add-put-pair-3 : tie.Need-add-put-pair-3
-add-put-pair-3 c = search needs
-
-put-pair-requires-3 : tie.Need-put-pair-requires-3
-put-pair-requires-3 c κs = search needs
-
-same-length : tie.Need-same-length
-same-length c = search needs
+-- The entry, seen from the call of `put_bytes`.
+abbrev entry-of : tie.After-put-bytes → tie.Start
+entry-of at-put-bytes =
+    let at-out = at-put-bytes .before .before .before in
+    at-out .before
 
 returns : tie.Need-returns
 returns c =
-    let third = c .before .before in
-    let second = third .before .before .before .before in
-    let first = second .before .before .before .before in
-    let count = first .before .before .before .before in
-    let start = count .before .before .before .before in
-    pasted-then (start .put-bytes .ensures) (omega arith)
-    (pasted-then (count .put2 .ensures) (omega arith)
-    (pasted-then (first .put-pair .ensures) (omega arith)
-    (pasted-then (second .put-pair2 .ensures) (omega arith) (third .put-pair3 .ensures))))
+    let at-put-pair3 = c .before .before in
+    let at-put-pair-arg3 = at-put-pair3 .before in
+    let at-put-pair2 = at-put-pair-arg3 .before .before .before in
+    let at-put-pair-arg2 = at-put-pair2 .before in
+    let at-put-pair = at-put-pair-arg2 .before .before .before in
+    let at-put-pair-arg = at-put-pair .before in
+    let at-put2 = at-put-pair-arg .before .before .before in
+    let at-put2-arg = at-put2 .before in
+    let at-put-bytes = at-put2-arg .before .before .before in
+    let room = entry-of at-put-bytes .pre .0 in
+    let word-kept = at-put-bytes .put-bytes .kept .0 in
+    let count-kept = at-put2 .put2 .kept .0 in
+    let first-kept = at-put-pair .put-pair .kept .1 .1 .0 in
+    pasted-then (at-put-bytes .put-bytes .ensures) (omega (arith, room))
+    (pasted-then (at-put2 .put2 .ensures) (omega (arith, room, word-kept))
+    (pasted-then (at-put-pair .put-pair .ensures) (omega (arith, room, word-kept, count-kept))
+    (pasted-then (at-put-pair2 .put-pair2 .ensures) (omega (arith, room, word-kept, count-kept, first-kept)) (at-put-pair3 .put-pair3 .ensures))))
 
 pub put-header-spec : {M : Type 1} → statement M
 put-header-spec =
     tie.close
     (tie.spec
-    slice-aggregate-put-bytes
-    put-bytes-requires
-    put2-requires
-    put-pair-requires
-    add-put-pair
-    put-pair-requires-2
-    add-put-pair-2
-    add-put-pair-3
-    put-pair-requires-3
-    same-length
+    (λ c. search needs)
+    (λ c κs. search needs)
+    (λ c κs. search needs)
+    (λ c κs. search needs)
+    (λ c. search needs)
+    (λ c κs. search needs)
+    (λ c. search needs)
+    (λ c. search needs)
+    (λ c κs. search needs)
+    (λ c. search needs)
     returns)

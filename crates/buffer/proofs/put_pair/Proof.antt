@@ -5,18 +5,12 @@ use borrow.Author.Needs.{needs}
 use Rattle.buffer.proofs.put_pair.Statement.{statement}
 use Rattle.buffer.proofs.put_pair.Tie as tie
 
-put4-requires : tie.Need-put4-requires
-put4-requires c κs = search needs
-
-put4-requires-2 : tie.Need-put4-requires-2
-put4-requires-2 c κs = search needs
-
-same-length : tie.Need-same-length
-same-length c = search needs
-
 returns : tie.Need-returns
 returns c =
-    pasted-then (c .before .before .before .before .before .before .put4 .ensures) (omega arith) (c .before .before .put42 .ensures)
+    let at-put42 = c .before .before in
+    let at-put4-arg2 = at-put42 .before in
+    let at-put4 = at-put4-arg2 .before .before .before in
+    pasted-then (at-put4 .put4 .ensures) (omega arith) (at-put42 .put42 .ensures)
 
 pub put-pair-spec : {M : Type 1} → statement M
-put-pair-spec = tie.close (tie.spec put4-requires put4-requires-2 same-length returns)
+put-pair-spec = tie.close (tie.spec (λ c κs. search needs) (λ c κs. search needs) (λ c. search needs) returns)

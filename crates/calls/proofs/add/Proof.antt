@@ -7,50 +7,38 @@ use borrow.Author.Needs.{needs}
 use Rattle.calls.proofs.add.Statement.{statement}
 use Rattle.calls.proofs.add.Tie as tie
 
-locate-requires : tie.Need-locate-requires
-locate-requires c κs = search needs
-
-enum-told : tie.Need-enum-told
-enum-told c = search needs
-
-refuse-requires : tie.Need-refuse-requires
-refuse-requires c κs = search needs
-
-enum-known-k : tie.Need-enum-known-k
-enum-known-k c = search needs
-
 add-at-requires : tie.Need-add-at-requires
 add-at-requires c κs =
     let at-k = c .before in
     let at-locate = at-k .before .before in
-    let at-start = at-locate .before in
-    let there = read-located _ _ _ (at-start .fits .x) (at-start .fits .y) (at-locate .locate .ensures) ∙ at-k .k .given .1 in
-    (at-start .pre .0, (located-is _ _ there .1, at-start .pre .1))
+    let entry = at-locate .before in
+    let there = read-located _ _ _ (entry .fits .x) (entry .fits .y) (at-locate .locate .ensures) ∙ at-k .k .given .1 in
+    (entry .pre .0, (located-is _ _ there .1, entry .pre .1))
 
 returns : tie.Need-returns
 returns c =
     let at-told = c .before in
     let at-locate = at-told .before .before in
-    let at-start = at-locate .before in
-    let out = read-located _ _ _ (at-start .fits .x) (at-start .fits .y) (at-locate .locate .ensures) ∙ at-told .enum-told .given .1 in
-    refused-is _ (at-start .pre .0) _ 7 (add-out _ _ (out-located _ out)) _ (c .refuse .ensures)
+    let entry = at-locate .before in
+    let out = read-located _ _ _ (entry .fits .x) (entry .fits .y) (at-locate .locate .ensures) ∙ at-told .enum-told .given .1 in
+    refused-is _ (entry .pre .0) _ 7 (add-out _ _ (out-located _ out)) _ (c .refuse .ensures)
 
 returns-2 : tie.Need-returns-2
 returns-2 c =
     let at-k = c .before .before in
     let at-locate = at-k .before .before in
-    let at-start = at-locate .before in
-    let there = read-located _ _ _ (at-start .fits .x) (at-start .fits .y) (at-locate .locate .ensures) ∙ at-k .k .given .1 in
+    let entry = at-locate .before in
+    let there = read-located _ _ _ (entry .fits .x) (entry .fits .y) (at-locate .locate .ensures) ∙ at-k .k .given .1 in
     by-point _ call.add _ _ (located-is _ _ there .0) _ (c .add-at .ensures)
 
 pub add-spec : {M : Type 1} → statement M
 add-spec =
     tie.close
     (tie.spec
-    locate-requires
-    enum-told
-    refuse-requires
-    enum-known-k
+    (λ c κs. search needs)
+    (λ c. search needs)
+    (λ c κs. search needs)
+    (λ c. search needs)
     add-at-requires
     returns
     returns-2)

@@ -8,64 +8,50 @@ use borrow.Author.Needs.{needs}
 use Rattle.calls.proofs.add_at.Statement.{statement}
 use Rattle.calls.proofs.add_at.Tie as tie
 
-slice-aggregate-has : tie.Need-slice-aggregate-has
-slice-aggregate-has c = search needs
-
-has-requires : tie.Need-has-requires
-has-requires c κs = search needs
-
-refuse-requires : tie.Need-refuse-requires
-refuse-requires c κs = search needs
-
 returns : tie.Need-returns
 returns c =
-    let at-if = c .before in
-    let at-has = at-if .before in
-    let at-start = at-has .before .before .before in
-    let p = at-start .pre .0 in
-    let there = sym (pin-there _ p _ (at-start .pre .1 .0)) ∙ sym (at-has .has .ensures) ∙ at-if .if1 .taken in
-    refused-is _ p _ 8 (add-there _ _ (in-range _ (at-start .pre .1 .0)) there) _ (c .refuse .ensures)
-
-refuse-requires-2 : tie.Need-refuse-requires-2
-refuse-requires-2 c κs = search needs
+    let at-has = c .before .before in
+    let entry = at-has .before .before .before in
+    let p = entry .pre .0 in
+    let there = sym (pin-there _ p _ (entry .pre .1 .0)) ∙ sym (at-has .has .ensures) ∙ c .before .if1 .taken in
+    refused-is _ p _ 8 (add-there _ _ (in-range _ (entry .pre .1 .0)) there) _ (c .refuse .ensures)
 
 returns-2 : tie.Need-returns-2
 returns-2 c =
-    let at-full = c .before in
-    let at-there = at-full .before in
-    let at-has = at-there .before in
-    let at-start = at-has .before .before .before in
-    let p = at-start .pre .0 in
+    let at-there-test = c .before .before in
+    let at-has = at-there-test .before in
+    let entry = at-has .before .before .before in
+    let p = entry .pre .0 in
     refused-is _ p _ 10
-    (add-full _ _ (in-range _ (at-start .pre .1 .0)) (sym (pin-there _ p _ (at-start .pre .1 .0)) ∙ sym (at-has .has .ensures) ∙ at-there .if1 .left)
-    (subst (λ (z : ℕ). 64 ≤ z) (pin-count _ p) (leb-true _ _ (at-full .if2 .taken)))) _ (c .refuse2 .ensures)
+    (add-full _ _ (in-range _ (entry .pre .1 .0)) (sym (pin-there _ p _ (entry .pre .1 .0)) ∙ sym (at-has .has .ensures) ∙ at-there-test .if1 .left)
+    (subst (λ (z : ℕ). 64 ≤ z) (pin-count _ p) (leb-true _ _ (c .before .if2 .taken)))) _ (c .refuse2 .ensures)
 
 insert-requires : tie.Need-insert-requires
 insert-requires c κs =
-    let at-start = c .before .before .before .before .before in
-    let q = at-start .pre in
+    let at-has = c .before .before in
+    let entry = at-has .before .before .before in
+    let q = entry .pre in
     (q .0, (q .1 .0, (leb-false _ _ (c .if2 .left), point-room _ (q .0) (q .1 .1))))
 
 returns-3 : tie.Need-returns-3
 returns-3 c =
-    let at-full = c .before in
-    let at-there = at-full .before in
-    let at-has = at-there .before in
-    let at-start = at-has .before .before .before in
-    let p = at-start .pre .0 in
+    let at-there-test = c .before .before in
+    let at-has = at-there-test .before in
+    let entry = at-has .before .before .before in
+    let p = entry .pre .0 in
     done-is _ _ _ _ (c .insert .ensures .0) (c .insert .ensures .1)
-    (add-done _ _ (in-range _ (at-start .pre .1 .0)) (sym (pin-there _ p _ (at-start .pre .1 .0)) ∙ sym (at-has .has .ensures) ∙ at-there .if1 .left)
-    (subst (λ (z : ℕ). z < 64) (pin-count _ p) (leb-false _ _ (at-full .if2 .left))))
+    (add-done _ _ (in-range _ (entry .pre .1 .0)) (sym (pin-there _ p _ (entry .pre .1 .0)) ∙ sym (at-has .has .ensures) ∙ at-there-test .if1 .left)
+    (subst (λ (z : ℕ). z < 64) (pin-count _ p) (leb-false _ _ (c .before .if2 .left))))
 
 pub add-at-spec : {M : Type 1} → statement M
 add-at-spec =
     tie.close
     (tie.spec
-    slice-aggregate-has
-    has-requires
-    refuse-requires
+    (λ c. search needs)
+    (λ c κs. search needs)
+    (λ c κs. search needs)
     returns
-    refuse-requires-2
+    (λ c κs. search needs)
     returns-2
     insert-requires
     returns-3)

@@ -8,12 +8,6 @@ use borrow.Author.Needs.{needs}
 use Rattle.calls.proofs.reply_of.Statement.{statement}
 use Rattle.calls.proofs.reply_of.Tie as tie
 
-enum-told : tie.Need-enum-told
-enum-told c = search needs
-
-enum-known-s : tie.Need-enum-known-s
-enum-known-s c = search needs
-
 returns : tie.Need-returns
 unfolding stepReply
 returns c = sym (ap stepReply (c .enum-told .given .1))
@@ -27,4 +21,4 @@ returns-2 c =
     ∙ sym (ap stepReply (c .before .s .given .1))
 
 pub reply-of-spec : {M : Type 1} → statement M
-reply-of-spec = tie.close (tie.spec enum-told enum-known-s returns returns-2)
+reply-of-spec = tie.close (tie.spec (λ c. search needs) (λ c. search needs) returns returns-2)

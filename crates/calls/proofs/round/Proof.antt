@@ -4,15 +4,9 @@ use borrow.Author.Needs.{needs}
 use Rattle.calls.proofs.round.Statement.{statement}
 use Rattle.calls.proofs.round.Tie as tie
 
-round-of-requires : tie.Need-round-of-requires
-round-of-requires c κs = search needs
-
-reply-of-requires : tie.Need-reply-of-requires
-reply-of-requires c κs = search needs
-
 returns : tie.Need-returns
 returns c =
     round-is _ _ _ (c .before .before .round-of .ensures) (c .reply-of .ensures)
 
 pub round-spec : {M : Type 1} → statement M
-round-spec = tie.close (tie.spec round-of-requires reply-of-requires returns)
+round-spec = tie.close (tie.spec (λ c κs. search needs) (λ c κs. search needs) returns)

@@ -4,12 +4,9 @@ use borrow.Author.Needs.{needs}
 use Rattle.calls.proofs.run_to_end.Statement.{statement}
 use Rattle.calls.proofs.run_to_end.Tie as tie
 
-finish-of-requires : tie.Need-finish-of-requires
-finish-of-requires c κs = search needs
-
 returns : tie.Need-returns
 returns c =
     end-is _ _ (c .before .finish-of .ensures)
 
 pub run-to-end-spec : {M : Type 1} → statement M
-run-to-end-spec = tie.close (tie.spec finish-of-requires returns)
+run-to-end-spec = tie.close (tie.spec (λ c κs. search needs) returns)

@@ -4,12 +4,17 @@ use Rattle.crossing.proofs.Candidates.{none-best}
 use Rattle.crossing.proofs.best.Statement.{statement}
 use Rattle.crossing.proofs.best.Tie as tie
 
+returns : tie.Need-returns
+returns c =
+    let at-keys = c .before in
+    let entry = at-keys .before .before .before in
+    let a = entry .args in
+    none-best (a .xs .now) (a .ys .now) _ (c .if1 .taken)
+
 pub best-spec : {M : Type 1} → statement M
 best-spec =
     tie.close
     (tie.spec
-    (λ c.
-    let a = c .before .before .before .before .args in
-    none-best (a .xs .now) (a .ys .now) _ (c .if1 .taken))
+    returns
     (λ c κs. search needs)
     (λ c. search needs))

@@ -15,7 +15,7 @@ use Rattle.arrays.specs.Order.{Sorted}
 use Rattle.plane.specs.Point.{Point, lower, Lower}
 use Rattle.plane.specs.Stored.{pointAt}
 use Rattle.plane.proofs.Order.{lower-order}
-use Rattle.plane.proofs.Stored.{biased-coordinate}
+use Rattle.plane.proofs.Stored.{stored-coordinate}
 use Rattle.arrays.proofs.Test.{same-test}
 use Rattle.plane.proofs.Whole.{whole-ext, sub-value}
 use Rattle.arrays.specs.Set.{put, has}
@@ -94,4 +94,4 @@ try-crossings ps s =
 -- One crossing, by its gain.
 pub tried-is : (ps : List Point) (s : Greatest) (g x y : ℕ) → g ≡ sparedBy ps (pointAt x y) → greater s g x y ≡ tried ps s (pointAt x y)
 unfolding tried
-tried-is ps s g x y e = rw (← e, biased-coordinate x, biased-coordinate y)
+tried-is ps s g x y e = rw (← e, stored-coordinate x, stored-coordinate y)

@@ -11,31 +11,47 @@ use Rattle.crossing.proofs.search_all.Tie as tie
 
 -- Where all is prepared, once the columns stand.
 abbrev prepared : tie.After-lines → tie.After-prepare
-prepared c = c .before .before .before .before .before .before
+prepared c =
+    let at-ranks = c .before .before .before in
+    at-ranks .before .before .before
 
 abbrev start : tie.After-prepare → tie.Start
-start c = c .before .before .before .before .before .before .before .before .before .before
+start c =
+    let at-ranks = c .before .before in
+    let at-blank2 = at-ranks .before .before .before in
+    let at-keys = at-blank2 .before .before in
+    at-keys .before .before .before
 
 columns : (c : tie.After-lines) → Lines (start (prepared c) .args .xs .now) (start (prepared c) .args .n) (c .lines .last .1 .1 .0) (c .lines .result)
 columns c = lines-written (start (prepared c) .args .xs .now) (start (prepared c) .args .n) (c .lines .ensures)
 
 prepare-requires : tie.Need-prepare-requires
 prepare-requires c κs =
-    let blank₂ = c .before .before .before .before in
-    let p = blank₂ .before .before .before .before .before .pre in
-    (p, (blank₂ .before .blank .ensures, blank₂ .blank2 .ensures, omega (arith, p .0 .few), omega (arith, p .0 .few)))
+    let at-ranks = c .before in
+    let at-blank2 = at-ranks .before .before .before in
+    let at-blank = at-blank2 .before in
+    let at-keys = at-blank .before in
+    let entry = at-keys .before .before .before in
+    let p = entry .pre in
+    (p, (at-blank .blank .ensures, at-blank2 .blank2 .ensures, omega (arith, p .0 .few), omega (arith, p .0 .few)))
 
 all-columns-requires : tie.Need-all-columns-requires
 all-columns-requires c κs =
-    let lined = c .before .before .before .before .before .before in
-    let p = prepared lined .prepare .ensures .0 in
-    (record { room = column-given p; size = p .sizeTable; within = p .given .within }, columns lined .within)
+    let at-gaps = c .before .before .before in
+    let at-lines = at-gaps .before .before .before in
+    let at-prepare = prepared at-lines in
+    let p = at-prepare .prepare .ensures .0 in
+    (record { room = column-given p; size = p .sizeTable; within = p .given .within }, columns at-lines .within)
 
 returns : tie.Need-returns
 returns c =
-    let lined = c .before .before .before .before .before .before .before in
-    let call = prepared lined .prepare in
-    best-found (start (prepared lined) .pre .0) (columns lined) (call .ensures .1) (c .all-columns .ensures _ (call .ensures .0))
+    let at-ranks = c .before .before .before in
+    let at-table = at-ranks .before .before in
+    let at-lines = at-table .before .before in
+    let at-prepare = prepared at-lines in
+    let entry = start at-prepare in
+    let call = at-prepare .prepare in
+    best-found (entry .pre .0) (columns at-lines) (call .ensures .1) (c .all-columns .ensures _ (call .ensures .0))
 
 pub search-all-spec : {M : Type 1} → statement M
 search-all-spec =

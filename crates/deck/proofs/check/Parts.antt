@@ -29,7 +29,7 @@ use Rattle.working.proofs.prune.Sweep.{Found, none-weak, at, found, order-degre
 use Rattle.deck.specs.declared.Deck.{Deck}
 use Rattle.deck.specs.declared.check.Checked.{Checked}
 use Rattle.deck.specs.Form.{deckOf, stateOf, Sound, sound}
-use Rattle.deck.specs.Check.{pointed, Checks}
+use Rattle.deck.specs.Check.{validPoints, Checks}
 use Rattle.deck.proofs.Form.{sound-is, sound-arranged}
 
 -- The search in a working form for a Steiner point of at most two edges.
@@ -96,27 +96,27 @@ accepted test q r e s p f = record { ok = e ∙ sym (true-of test s); inOrder = 
 
 -- The points of a deck, by the working form of points that are arranged.
 module _ (q : Points) (w : Working) (a : work.InOrder w × (w .points ≡ q)) (j : ℕ) (is : j ≡ weakAt w) where
-  pub points-weak : j < w .points .nsteiner → ¬ T (pointed q)
+  pub points-weak : j < w .points .nsteiner → ¬ T (validPoints q)
   points-weak h t =
       one-found w (a .0) j is h
       (subst⁻¹ (λ (z : Points). Valid (coded.stateOf z)) (a .1) (valid-is (coded.stateOf q) .0 (and-parts (coded.arranged q) (valid (coded.stateOf q)) t .1)))
 
-  pub points-pass : w .points .nsteiner ≤ j → T (coded.arranged q) → T (pointed q)
+  pub points-pass : w .points .nsteiner ≤ j → T (coded.arranged q) → T (validPoints q)
   points-pass h t =
       and-both (coded.arranged q) (valid (coded.stateOf q)) t
       (valid-is (coded.stateOf q) .1 (subst (λ (z : Points). Valid (coded.stateOf z)) (a .1) (none-found w (a .0) j is h)))
 
 -- From the points to the whole deck.
-module _ (d : Deck) (r : Checked) (c : Checks (pointed (d .points)) (d .points) r) where
+module _ (d : Deck) (r : Checked) (c : Checks (validPoints (d .points)) (d .points) r) where
   pub points-fail : r .ok ≡ false → Checks (sound d) (d .points) r
   points-fail e = refused (sound d) (d .points) r e (λ t. refuted (c .ok) e (passed (sound-is d .0 t)))
     where
-      passed : Sound d → T (pointed (d .points))
+      passed : Sound d → T (validPoints (d .points))
       passed s =
           and-both (coded.arranged (d .points)) (valid (stateOf d)) (arranged-passes (d .points) (sound-arranged d s)) (valid-is (stateOf d) .1 (s .valid))
 
   module _ (e : r .ok ≡ true) where
-    test : T (pointed (d .points))
+    test : T (validPoints (d .points))
     test = of-true (sym (c .ok) ∙ e)
 
     pub points-order : work.InOrder (r .working)

@@ -33,7 +33,7 @@ use Rattle.deckfile.specs.Reading.{readOutcome, reading, acceptedDeck}
 use Rattle.deckfile.specs.ReadWorking.{stateRead, replyRead, ReadTo}
 use Rattle.deckfile.specs.Writing.{stored, storedAnswer, storedBuffer, written, bufferAfter}
 use Rattle.deckfile.proofs.Stored.{write-stored}
-use Rattle.deckfile.specs.Answer.{rewritten, answerNumber, answerBuffer, writtenNumber, Entered}
+use Rattle.deckfile.specs.Answer.{readAndWritten, answerNumber, answerBuffer, writtenNumber, Entered}
 
 -- The answer of storing, as one number.
 pub number-stored : (s : State) (l : List ℕ) → writtenNumber (storedAnswer s l) ≡ stored s l (λ n. n) length
@@ -52,7 +52,7 @@ module _ (s : State) (v : Valid s) (l : List ℕ) where
 -- The refusal of a file.
 pub answer-refused : (r : Read) (calls : List Call) (l : List ℕ) {o : Outcome} (n : ℕ) → o ≡ readOutcome r
     → n ≡ refusalNumber (o .reply) → ¬ (n ≡ 0) → (n ≡ answerNumber r calls l) × (l ≡ answerBuffer r calls l)
-unfolding rewritten refusalNumber readOutcome
+unfolding readAndWritten refusalNumber readOutcome
 answer-refused (deck s) calls l n e f h = absurd (h (rw e at f))
 answer-refused (refusal k) calls l n e f h = (rw e at f, refl)
 
@@ -60,7 +60,7 @@ answer-refused (refusal k) calls l n e f h = (rw e at f, refl)
 pub answer-deck : (r : Read) → Possible r → (calls : List Call) (l : List ℕ) {o : Outcome} {n : ℕ} → o ≡ readOutcome r
     → n ≡ refusalNumber (o .reply) → n ≡ 0 → {last : Deck} → last ≡ deckAfter (o .next) calls → {m : ℕ} {b : List ℕ}
     → m ≡ writtenNumber (written last l) → b ≡ bufferAfter last l → (m ≡ answerNumber r calls l) × (b ≡ answerBuffer r calls l)
-unfolding rewritten refusalNumber readOutcome
+unfolding readAndWritten refusalNumber readOutcome
 answer-deck (deck s) (taken v) calls l e f z is em eb =
     let q = rw e at is ∙ after-deck calls s v in
     let w = after-valid calls s v in
@@ -71,7 +71,7 @@ answer-deck (refusal k) (refused h j) calls l e f z is em eb = absurd (omega (ar
 -- The same where the working form is handed on. A file that was read has the working form of a valid state.
 pub read-refused : (r : Read) (calls : List Call) (l : List ℕ) {c : Changed} (n : ℕ) → ReadTo r c
     → n ≡ refusalNumber (c .reply) → ¬ (n ≡ 0) → (n ≡ answerNumber r calls l) × (l ≡ answerBuffer r calls l)
-unfolding rewritten refusalNumber replyRead
+unfolding readAndWritten refusalNumber replyRead
 read-refused (deck s) calls l n e f h = absurd (h (rw (e .reply) at f))
 read-refused (refusal k) calls l n e f h = (rw (e .reply) at f, refl)
 
@@ -88,7 +88,7 @@ changed-valid {w} {c} v by = (by .inOrder, subst⁻¹ Valid (by .next) (step-val
 
 pub answer-stored : (r : Read) (calls : List Call) (l : List ℕ) {s t : State} → r ≡ deck s → t ≡ stateAfter s calls → {a : Written} {m : ℕ} {b : List ℕ}
     → m ≡ writtenNumber a → (a ≡ storedAnswer t l) × (b ≡ storedBuffer t l) → (m ≡ answerNumber r calls l) × (b ≡ answerBuffer r calls l)
-unfolding rewritten
+unfolding readAndWritten
 answer-stored r calls l {s} {t} e q em w = rw e rw (sym q) (em ∙ ap writtenNumber (w .0) ∙ number-stored t l, w .1)
 
 -- The file after the calls, by whether there is room for it.
@@ -99,12 +99,12 @@ module _ (s : State) (calls : List Call) (l : List ℕ) where
   by-room : {t : Bool} → leb (length file) (length l) ≡ t
       → (answerNumber (deck s) calls l ≡ if t (λ _. length file) (λ _. 12))
       × (answerBuffer (deck s) calls l ≡ if t (λ _. file ++ drop (length file) l) (λ _. l))
-  unfolding rewritten
+  unfolding readAndWritten
   by-room e =
       (ap (λ (t : Bool). if t (λ _. length file) (λ _. 12)) e, ap (λ (t : Bool). if t (λ _. file ++ drop (length file) l) (λ _. l)) e)
 
 pub entered : (r : Read) → Possible r → (calls : List Call) (l : List ℕ) → Entered r calls l
-unfolding rewritten
+unfolding readAndWritten
 entered r p calls l =
     record {
       turnedDown = λ n e. rw e (refl, refl);

@@ -22,7 +22,7 @@ use Rattle.points.proofs.Codes.{drop-zeros, padded-take}
 use Rattle.points.proofs.Coded.{state-coded, valid-arranged}
 use Rattle.points.proofs.check.Tests.{arranged-passes}
 use Rattle.deck.specs.declared.check.Checked.{Checked}
-use Rattle.deck.specs.Check.{pointed, Checks}
+use Rattle.deck.specs.Check.{validPoints, Checks}
 use Rattle.deck.specs.Form.{deckOf}
 use Rattle.deck.specs.Calls as called
 use Rattle.calls.specs.declared.Changed.{Changed}
@@ -67,9 +67,9 @@ unfolding stateRead replyRead
 accepted-read w p = record { inOrder = p; state = refl; reply = refl }
 
 -- The points of a placed state are those of a valid one exactly if the state is valid.
-tests : (s : State) → Placed s → pointed (coded s) ≡ valid s
+tests : (s : State) → Placed s → validPoints (coded s) ≡ valid s
 tests s p =
-    same-test (pointed (coded s)) (valid s)
+    same-test (validPoints (coded s)) (valid s)
     (λ t. subst (λ (r : State). T (valid r)) (state-coded s p) (and-parts (arranged (coded s)) (valid (points.stateOf (coded s))) t .1))
     (λ t. and-both (arranged (coded s)) (valid (points.stateOf (coded s))) (arranged-passes (coded s) (valid-arranged s (valid-is s .0 t)))
     (subst⁻¹ (λ (r : State). T (valid r)) (state-coded s p) t))
@@ -105,14 +105,14 @@ module _ (b : List ℕ) (d : Sections b) (p : T (placed (fileState b))) where
   -- The working form of the points found.
   pub working-for : (found : FilePoints) → Decodes b found → (u v : ℕ) → u ≡ size b 0 → v ≡ size b 1 → (row : List ℕ)
       → row ≡ padded places (map code (s .steiner)) → (r : Checked)
-      → (let q : Points = record { pins = found .pins; npins = u / 4; steiner = row; nsteiner = v / 4 } in Checks (pointed q) q r) → WorkingFor s r
+      → (let q : Points = record { pins = found .pins; npins = u / 4; steiner = row; nsteiner = v / 4 } in Checks (validPoints q) q r) → WorkingFor s r
   unfolding coded
   working-for found k u v e f row g r c =
       let n : u / 4 ≡ length (s .pins) = ap (λ (z : ℕ). z / 4) e ∙ sym (pins-count b d) in
       let m : v / 4 ≡ length (s .steiner) = ap (λ (z : ℕ). z / 4) f ∙ sym (steiner-count b d) in
       let q : _≡_ {A = Points} (record { pins = found .pins; npins = u / 4; steiner = row; nsteiner = v / 4 }) (coded s) =
       λ i. record { pins = k .pins p i; npins = n i; steiner = g i; nsteiner = m i } in
-      let h = subst (λ (t : Bool). Checks t (coded s) r) (tests s is-placed) (subst (λ (z : Points). Checks (pointed z) z r) q c) in
+      let h = subst (λ (t : Bool). Checks t (coded s) r) (tests s is-placed) (subst (λ (z : Points). Checks (validPoints z) z r) q c) in
       record { ok = h .ok; inOrder = h .inOrder; state = λ t. ap points.stateOf (h .same t) ∙ state-coded s is-placed }
 
   -- Whether the file shows a deck, by three tests.

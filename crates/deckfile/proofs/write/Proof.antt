@@ -7,9 +7,6 @@ use borrow.Author.Needs.{needs}
 use Rattle.deckfile.proofs.write.Statement.{statement}
 use Rattle.deckfile.proofs.write.Tie as tie
 
-check-requires : tie.Need-check-requires
-check-requires c κs = search needs
-
 returns : tie.Need-returns
 returns c =
     let k = c .before .before .check .ensures in
@@ -17,20 +14,17 @@ returns c =
 
 write-working-requires : tie.Need-write-working-requires
 write-working-requires c κs =
-    let at-if = c .before in
-    checked-valid _ _ (at-if .before .before .check .ensures) (not-false _ (at-if .if1 .left))
-
-same-length : tie.Need-same-length
-same-length c = search needs
+    let at-test = c .before in
+    checked-valid _ _ (at-test .before .before .check .ensures) (not-false _ (at-test .if1 .left))
 
 returns-2 : tie.Need-returns-2
 returns-2 c =
     let at-write = c .before .before in
-    let at-if = at-write .before .before in
-    let k = at-if .before .before .check .ensures in
-    let e = not-false _ (at-if .if1 .left) in
+    let at-test = at-write .before .before in
+    let k = at-test .before .before .check .ensures in
+    let e = not-false _ (at-test .if1 .left) in
     write-stored _ _ (sym (k .ok) ∙ e) (checked-sound _ _ k e .2) (at-write .write-working .ensures)
 
 pub write-spec : {M : Type 1} → statement M
 write-spec =
-    tie.close (tie.spec check-requires returns write-working-requires same-length returns-2)
+    tie.close (tie.spec (λ c κs. search needs) returns write-working-requires (λ c. search needs) returns-2)

@@ -15,15 +15,15 @@ use Rattle.working.specs.InOrder.{InOrder, stateOf}
 use Rattle.working.specs.Edges.{edgeRow}
 use Rattle.working.proofs.edges.Numbers.{edge-count}
 use Rattle.arrays.specs.Paste.{each}
-use Rattle.sections.specs.Bytes.{pointFour, edgeBytes}
+use Rattle.sections.specs.Bytes.{codeBytes, edgeBytes}
 use Rattle.buffer.specs.Parts.{fileParts, PartsFit}
 use Rattle.deckfile.proofs.Runs.{count-is, edges-are, edges-long}
 
 -- The points of codes, in bytes.
-section-is : (l : List ℕ) → each pointFour l ≡ sectionOf (map pointOf l)
+section-is : (l : List ℕ) → each codeBytes l ≡ sectionOf (map pointOf l)
 unfolding each sectionOf
 section-is [] = refl
-section-is (k ∷ l) = ap (λ (bs : List ℕ). pointFour k ++ bs) (section-is l)
+section-is (k ∷ l) = ap (λ (bs : List ℕ). codeBytes k ++ bs) (section-is l)
 
 module _ (w : Working) (p : InOrder w) (v : Valid (stateOf w)) where
   abbrev s : State

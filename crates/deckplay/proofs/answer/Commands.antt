@@ -1,91 +1,50 @@
--- What each command asks for, as its function answers it.
-use mathlib.Core.Path.{_≡_, refl, sym, ap, _∙_, subst}
-use mathlib.Core.List.{List, []}
-use Prim.Native.Nat.{ℕ, min}
+-- The answer to a command from that of the function which it calls. Two numbers of a command are handed on as 32 bits, and read back as
+-- they were.
+use mathlib.Core.Path.{_≡_, sym, ap, _∙_, subst}
+use mathlib.Core.List.{List}
+use Prim.Native.Nat.{ℕ}
 use lib.IntN.{ℤ}
 use mir.Syntax.{w32}
 use mir.Val.{SFits}
 use Rattle.arrays.proofs.Signed.{read, read-two}
-use Rattle.plane.specs.Point.{point}
+use Rattle.plane.specs.Point.{Point, point}
 use Rattle.model.specs.Call as call
 use Rattle.deck.specs.declared.Deck.{Deck}
 use Rattle.deck.specs.declared.Outcome.{Outcome}
-use Rattle.questions.specs.declared.Answer.{Answer}
 use Rattle.deck.specs.Calls.{called}
 use Rattle.deck.specs.Questions.{asked}
-use Rattle.questions.specs.Answers.{ofLength, ofCounts, ofEdge, ofDegree}
-use Rattle.deckfile.specs.Reading.{reading}
-use Rattle.script.specs.declared.Command.{Command}
-use Rattle.script.specs.declared.Command.the-variants as command
-use Rattle.script.specs.Commands as script
-use Rattle.ascii.specs.Encoding.{joinedLines}
-use Rattle.replies.specs.Replies.{errorWord, answerText}
-use Rattle.listing.specs.Whole.{deckText}
+use Rattle.questions.specs.declared.Answer.{Answer}
+use Rattle.questions.specs.Answers.{Question}
+use Rattle.script.specs.declared.Change.{Change}
+use Rattle.script.specs.declared.Query.{Query}
+use Rattle.replies.specs.Replies.{answerText}
 use Rattle.deckplay.specs.declared.answer.Played.{Played}
-use Rattle.deckplay.specs.Play.{Line, stays, changes, writeText, octantText, lineOf, played, Plays}
+use Rattle.deckplay.specs.Play.{Line, stays, changes, octantText, callOf, questionOf, Plays}
 
--- The answer to a line by that to its command.
-pub plays-line : (d : Deck) (b : List ℕ) (r k : Command) (a : Line) {before after : List ℕ} {p : Played} → r ≡ script.commandOf b → r ≡ k → a ≡ lineOf d b k
-    → Plays a before after p → Plays (played d b) before after p
-plays-line d b r k a {before} {after} {p} e f q x =
-    subst (λ (z : Line). Plays z before after p) (q ∙ ap (lineOf d b) (sym f ∙ e)) x
+-- What was asked for (a command, a call or a question) is k, and what was played is the line that it asks for.
+pub obeys : {A : Type 0} (lineFor : A → Line) {c k : A} {a : Line} {before after : List ℕ} {p : Played} → c ≡ k → a ≡ lineFor k
+    → Plays a before after p → Plays (lineFor c) before after p
+obeys lineFor {before = before} {after} {p} e f = subst (λ (z : Line). Plays z before after p) (f ∙ ap lineFor (sym e))
 
-module _ (d : Deck) (b : List ℕ) where
-  pub blank-line : stays d [] ≡ lineOf d b command.Blank
-  unfolding lineOf
-  blank-line = refl
+pub makes : (d : Deck) {c k : Change} {a : Line} {before after : List ℕ} {p : Played} → c ≡ k → a ≡ changes (called d (callOf k))
+    → Plays a before after p → Plays (changes (called d (callOf c))) before after p
+makes d = obeys (λ (k : Change). changes (called d (callOf k)))
 
-  pub error-answer : stays d errorWord ≡ lineOf d b command.Error
-  unfolding lineOf
-  error-answer = refl
+pub answers : (d : Deck) {q k : Query} {a : Line} {before after : List ℕ} {p : Played} → q ≡ k → a ≡ stays d (answerText (asked d (questionOf k)))
+    → Plays a before after p → Plays (stays d (answerText (asked d (questionOf q)))) before after p
+answers d = obeys (λ (k : Query). stays d (answerText (asked d (questionOf k))))
 
-  pub read-line : changes (reading (script.fileOf b)) ≡ lineOf d b command.Read
-  unfolding lineOf
-  read-line = refl
+-- Equal answers are one line.
+pub same-answer : {d : Deck} {a b : Answer} → a ≡ b → stays d (answerText a) ≡ stays d (answerText b)
+same-answer {d} = ap (λ (z : Answer). stays d (answerText z))
 
-  pub write-line : (n : ℕ) → stays d (writeText d (min n 784)) ≡ lineOf d b (command.Write n)
-  unfolding lineOf
-  write-line n = refl
+module _ {x y : ℤ} (fx : SFits w32 x) (fy : SFits w32 y) (d : Deck) where
+  pub called-at : (f : Point → call.Call) {o : Outcome} → o ≡ called d (f (point (read x) (read y))) → changes o ≡ changes (called d (f (point x y)))
+  called-at f e = ap changes (e ∙ read-two (λ (u v : ℤ). called d (f (point u v))) x y fx fy)
 
-  pub round-line : (o : Outcome) → o ≡ called d call.oneRound → changes o ≡ lineOf d b command.Round
-  unfolding lineOf
-  round-line o e = ap changes e
+  pub asked-at : (f : Point → Question) {a : Answer} → a ≡ asked d (f (point (read x) (read y)))
+      → stays d (answerText a) ≡ stays d (answerText (asked d (f (point x y))))
+  asked-at f e = same-answer (e ∙ read-two (λ (u v : ℤ). asked d (f (point u v))) x y fx fy)
 
-  pub finish-line : (o : Outcome) → o ≡ called d call.runToEnd → changes o ≡ lineOf d b command.Finish
-  unfolding lineOf
-  finish-line o e = ap changes e
-
-  pub length-line : (a : Answer) → a ≡ asked d ofLength → stays d (answerText a) ≡ lineOf d b command.Length
-  unfolding lineOf
-  length-line a e = ap (λ (z : Answer). stays d (answerText z)) e
-
-  pub counts-line : (a : Answer) → a ≡ asked d ofCounts → stays d (answerText a) ≡ lineOf d b command.Counts
-  unfolding lineOf
-  counts-line a e = ap (λ (z : Answer). stays d (answerText z)) e
-
-  pub run-line : (i : ℕ) (a : Answer) → a ≡ asked d (ofEdge i) → stays d (answerText a) ≡ lineOf d b (command.Run i)
-  unfolding lineOf
-  run-line i a e = ap (λ (z : Answer). stays d (answerText z)) e
-
-  pub list-line : stays d (joinedLines (deckText d)) ≡ lineOf d b command.List
-  unfolding lineOf
-  list-line = refl
-
-  -- Commands with two numbers, which are read back from their bits.
-  module _ (x y : ℤ) (fx : SFits w32 x) (fy : SFits w32 y) where
-    pub add-line : (o : Outcome) → o ≡ called d (call.add (point (read x) (read y))) → changes o ≡ lineOf d b (command.Add x y)
-    unfolding lineOf
-    add-line o e = ap changes (e ∙ read-two (λ (u v : ℤ). called d (call.add (point u v))) x y fx fy)
-
-    pub withdraw-line : (o : Outcome) → o ≡ called d (call.withdraw (point (read x) (read y))) → changes o ≡ lineOf d b (command.Withdraw x y)
-    unfolding lineOf
-    withdraw-line o e = ap changes (e ∙ read-two (λ (u v : ℤ). called d (call.withdraw (point u v))) x y fx fy)
-
-    pub degree-line : (a : Answer) → a ≡ asked d (ofDegree (point (read x) (read y))) → stays d (answerText a) ≡ lineOf d b (command.Degree x y)
-    unfolding lineOf
-    degree-line a e =
-        ap (λ (z : Answer). stays d (answerText z)) (e ∙ read-two (λ (u v : ℤ). asked d (ofDegree (point u v))) x y fx fy)
-
-    pub octant-line : stays d (octantText (read x) (read y)) ≡ lineOf d b (command.Octant x y)
-    unfolding lineOf
-    octant-line = read-two (λ (u v : ℤ). stays d (octantText u v)) x y fx fy
+  pub octant-at : stays d (octantText (read x) (read y)) ≡ stays d (octantText x y)
+  octant-at = read-two (λ (u v : ℤ). stays d (octantText u v)) x y fx fy

@@ -16,50 +16,40 @@ use Rattle.listing.proofs.list.Tie as tie
 returns : tie.Need-returns
 returns c = front-none 8192 _ _ (c .if1 .taken)
 
-check-requires : tie.Need-check-requires
-check-requires c κs = search needs
-
-refused-line-requires : tie.Need-refused-line-requires
-refused-line-requires c κs = search needs
-
-same-length : tie.Need-same-length
-same-length c = search needs
-
 returns-2 : tie.Need-returns-2
 returns-2 c =
-    let at-line = c .before .before in
-    let at-if = at-line .before .before in
-    let at-check = at-if .before .before in
+    let at-refused-line = c .before .before in
+    let at-valid-test = at-refused-line .before .before in
+    let at-check = at-valid-test .before .before in
     front-put 8192 _ _ _ _ (at-check .before .if1 .left)
-    (pasted-same (text-unsound _ (sym (at-check .check .ensures .ok) ∙ not-true _ (at-if .if2 .taken))) (at-line .refused-line .ensures))
+    (pasted-same (text-unsound _ (sym (at-check .check .ensures .ok) ∙ not-true _ (at-valid-test .if2 .taken))) (at-refused-line .refused-line .ensures))
 
 list-working-requires : tie.Need-list-working-requires
 list-working-requires c κs =
-    let at-if = c .before in
-    checked-valid _ _ (at-if .before .before .check .ensures) (not-false _ (at-if .if2 .left))
-
-same-length-2 : tie.Need-same-length-2
-same-length-2 c = search needs
+    let at-check = c .before .before .before in
+    checked-valid _ _ (at-check .check .ensures) (not-false _ (c .before .if2 .left))
 
 returns-3 : tie.Need-returns-3
 returns-3 c =
-    let at-list = c .before .before in
-    let at-if = at-list .before .before in
-    let k = at-if .before .before .check .ensures in
-    let e = not-false _ (at-if .if2 .left) in
-    let out = at-if .before .before .before .before .before .args .out .now in
+    let at-list-working = c .before .before in
+    let at-valid-test = at-list-working .before .before in
+    let at-check = at-valid-test .before .before in
+    let entry = at-check .before .before .before in
+    let k = at-check .check .ensures in
+    let e = not-false _ (at-valid-test .if2 .left) in
+    let out = entry .args .out .now in
     let text = ap listing (checked-sound _ _ k e .2) ∙ text-sound _ (sym (k .ok) ∙ e) in
-    pasted-same (ap (λ (t : List ℕ). fitting 8192 out t) text) (at-list .list-working .ensures)
+    pasted-same (ap (λ (t : List ℕ). fitting 8192 out t) text) (at-list-working .list-working .ensures)
 
 pub list-spec : {M : Type 1} → statement M
 list-spec =
     tie.close
     (tie.spec
     returns
-    check-requires
-    refused-line-requires
-    same-length
+    (λ c κs. search needs)
+    (λ c κs. search needs)
+    (λ c. search needs)
     returns-2
     list-working-requires
-    same-length-2
+    (λ c. search needs)
     returns-3)

@@ -10,41 +10,27 @@ use Rattle.listing.proofs.list_working.Tie as tie
 returns : tie.Need-returns
 returns c = front-none 8192 _ _ (c .if1 .taken)
 
-length-of-requires : tie.Need-length-of-requires
-length-of-requires c κs = search needs
-
-head-line-requires : tie.Need-head-line-requires
-head-line-requires c κs = search needs
-
-write-taps-requires : tie.Need-write-taps-requires
-write-taps-requires c κs = search needs
-
-run-lines-requires : tie.Need-run-lines-requires
-run-lines-requires c κs = search needs
-
-same-length : tie.Need-same-length
-same-length c = search needs
-
 returns-2 : tie.Need-returns-2
 returns-2 c =
-    let at-runs = c .before .before in
-    let at-taps = at-runs .before .before .before .before in
-    let at-head = at-taps .before .before .before .before in
-    let at-length = at-head .before .before in
-    let at-if = at-length .before in
-    let at-start = at-if .before .before in
-    front-put 8192 _ _ _ _ (at-if .if1 .left)
-    (listing-put (at-start .args .w) (at-start .pre .0) _ (at-length .length-of .ensures) (pasted-then (at-head .head-line .ensures .0) (omega arith)
-    (pasted-then (at-taps .write-taps .ensures .0) (omega arith) (at-runs .run-lines .ensures))))
+    let at-run-lines = c .before .before in
+    let at-run-lines-arg = at-run-lines .before in
+    let at-write-taps = at-run-lines-arg .before .before .before in
+    let at-write-taps-arg = at-write-taps .before in
+    let at-head-line = at-write-taps-arg .before .before .before in
+    let at-length-of = at-head-line .before .before in
+    let entry = at-length-of .before .before .before in
+    front-put 8192 _ _ _ _ (at-length-of .before .if1 .left)
+    (listing-put (entry .args .w) (entry .pre .0) _ (at-length-of .length-of .ensures) (pasted-then (at-head-line .head-line .ensures .0) (omega arith)
+    (pasted-then (at-write-taps .write-taps .ensures .0) (omega arith) (at-run-lines .run-lines .ensures))))
 
 pub list-working-spec : {M : Type 1} → statement M
 list-working-spec =
     tie.close
     (tie.spec
     returns
-    length-of-requires
-    head-line-requires
-    write-taps-requires
-    run-lines-requires
-    same-length
+    (λ c κs. search needs)
+    (λ c κs. search needs)
+    (λ c κs. search needs)
+    (λ c κs. search needs)
+    (λ c. search needs)
     returns-2)

@@ -1,40 +1,27 @@
--- `listing::refused_line` meets its contract.
+-- `listing::refused_line` meets its contract: the word, the number and the line feed, each behind the one before.
 use native.Mathlib.Omega.{arith}
 use borrow.Author.Needs.{needs}
 use Rattle.arrays.proofs.paste.Parts.{pasted-then}
 use Rattle.listing.proofs.refused_line.Statement.{statement}
 use Rattle.listing.proofs.refused_line.Tie as tie
 
-slice-aggregate-put-bytes : tie.Need-slice-aggregate-put-bytes
-slice-aggregate-put-bytes c = search needs
-
-put-bytes-requires : tie.Need-put-bytes-requires
-put-bytes-requires c κs = search needs
-
-decimal-field-requires : tie.Need-decimal-field-requires
-decimal-field-requires c κs = search needs
-
-put-byte-requires : tie.Need-put-byte-requires
-put-byte-requires c κs = search needs
-
-same-length : tie.Need-same-length
-same-length c = search needs
-
 returns : tie.Need-returns
 returns c =
-    let at-byte = c .before .before in
-    let at-decimal-field = at-byte .before .before .before .before in
-    let at-word = at-decimal-field .before .before .before .before in
-    pasted-then (at-word .put-bytes .ensures) (omega arith)
-    (pasted-then (at-decimal-field .decimal-field .ensures .0) (omega arith) (at-byte .put-byte .ensures))
+    let at-put-byte = c .before .before in
+    let at-put-byte-arg = at-put-byte .before in
+    let at-decimal-field = at-put-byte-arg .before .before .before in
+    let at-decimal-field-arg = at-decimal-field .before in
+    let at-put-bytes = at-decimal-field-arg .before .before .before in
+    pasted-then (at-put-bytes .put-bytes .ensures) (omega arith)
+    (pasted-then (at-decimal-field .decimal-field .ensures .0) (omega arith) (at-put-byte .put-byte .ensures))
 
 pub refused-line-spec : {M : Type 1} → statement M
 refused-line-spec =
     tie.close
     (tie.spec
-    slice-aggregate-put-bytes
-    put-bytes-requires
-    decimal-field-requires
-    put-byte-requires
-    same-length
+    (λ c. search needs)
+    (λ c κs. search needs)
+    (λ c κs. search needs)
+    (λ c κs. search needs)
+    (λ c. search needs)
     returns)

@@ -6,9 +6,6 @@ use Rattle.plane.proofs.Stored.{gap-rising, gap-falling}
 use Rattle.plane.proofs.apart.Statement.{statement}
 use Rattle.plane.proofs.apart.Tie as tie
 
-sub-result : tie.Need-sub-result
-sub-result c = search needs
-
 returns : tie.Need-returns
 returns c = let s = c .before in sym (gap-rising (s .args .a) (s .args .b) (omega arith))
 
@@ -16,4 +13,4 @@ returns-2 : tie.Need-returns-2
 returns-2 c = let s = c .before in sym (gap-falling (s .args .a) (s .args .b) (c .if1 .left))
 
 pub apart-spec : {M : Type 1} → statement M
-apart-spec = tie.close (tie.spec sub-result returns returns-2)
+apart-spec = tie.close (tie.spec (λ c. search needs) returns returns-2)

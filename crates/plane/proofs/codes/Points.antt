@@ -12,14 +12,14 @@ use mir.Syntax.{w32}
 use mir.Val.{SFits}
 use lib.Dec.{T, ltb, leb, leb→le, le→leb, ltb→lt, lt→ltb}
 use Rattle.plane.specs.Point.{Point, point, coordinateInRange, inRange, lower}
-use Rattle.plane.specs.Coordinate.{base, storedLimit, coordinate, biased}
+use Rattle.plane.specs.Coordinate.{base, storedLimit, coordinate, storedOf}
 use Rattle.plane.specs.Code.{xOf, yOf, code, pointOf, isCode, located}
 use Rattle.arrays.specs.Test.{if}
 use Rattle.plane.specs.declared.codes.Located.{Located}
 use Rattle.plane.specs.declared.codes.Located.the-variants.{OutOfRange, At}
 use Rattle.arrays.proofs.Signed.{read, read-two}
 use Rattle.arrays.proofs.Test.{and-parts, and-both, same-test, true-of, of-true}
-use Rattle.plane.proofs.Stored.{coordinate-biased, biased-bound, coordinate-range, biased-coordinate, lower-true, lower-false}
+use Rattle.plane.proofs.Stored.{coordinate-stored, stored-bound, coordinate-range, stored-coordinate, lower-true, lower-false}
 
 abbrev pub AllCodes : List ℕ → Type 0
 AllCodes l = (k : ℕ) → List·Memᴰ k l → T (isCode k)
@@ -38,8 +38,8 @@ module _ (p : Point) (r : T (inRange p)) where
   ins : T (coordinateInRange (p .x)) × T (coordinateInRange (p .y))
   ins = and-parts (coordinateInRange (p .x)) (coordinateInRange (p .y)) r
 
-  small : (biased (p .x) ≤ storedLimit) × (biased (p .y) ≤ storedLimit)
-  small = (biased-bound (p .x) (ins .0), biased-bound (p .y) (ins .1))
+  small : (storedOf (p .x) ≤ storedLimit) × (storedOf (p .y) ≤ storedLimit)
+  small = (stored-bound (p .x) (ins .0), stored-bound (p .y) (ins .1))
 
   pub code-is : T (isCode (code p))
   unfolding code
@@ -52,18 +52,18 @@ module _ (p : Point) (r : T (inRange p)) where
   unfolding code
   point-code =
       let h = small in
-      let ex : xOf (code p) ≡ biased (p .x) = omega arith in
-      let ey : yOf (code p) ≡ biased (p .y) = omega arith in
+      let ex : xOf (code p) ≡ storedOf (p .x) = omega arith in
+      let ey : yOf (code p) ≡ storedOf (p .y) = omega arith in
       λ i. record {
-        x = (ap coordinate ex ∙ coordinate-biased (p .x) (ins .0)) i;
-        y = (ap coordinate ey ∙ coordinate-biased (p .y) (ins .1)) i;
+        x = (ap coordinate ex ∙ coordinate-stored (p .x) (ins .0)) i;
+        y = (ap coordinate ey ∙ coordinate-stored (p .y) (ins .1)) i;
       }
 
 -- A code and its point.
 module _ (k : ℕ) (t : T (isCode k)) where
   pub code-point : code (pointOf k) ≡ k
   unfolding code
-  code-point = let h = code-small k t in omega (arith, biased-coordinate (xOf k), biased-coordinate (yOf k))
+  code-point = let h = code-small k t in omega (arith, stored-coordinate (xOf k), stored-coordinate (yOf k))
 
   pub code-in-range : T (inRange (pointOf k))
   code-in-range =

@@ -11,12 +11,6 @@ use Rattle.plane.proofs.Signed.{lowered, lowered-fits}
 use Rattle.plane.proofs.difference.Statement.{statement}
 use Rattle.plane.proofs.difference.Tie as tie
 
-cast-result : tie.Need-cast-result
-cast-result c = search needs
-
-cast-result-2 : tie.Need-cast-result-2
-cast-result-2 c = search needs
-
 lesser : (s : tie.Start) → toZ w32 (s .args .a) -ℤ toZ w32 (s .args .b) ≡ subℕ (s .args .a) (s .args .b)
 lesser s =
     ap₂ _-ℤ_ (toZ-pos w32 (s .args .a) (omega (arith, s .pre))) (toZ-pos w32 (s .args .b) (omega (arith, s .pre))) ∙ lowered (s .args .a) (s .args .b)
@@ -28,4 +22,4 @@ returns : tie.Need-returns
 returns c = read-is (sub-result c) (lesser c)
 
 pub difference-spec : {M : Type 1} → statement M
-difference-spec = tie.close (tie.spec cast-result cast-result-2 sub-result returns)
+difference-spec = tie.close (tie.spec (λ c. search needs) (λ c. search needs) sub-result returns)

@@ -4,7 +4,7 @@ use mathlib.Core.Path.{_≡_, sym, ap, subst}
 use mathlib.Core.Logic.{⊎-elim}
 use mathlib.Core.Bool.{Bool, true, false, not}
 use mathlib.Core.List.{List, [], _∷_}
-use Prim.Native.Nat.{ℕ, zero, suc, _+_, _≤_, _<_}
+use Prim.Native.Nat.{ℕ, _+_, _≤_, _<_}
 use native.Mathlib.Omega.{arith}
 use lib.Dec.{T, leb, leb→le, nleb→lt}
 use lib.ListN.{length}
@@ -16,35 +16,23 @@ use Rattle.plane.specs.Stored.{one, pointAt}
 use Rattle.plane.proofs.Whole.{plus, minus, whole-ext, difference-value}
 use Rattle.arrays.proofs.Order.{tied}
 use Rattle.plane.proofs.Order.{lower-order}
-use Rattle.plane.proofs.Sector.{Sector, SectorOf, from-sector}
+use Rattle.plane.proofs.Sector.{Sector, Parts, SectorOf, sector-moves, from-sector}
 use Rattle.plane.proofs.Octant.{octant-is}
 use Rattle.plane.proofs.Stored.{coordinate-value, lower-true}
-
--- A sector is of differences: two pairs of numbers with equal differences are in the same.
-pub sector-moves : (k a b c d a′ b′ c′ d′ : ℕ) → a + b′ ≡ a′ + b → c + d′ ≡ c′ + d → Sector k a b c d → Sector k a′ b′ c′ d′
-sector-moves zero a b c d a′ b′ c′ d′ e f s = omega arith
-sector-moves (suc zero) a b c d a′ b′ c′ d′ e f s = omega arith
-sector-moves (suc (suc zero)) a b c d a′ b′ c′ d′ e f s = omega arith
-sector-moves (suc (suc (suc zero))) a b c d a′ b′ c′ d′ e f s = omega arith
-sector-moves (suc (suc (suc (suc zero)))) a b c d a′ b′ c′ d′ e f s = omega arith
-sector-moves (suc (suc (suc (suc (suc zero))))) a b c d a′ b′ c′ d′ e f s = omega arith
-sector-moves (suc (suc (suc (suc (suc (suc zero)))))) a b c d a′ b′ c′ d′ e f s = omega arith
-sector-moves (suc (suc (suc (suc (suc (suc (suc zero))))))) a b c d a′ b′ c′ d′ e f s = omega arith
-sector-moves (suc (suc (suc (suc (suc (suc (suc (suc k)))))))) a b c d a′ b′ c′ d′ e f s = s
 
 -- The octant whose sector a difference is in.
 pub sector-octant : (k : ℕ) (dx dy : ℤ) → SectorOf k dx dy → octant dx dy ≡ k
 sector-octant k dx dy s = octant-is k dx dy (from-sector k dx dy s)
 
 -- The octant of two stored points from the sector of their stored coordinates.
-pub between-is : (k ax ay bx by : ℕ) → Sector k bx ax by ay
+pub between-is : (k ax ay bx by : ℕ) → k < 8 → Sector k bx ax by ay
     → octant (coordinate bx -ℤ coordinate ax) (coordinate by -ℤ coordinate ay) ≡ k
-between-is k ax ay bx by s = sector-octant k (coordinate bx -ℤ coordinate ax) (coordinate by -ℤ coordinate ay) moved
+between-is k ax ay bx by h s = sector-octant k (coordinate bx -ℤ coordinate ax) (coordinate by -ℤ coordinate ay) (h, moved)
   where
     moves : (u v : ℕ) → u + minus (coordinate u -ℤ coordinate v) ≡ plus (coordinate u -ℤ coordinate v) + v
     moves u v = omega (arith, difference-value (coordinate u) (coordinate v), coordinate-value u, coordinate-value v)
 
-    moved : SectorOf k (coordinate bx -ℤ coordinate ax) (coordinate by -ℤ coordinate ay)
+    moved : Parts k (coordinate bx -ℤ coordinate ax) (coordinate by -ℤ coordinate ay)
     moved =
         sector-moves k bx ax by ay
         (plus (coordinate bx -ℤ coordinate ax)) (minus (coordinate bx -ℤ coordinate ax))
@@ -90,7 +78,7 @@ between-upper ax ay bx by e =
     let p = leb (bx + ay) (by + ax) in
     let q = leb bx ax in
     let s = leb (bx + by) (ax + ay) in
-    sym (between-is (one p + one q + one s) ax ay bx by
+    sym (between-is (one p + one q + one s) ax ay bx by (omega (arith, at-most-one p, at-most-one q, at-most-one s))
     (upper bx ax by ay (h .0) (h .1) p q s (leb→le (bx + ay) (by + ax)) (nleb→lt (bx + ay) (by + ax)) (leb→le bx ax) (nleb→lt bx ax)
     (leb→le (bx + by) (ax + ay)) (nleb→lt (bx + by) (ax + ay))))
 
@@ -102,7 +90,7 @@ between-under ax ay bx by e =
     let p = leb (by + ax) (bx + ay) in
     let q = leb ax bx in
     let s = leb (ax + ay) (bx + by) in
-    sym (between-is (one p + one q + one s + 4) ax ay bx by
+    sym (between-is (one p + one q + one s + 4) ax ay bx by (omega (arith, at-most-one p, at-most-one q, at-most-one s))
     (under bx ax by ay (h .0) (h .1) p q s (leb→le (by + ax) (bx + ay)) (nleb→lt (by + ax) (bx + ay)) (leb→le ax bx) (nleb→lt ax bx)
     (leb→le (ax + ay) (bx + by)) (nleb→lt (ax + ay) (bx + by))))
 

@@ -5,17 +5,8 @@ use Rattle.plane.proofs.Stored.{word-stored}
 use Rattle.plane.proofs.word_of.Statement.{statement}
 use Rattle.plane.proofs.word_of.Tie as tie
 
-add-result : tie.Need-add-result
-add-result c = search needs
-
-cast-result : tie.Need-cast-result
-cast-result c = search needs
-
-sub-result : tie.Need-sub-result
-sub-result c = search needs
-
 returns : tie.Need-returns
 returns c = omega (arith, word-stored (c .args .u))
 
 pub word-of-spec : {M : Type 1} → statement M
-word-of-spec = tie.close (tie.spec add-result cast-result sub-result returns)
+word-of-spec = tie.close (tie.spec (λ c. search needs) (λ c. search needs) (λ c. search needs) returns)

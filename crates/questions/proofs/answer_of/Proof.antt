@@ -8,53 +8,32 @@ use borrow.Author.Needs.{needs}
 use Rattle.questions.proofs.answer_of.Statement.{statement}
 use Rattle.questions.proofs.answer_of.Tie as tie
 
-x-of-requires : tie.Need-x-of-requires
-x-of-requires c κs = search needs
-
-to-signed-requires : tie.Need-to-signed-requires
-to-signed-requires c κs = search needs
-
-y-of-requires : tie.Need-y-of-requires
-y-of-requires c κs = search needs
-
-to-signed-requires-2 : tie.Need-to-signed-requires-2
-to-signed-requires-2 c κs = search needs
-
-x-of-requires-2 : tie.Need-x-of-requires-2
-x-of-requires-2 c κs = search needs
-
-to-signed-requires-3 : tie.Need-to-signed-requires-3
-to-signed-requires-3 c κs = search needs
-
-y-of-requires-2 : tie.Need-y-of-requires-2
-y-of-requires-2 c κs = search needs
-
-to-signed-requires-4 : tie.Need-to-signed-requires-4
-to-signed-requires-4 c κs = search needs
-
 returns : tie.Need-returns
 returns c =
-    let at-v = c .to-signed4 in
-    let at-u = c .before .before .to-signed3 in
-    let to-y = c .before .before .before .before in
-    let at-y = to-y .to-signed2 in
-    let at-x = to-y .before .before .to-signed in
-    let x = toZ-ofZ w32 _ (record { sfits = at-x .ok }) ∙ at-x .ensures ∙ ap coordinate (to-y .before .before .before .x-of .ensures) in
-    let y = toZ-ofZ w32 _ (record { sfits = at-y .ok }) ∙ at-y .ensures ∙ ap coordinate (to-y .before .y-of .ensures) in
-    let u = toZ-ofZ w32 _ (record { sfits = at-u .ok }) ∙ at-u .ensures ∙ ap coordinate (c .before .before .before .x-of2 .ensures) in
-    let v = toZ-ofZ w32 _ (record { sfits = at-v .ok }) ∙ at-v .ensures ∙ ap coordinate (c .before .y-of2 .ensures) in
-    λ i. Edge (x i) (y i) (u i) (v i) (to-y .before .before .before .before .args .e .distance)
+    let at-to-signed3 = c .before .before in
+    let at-to-signed2 = at-to-signed3 .before .before in
+    let at-to-signed = at-to-signed2 .before .before in
+    let entry = at-to-signed .before .before in
+    let signed-v = c .to-signed4 in
+    let signed-u = at-to-signed3 .to-signed3 in
+    let signed-y = at-to-signed2 .to-signed2 in
+    let signed-x = at-to-signed .to-signed in
+    let x = toZ-ofZ w32 _ (record { sfits = signed-x .ok }) ∙ signed-x .ensures ∙ ap coordinate (at-to-signed .before .x-of .ensures) in
+    let y = toZ-ofZ w32 _ (record { sfits = signed-y .ok }) ∙ signed-y .ensures ∙ ap coordinate (at-to-signed2 .before .y-of .ensures) in
+    let u = toZ-ofZ w32 _ (record { sfits = signed-u .ok }) ∙ signed-u .ensures ∙ ap coordinate (at-to-signed3 .before .x-of2 .ensures) in
+    let v = toZ-ofZ w32 _ (record { sfits = signed-v .ok }) ∙ signed-v .ensures ∙ ap coordinate (c .before .y-of2 .ensures) in
+    λ i. Edge (x i) (y i) (u i) (v i) (entry .args .e .distance)
 
 pub answer-of-spec : {M : Type 1} → statement M
 answer-of-spec =
     tie.close
     (tie.spec
-    x-of-requires
-    to-signed-requires
-    y-of-requires
-    to-signed-requires-2
-    x-of-requires-2
-    to-signed-requires-3
-    y-of-requires-2
-    to-signed-requires-4
+    (λ c κs. search needs)
+    (λ c κs. search needs)
+    (λ c κs. search needs)
+    (λ c κs. search needs)
+    (λ c κs. search needs)
+    (λ c κs. search needs)
+    (λ c κs. search needs)
+    (λ c κs. search needs)
     returns)

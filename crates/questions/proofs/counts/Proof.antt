@@ -1,4 +1,4 @@
--- `questions::counts` meets its contract.
+-- `questions::counts` meets its contract: an arranged state's counts are the lengths of its lists.
 use Rattle.questions.proofs.Answers.{counts-answer}
 use Rattle.questions.proofs.counts.Statement.{statement}
 use Rattle.questions.proofs.counts.Tie as tie

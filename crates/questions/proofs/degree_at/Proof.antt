@@ -10,38 +10,29 @@ use borrow.Author.Needs.{needs}
 use Rattle.questions.proofs.degree_at.Statement.{statement}
 use Rattle.questions.proofs.degree_at.Tie as tie
 
-locate-requires : tie.Need-locate-requires
-locate-requires c κs = search needs
-
-enum-told : tie.Need-enum-told
-enum-told c = search needs
-
-enum-known-k : tie.Need-enum-known-k
-enum-known-k c = search needs
-
 degree-of-requires : tie.Need-degree-of-requires
 degree-of-requires c κs =
     let at-k = c .before in
     let at-locate = at-k .before .before in
-    let at-start = at-locate .before in
-    (at-start .pre .0, located-is _ _ (read-located _ _ _ (at-start .fits .x) (at-start .fits .y) (at-locate .locate .ensures) ∙ at-k .k .given .1) .1)
+    let entry = at-locate .before in
+    (entry .pre .0, located-is _ _ (read-located _ _ _ (entry .fits .x) (entry .fits .y) (at-locate .locate .ensures) ∙ at-k .k .given .1) .1)
 
 returns : tie.Need-returns
 returns c =
     let at-locate = c .before .before in
-    let at-start = at-locate .before in
-    let out = read-located _ _ _ (at-start .fits .x) (at-start .fits .y) (at-locate .locate .ensures) ∙ c .enum-told .given .1 in
-    ap Degree (none-beyond _ (at-start .pre .1) _ (out-located _ out))
+    let entry = at-locate .before in
+    let out = read-located _ _ _ (entry .fits .x) (entry .fits .y) (at-locate .locate .ensures) ∙ c .enum-told .given .1 in
+    ap Degree (none-beyond _ (entry .pre .1) _ (out-located _ out))
 
 returns-2 : tie.Need-returns-2
 returns-2 c =
     let at-k = c .before .before in
     let at-locate = at-k .before .before in
-    let at-start = at-locate .before in
-    let there = read-located _ _ _ (at-start .fits .x) (at-start .fits .y) (at-locate .locate .ensures) ∙ at-k .k .given .1 in
-    ap Degree (c .degree-of .ensures) ∙ ap (λ (p : Point). degreeAnswer p (stateOf (at-start .args .w))) (located-is _ _ there .0)
+    let entry = at-locate .before in
+    let there = read-located _ _ _ (entry .fits .x) (entry .fits .y) (at-locate .locate .ensures) ∙ at-k .k .given .1 in
+    ap Degree (c .degree-of .ensures) ∙ ap (λ (p : Point). degreeAnswer p (stateOf (entry .args .w))) (located-is _ _ there .0)
 
 pub degree-at-spec : {M : Type 1} → statement M
 degree-at-spec =
     tie.close
-    (tie.spec locate-requires enum-told enum-known-k degree-of-requires returns returns-2)
+    (tie.spec (λ c κs. search needs) (λ c. search needs) (λ c. search needs) degree-of-requires returns returns-2)

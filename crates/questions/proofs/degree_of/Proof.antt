@@ -9,55 +9,57 @@ use borrow.Author.Needs.{needs}
 use Rattle.questions.proofs.degree_of.Statement.{statement}
 use Rattle.questions.proofs.degree_of.Tie as tie
 
-slice-aggregate-has : tie.Need-slice-aggregate-has
-slice-aggregate-has c = search needs
+-- The entry, seen from the call of `has`.
+abbrev entry-of : tie.After-has → tie.Start
+entry-of at-has =
+    let at-keys = at-has .before .before in
+    at-keys .before .before
+
+codes-sized : (entry : tie.Start) → length (entry .args .w .codes) ≡ 128
+codes-sized entry = search needs
+
+keys-sized : (entry : tie.Start) → length (entry .args .w .keys) ≡ 136
+keys-sized entry = search needs
 
 has-requires : tie.Need-has-requires
 has-requires c κs =
-    let at-start = c .before .before .before in
-    let h : length (at-start .args .w .codes) ≡ 128 = search needs in
-    omega (arith, at-start .pre .0 .few, h)
+    let entry = c .before .before .before in
+    omega (arith, entry .pre .0 .few, codes-sized entry)
 
 returns : tie.Need-returns
 returns c =
-    let q = c .before .before .before .before .before .pre in
-    degree-none _ (q .0) _ (q .1) (sym (c .before .has .ensures) ∙ not-true _ (c .if1 .taken))
-
-slice-aggregate-degree-of : tie.Need-slice-aggregate-degree-of
-slice-aggregate-degree-of c = search needs
-
-slice-aggregate-index-of : tie.Need-slice-aggregate-index-of
-slice-aggregate-index-of c = search needs
+    let at-has = c .before in
+    let given = entry-of at-has .pre in
+    degree-none _ (given .0) _ (given .1) (sym (at-has .has .ensures) ∙ not-true _ (c .if1 .taken))
 
 index-of-requires : tie.Need-index-of-requires
 index-of-requires c κs =
-    let at-start = c .before .before .before .before .before .before .before in
-    let h : length (at-start .args .w .codes) ≡ 128 = search needs in
-    omega (arith, at-start .pre .0 .few, h)
+    let entry = entry-of (c .before .before .before) in
+    omega (arith, entry .pre .0 .few, codes-sized entry)
 
 degree-of-requires : tie.Need-degree-of-requires
 degree-of-requires c κs =
-    let at-start = c .before .before .before .before .before .before .before .before in
-    let h : length (at-start .args .w .keys) ≡ 136 = search needs in
-    omega (arith, at-start .pre .0 .keysFew, h)
+    let at-test = c .before .before .before in
+    let entry = entry-of (at-test .before) in
+    omega (arith, entry .pre .0 .keysFew, keys-sized entry)
 
 returns-2 : tie.Need-returns-2
 returns-2 c =
-    let at-if = c .before .before .before .before in
-    let at-has = at-if .before in
-    let at-start = at-has .before .before .before .before in
-    let held = of-true (sym (at-has .has .ensures) ∙ not-false _ (at-if .if1 .left)) in
-    degree-there _ (at-start .pre .0) _ _ _ held (c .before .index-of .ensures) (c .degree-of .ensures)
+    let at-index-of = c .before in
+    let at-test = at-index-of .before .before .before in
+    let at-has = at-test .before in
+    let held = of-true (sym (at-has .has .ensures) ∙ not-false _ (at-test .if1 .left)) in
+    degree-there _ (entry-of at-has .pre .0) _ _ _ held (at-index-of .index-of .ensures) (c .degree-of .ensures)
 
 pub degree-of-spec : {M : Type 1} → statement M
 degree-of-spec =
     tie.close
     (tie.spec
-    slice-aggregate-has
+    (λ c. search needs)
     has-requires
     returns
-    slice-aggregate-degree-of
-    slice-aggregate-index-of
+    (λ c. search needs)
+    (λ c. search needs)
     index-of-requires
     degree-of-requires
     returns-2)

@@ -8,19 +8,10 @@ use Rattle.questions.proofs.edge_at.Tie as tie
 returns : tie.Need-returns
 returns c = no-edge _ (c .before .before .pre) _ (c .if1 .taken)
 
-edge-numbers-requires : tie.Need-edge-numbers-requires
-edge-numbers-requires c κs = search needs
-
-edge-at-requires : tie.Need-edge-at-requires
-edge-at-requires c κs = search needs
-
-answer-of-requires : tie.Need-answer-of-requires
-answer-of-requires c κs = search needs
-
 returns-2 : tie.Need-returns-2
 returns-2 c = c .answer-of .ensures ∙ edge-there _ _ _ (c .before .edge-at .ensures)
 
 pub edge-at-spec : {M : Type 1} → statement M
 edge-at-spec =
     tie.close
-    (tie.spec returns edge-numbers-requires edge-at-requires answer-of-requires returns-2)
+    (tie.spec returns (λ c κs. search needs) (λ c κs. search needs) (λ c κs. search needs) returns-2)

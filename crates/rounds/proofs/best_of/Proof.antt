@@ -6,37 +6,34 @@ use borrow.Author.Needs.{needs}
 use Rattle.rounds.proofs.best_of.Statement.{statement}
 use Rattle.rounds.proofs.best_of.Tie as tie
 
-slice-aggregate-best : tie.Need-slice-aggregate-best
-slice-aggregate-best c = search needs
+xs-sized : (entry : tie.Start) → length (entry .args .w .xs) ≡ 128
+xs-sized entry = search needs
 
-slice-aggregate-best-2 : tie.Need-slice-aggregate-best-2
-slice-aggregate-best-2 c = search needs
+ys-sized : (entry : tie.Start) → length (entry .args .w .ys) ≡ 128
+ys-sized entry = search needs
 
-slice-aggregate-best-3 : tie.Need-slice-aggregate-best-3
-slice-aggregate-best-3 c = search needs
+keys-sized : (entry : tie.Start) → length (entry .args .w .keys) ≡ 136
+keys-sized entry = search needs
 
 best-requires : tie.Need-best-requires
 best-requires c κs =
-    let w = c .before .before .before .before .before .before .args .w in
-    let hx : length (w .xs) ≡ 128 = search needs in
-    let hy : length (w .ys) ≡ 128 = search needs in
-    let hk : length (w .keys) ≡ 136 = search needs in
-    given w (c .before .before .before .before .before .before .pre) hx hy hk
+    let at-keys = c .before .before .before in
+    let entry = at-keys .before .before .before in
+    given (entry .args .w) (entry .pre) (xs-sized entry) (ys-sized entry) (keys-sized entry)
 
 returns : tie.Need-returns
 returns c =
-    let w = c .before .before .before .before .before .before .before .args .w in
-    let hx : length (w .xs) ≡ 128 = search needs in
-    let hy : length (w .ys) ≡ 128 = search needs in
-    let hk : length (w .keys) ≡ 136 = search needs in
-    c .best .ensures ∙ best-is w (c .before .before .before .before .before .before .before .pre) hx hy hk
+    let at-xs = c .before .before .before in
+    let at-ys = at-xs .before .before in
+    let entry = at-ys .before .before in
+    c .best .ensures ∙ best-is (entry .args .w) (entry .pre) (xs-sized entry) (ys-sized entry) (keys-sized entry)
 
 pub best-of-spec : {M : Type 1} → statement M
 best-of-spec =
     tie.close
     (tie.spec
-    slice-aggregate-best
-    slice-aggregate-best-2
-    slice-aggregate-best-3
+    (λ c. search needs)
+    (λ c. search needs)
+    (λ c. search needs)
     best-requires
     returns)

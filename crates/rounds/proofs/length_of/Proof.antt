@@ -7,9 +7,6 @@ use borrow.Author.Needs.{needs}
 use Rattle.rounds.proofs.length_of.Statement.{statement}
 use Rattle.rounds.proofs.length_of.Tie as tie
 
-slice-aggregate-total-of : tie.Need-slice-aggregate-total-of
-slice-aggregate-total-of c = search needs
-
 total-of-requires : tie.Need-total-of-requires
 total-of-requires c κs =
     let w = c .before .before .args .w in
@@ -27,4 +24,4 @@ returns c =
     c .total-of .ensures ∙ length-is w (c .before .before .before .pre) hx hy hk
 
 pub length-of-spec : {M : Type 1} → statement M
-length-of-spec = tie.close (tie.spec slice-aggregate-total-of total-of-requires returns)
+length-of-spec = tie.close (tie.spec (λ c. search needs) total-of-requires returns)

@@ -10,19 +10,15 @@ returns c = too-long _ (c .if1 .taken)
 returns-2 : tie.Need-returns-2
 returns-2 c = blank-empty _ (c .before .if1 .left) (c .if2 .taken)
 
-shared-slice-read-if3 : tie.Need-shared-slice-read-if3
-shared-slice-read-if3 c = search needs
-
 returns-3 : tie.Need-returns-3
 returns-3 c = blank-comment _ (c .before .before .before .if1 .left) (c .before .before .if2 .left) (c .if3 .taken)
 
-by-words-requires : tie.Need-by-words-requires
-by-words-requires c κs = search needs
-
 returns-4 : tie.Need-returns-4
-returns-4 c = by-words _ (c .before .before .before .before .if1 .left) (c .before .before .before .if2 .left) (c .before .if3 .left) _ (c .by-words .ensures)
+returns-4 c =
+    let at-empty-test = c .before .before .before in
+    by-words _ (at-empty-test .before .if1 .left) (at-empty-test .if2 .left) (c .before .if3 .left) _ (c .by-words .ensures)
 
 pub parse-spec : {M : Type 1} → statement M
 parse-spec =
     tie.close
-    (tie.spec returns returns-2 shared-slice-read-if3 returns-3 by-words-requires returns-4)
+    (tie.spec returns returns-2 (λ c. search needs) returns-3 (λ c κs. search needs) returns-4)

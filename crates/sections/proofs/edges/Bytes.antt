@@ -10,7 +10,7 @@ use Rattle.arrays.specs.Same.{sameList}
 use Rattle.arrays.proofs.same.Alike.{Alike, alike-none, alike-more, alike-fail, alike-end}
 use Rattle.arrays.specs.Paste.{each}
 use Rattle.arrays.proofs.paste.Lines.{each-length}
-use Rattle.sections.specs.Bytes.{edgeTwo, edgeBytes}
+use Rattle.sections.specs.Bytes.{endsBytes, edgeBytes}
 
 -- The bytes of edges.
 first-byte : (l : List ℕ) (i j : ℕ) → j ≡ 2 * i → getD (edgeBytes l) j 0 ≡ getD l i 0 / 128 % 256
@@ -51,7 +51,7 @@ module _ (b : List ℕ) (at : ℕ) (ends : List ℕ) (n : ℕ) (h : at + 2 * n �
 
   same-long : length P ≡ length Q
   unfolding Q
-  same-long = omega (arith, long, each-length edgeTwo 2 (λ _. refl) (take n ends), length-take-le n ends k)
+  same-long = omega (arith, long, each-length endsBytes 2 (λ _. refl) (take n ends), length-take-le n ends k)
 
   here : (j : ℕ) → j < 2 * n → getD P j 0 ≡ getD b (at + j) 0
   unfolding P

@@ -26,13 +26,13 @@ pub digit-decimal : (b : ℕ) → 48 ≤ b → b ≤ 57 → b - 48 ≡ digitOf b
 unfolding digitOf
 digit-decimal b h k = rw (within 48 b 57 h k) refl
 
-pub digit-upper : (b : ℕ) → 65 ≤ b → b ≤ 70 → b - 55 ≡ digitOf b
+pub digit-upper : (b : ℕ) → 65 ≤ b → b ≤ 70 → b - 65 + 10 ≡ digitOf b
 unfolding digitOf
-digit-upper b h k = rw (outside 48 b 57 (λ _. omega arith), within 65 b 70 h k) refl
+digit-upper b h k = rw (outside 48 b 57 (λ _. omega arith), within 65 b 70 h k) (omega arith)
 
-pub digit-lower : (b : ℕ) → 97 ≤ b → b ≤ 102 → b - 87 ≡ digitOf b
+pub digit-lower : (b : ℕ) → 97 ≤ b → b ≤ 102 → b - 97 + 10 ≡ digitOf b
 unfolding digitOf
-digit-lower b h k = rw (outside 48 b 57 (λ _. omega arith), outside 65 b 70 (λ _. omega arith), within 97 b 102 h k) refl
+digit-lower b h k = rw (outside 48 b 57 (λ _. omega arith), outside 65 b 70 (λ _. omega arith), within 97 b 102 h k) (omega arith)
 
 pub digit-none : (b : ℕ) → (48 ≤ b → 57 < b) → (65 ≤ b → 70 < b) → (97 ≤ b → 102 < b) → 16 ≡ digitOf b
 unfolding digitOf

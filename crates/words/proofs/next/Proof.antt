@@ -4,14 +4,8 @@ use Rattle.words.proofs.Words.{next-word}
 use Rattle.words.proofs.next.Statement.{statement}
 use Rattle.words.proofs.next.Tie as tie
 
-skip-requires : tie.Need-skip-requires
-skip-requires c κs = search needs
-
-past-requires : tie.Need-past-requires
-past-requires c κs = search needs
-
 returns : tie.Need-returns
 returns c = next-word _ _ _ _ (c .before .skip .ensures .0) (c .past .ensures .0) (c .past .ensures .1)
 
 pub next-spec : {M : Type 1} → statement M
-next-spec = tie.close (tie.spec skip-requires past-requires returns)
+next-spec = tie.close (tie.spec (λ c κs. search needs) (λ c κs. search needs) returns)

@@ -20,34 +20,24 @@ abbrev μ-loop : tie.MeasureT-loop
 loop-holds : tie.Need-loop-holds Inv-loop μ-loop
 loop-holds c = (c .before .pre, refl)
 
-shared-slice-read-is-space : tie.Need-shared-slice-read-is-space Inv-loop μ-loop
-shared-slice-read-is-space c = search needs
-
-is-space-requires : tie.Need-is-space-requires Inv-loop μ-loop
-is-space-requires c κs = search needs
-
 returns : tie.Need-returns Inv-loop μ-loop
 returns c =
-    let l = c .before .before .before .before .loop in
+    let at-loop-test = c .before .before .before in
+    let l = at-loop-test .before .loop in
     let said = sym (c .before .is-space .ensures) ∙ not-true _ (c .if1 .taken) in
-    (spaces-stop _ _ (l .i) (l .inv .1) (c .before .before .before .loop-test .taken) said, l .inv .0)
-
-add-i : tie.Need-add-i Inv-loop μ-loop
-add-i c = search needs
-
-loop-less : tie.Need-loop-less Inv-loop μ-loop
-loop-less c = omega arith
+    (spaces-stop _ _ (l .i) (l .inv .1) (at-loop-test .loop-test .taken) said, l .inv .0)
 
 loop-again : tie.Need-loop-again Inv-loop μ-loop
 loop-again c =
-    let l = c .before .before .before .before .loop in
+    let at-loop-test = c .before .before .before in
+    let l = at-loop-test .before .loop in
     let said = sym (c .before .is-space .ensures) ∙ not-false _ (c .if1 .left) in
-    (omega arith, spaces-on _ _ (l .i) (l .inv .1) (c .before .before .before .loop-test .taken) said)
+    (omega arith, spaces-on _ _ (l .i) (l .inv .1) (at-loop-test .loop-test .taken) said)
 
 returns-2 : tie.Need-returns-2 Inv-loop μ-loop
 returns-2 c =
-    let l = c .before in
-    (spaces-end _ _ (l .loop .i) (l .loop .inv .1) (c .loop-test .left), l .loop .inv .0)
+    let at-loop = c .before in
+    (spaces-end _ _ (at-loop .loop .i) (at-loop .loop .inv .1) (c .loop-test .left), at-loop .loop .inv .0)
 
 pub skip-spec : {M : Type 1} → statement M
 skip-spec =
@@ -56,10 +46,10 @@ skip-spec =
     Inv-loop
     μ-loop
     loop-holds
-    shared-slice-read-is-space
-    is-space-requires
+    (λ c. search needs)
+    (λ c κs. search needs)
     returns
-    add-i
-    loop-less
+    (λ c. search needs)
+    (λ c. omega arith)
     loop-again
     returns-2)

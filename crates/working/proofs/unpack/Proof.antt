@@ -15,40 +15,12 @@ abbrev μ-loop : tie.MeasureT-loop
 loop-holds : tie.Need-loop-holds Inv-loop μ-loop
 loop-holds c = unpacked-none _ _ _ _
 
-mul-k : tie.Need-mul-k Inv-loop μ-loop
-mul-k c = search needs
-
-shared-slice-read-k : tie.Need-shared-slice-read-k Inv-loop μ-loop
-shared-slice-read-k c = search needs
-
-x-of-requires : tie.Need-x-of-requires Inv-loop μ-loop
-x-of-requires c κs = search needs
-
-mul-xs : tie.Need-mul-xs Inv-loop μ-loop
-mul-xs c = search needs
-
-slice-write-xs : tie.Need-slice-write-xs Inv-loop μ-loop
-slice-write-xs c = search needs
-
-y-of-requires : tie.Need-y-of-requires Inv-loop μ-loop
-y-of-requires c κs = search needs
-
-mul-ys : tie.Need-mul-ys Inv-loop μ-loop
-mul-ys c = search needs
-
-slice-write-ys : tie.Need-slice-write-ys Inv-loop μ-loop
-slice-write-ys c = search needs
-
-add-i : tie.Need-add-i Inv-loop μ-loop
-add-i c = search needs
-
-loop-less : tie.Need-loop-less Inv-loop μ-loop
-loop-less c = search needs
-
 loop-again : tie.Need-loop-again Inv-loop μ-loop
 loop-again c =
-    let l = c .before .before .before .before .loop in
-    unpacked-more _ _ _ _ _ _ _ _ _ (l .inv) (omega arith) (omega arith) (omega arith) (c .before .x-of .ensures) (c .y-of .ensures)
+    let at-x-of = c .before in
+    let at-loop = at-x-of .before .before .before in
+    let l = at-loop .loop in
+    unpacked-more _ _ _ _ _ _ _ _ _ (l .inv) (omega arith) (omega arith) (omega arith) (at-x-of .x-of .ensures) (c .y-of .ensures)
 
 same-length : tie.Need-same-length Inv-loop μ-loop
 same-length c = c .before .loop .inv .sizeX
@@ -66,16 +38,16 @@ unpack-spec =
     Inv-loop
     μ-loop
     loop-holds
-    mul-k
-    shared-slice-read-k
-    x-of-requires
-    mul-xs
-    slice-write-xs
-    y-of-requires
-    mul-ys
-    slice-write-ys
-    add-i
-    loop-less
+    (λ c. search needs)
+    (λ c. search needs)
+    (λ c κs. search needs)
+    (λ c. search needs)
+    (λ c. search needs)
+    (λ c κs. search needs)
+    (λ c. search needs)
+    (λ c. search needs)
+    (λ c. search needs)
+    (λ c. search needs)
     loop-again
     same-length
     same-length-2

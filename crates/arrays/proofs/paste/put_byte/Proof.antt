@@ -1,21 +1,12 @@
--- `arrays::paste::put_byte` meets its contract.
+-- `arrays::paste::put_byte` meets its contract: one byte set is a list of one byte pasted.
 use native.Mathlib.Omega.{arith}
 use borrow.Author.Needs.{needs}
 use Rattle.arrays.proofs.paste.Parts.{pasted-one}
 use Rattle.arrays.proofs.paste.put_byte.Statement.{statement}
 use Rattle.arrays.proofs.paste.put_byte.Tie as tie
 
-slice-write-out : tie.Need-slice-write-out
-slice-write-out c = search needs
-
-add-result : tie.Need-add-result
-add-result c = search needs
-
-same-length : tie.Need-same-length
-same-length c = search needs
-
 returns : tie.Need-returns
 returns c = pasted-one _ _ _ (omega arith)
 
 pub put-byte-spec : {M : Type 1} → statement M
-put-byte-spec = tie.close (tie.spec slice-write-out add-result same-length returns)
+put-byte-spec = tie.close (tie.spec (λ c. search needs) (λ c. search needs) (λ c. search needs) returns)

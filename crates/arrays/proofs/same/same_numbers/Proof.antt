@@ -14,6 +14,18 @@ Inv-loop a b i₀ i = Alike a b i
 abbrev μ-loop : tie.MeasureT-loop
 μ-loop a b i₀ i = length a - i
 
+returns-2 : tie.Need-returns-2 Inv-loop μ-loop
+returns-2 c =
+    let at-loop-test = c .before .before .before in
+    let at-loop = at-loop-test .before in
+    alike-fail (at-loop .loop .inv) (omega arith) (c .if2 .taken)
+
+loop-again : tie.Need-loop-again Inv-loop μ-loop
+loop-again c =
+    let at-loop-test = c .before .before .before in
+    let at-loop = at-loop-test .before in
+    alike-more (at-loop .loop .inv) (omega arith) (c .if2 .left)
+
 pub same-numbers-spec : {M : Type 1} → statement M
 same-numbers-spec =
     tie.close
@@ -26,8 +38,8 @@ same-numbers-spec =
     (λ c. search needs)
     (λ c. search needs)
     (λ c. search needs)
-    (λ c. alike-fail (c .before .before .before .before .loop .inv) (omega arith) (c .if2 .taken))
+    returns-2
     (λ c. search needs)
     (λ c. omega arith)
-    (λ c. alike-more (c .before .before .before .before .loop .inv) (omega arith) (c .if2 .left))
+    loop-again
     (λ c. alike-end (c .before .loop .inv) (c .loop-test .left)))

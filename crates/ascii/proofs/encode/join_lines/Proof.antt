@@ -1,4 +1,4 @@
--- `ascii::encode::join_lines` meets its contract.
+-- `ascii::encode::join_lines` meets its contract: without room nothing is written, and with room each byte of the body spread.
 use mathlib.Core.Path.{ap}
 use Prim.Native.Nat.{_*_}
 use native.Mathlib.Omega.{arith}
@@ -13,26 +13,18 @@ use Rattle.ascii.proofs.encode.join_lines.Tie as tie
 
 returns : tie.Need-returns
 returns c =
-    let at-start = c .before .before .before in
-    front-none (3 * length (at-start .args .lines .now)) (at-start .args .out .now) (joinedLines (at-start .args .lines .now)) (omega arith)
-
-body-length-requires : tie.Need-body-length-requires
-body-length-requires c κs = search needs
-
-spread-all-requires : tie.Need-spread-all-requires
-spread-all-requires c κs = search needs
-
-same-length : tie.Need-same-length
-same-length c = search needs
+    let entry = c .before .before .before in
+    front-none (3 * length (entry .args .lines .now)) (entry .args .out .now) (joinedLines (entry .args .lines .now)) (omega arith)
 
 returns-2 : tie.Need-returns-2
 returns-2 c =
     let at-spread-all = c .before .before in
     let at-body-length = at-spread-all .before .before in
-    let at-start = at-body-length .before .before .before .before in
-    front-put (3 * length (at-start .args .lines .now)) (at-start .args .out .now) _ (joinedLines (at-start .args .lines .now)) _ (omega arith)
-    (pasted-same (ap (eachTo spread (at-start .args .lines .now)) (at-body-length .body-length .ensures .0)) (at-spread-all .spread-all .ensures))
+    let at-test = at-body-length .before in
+    let entry = at-test .before .before .before in
+    front-put (3 * length (entry .args .lines .now)) (entry .args .out .now) _ (joinedLines (entry .args .lines .now)) _ (omega arith)
+    (pasted-same (ap (eachTo spread (entry .args .lines .now)) (at-body-length .body-length .ensures .0)) (at-spread-all .spread-all .ensures))
 
 pub join-lines-spec : {M : Type 1} → statement M
 join-lines-spec =
-    tie.close (tie.spec returns body-length-requires spread-all-requires same-length returns-2)
+    tie.close (tie.spec returns (λ c κs. search needs) (λ c κs. search needs) (λ c. search needs) returns-2)

@@ -16,18 +16,6 @@ abbrev μ-loop : tie.MeasureT-loop
 loop-holds : tie.Need-loop-holds Inv-loop μ-loop
 loop-holds c = each-first-none spread 3 _ _ _ _
 
-shared-slice-read-spread : tie.Need-shared-slice-read-spread Inv-loop μ-loop
-shared-slice-read-spread c = search needs
-
-spread-requires : tie.Need-spread-requires Inv-loop μ-loop
-spread-requires c κs = search needs
-
-add-i : tie.Need-add-i Inv-loop μ-loop
-add-i c = search needs
-
-loop-less : tie.Need-loop-less Inv-loop μ-loop
-loop-less c = search needs
-
 loop-again : tie.Need-loop-again Inv-loop μ-loop
 loop-again c =
     let at-spread = c .before .before in
@@ -49,10 +37,10 @@ spread-all-spec =
     Inv-loop
     μ-loop
     loop-holds
-    shared-slice-read-spread
-    spread-requires
-    add-i
-    loop-less
+    (λ c. search needs)
+    (λ c κs. search needs)
+    (λ c. search needs)
+    (λ c. search needs)
     loop-again
     same-length
     returns)

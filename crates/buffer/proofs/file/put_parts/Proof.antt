@@ -5,69 +5,59 @@ use borrow.Author.Needs.{needs}
 use Rattle.buffer.proofs.file.put_parts.Statement.{statement}
 use Rattle.buffer.proofs.file.put_parts.Tie as tie
 
-add-edges-of : tie.Need-add-edges-of
-add-edges-of c = search needs
-
-edges-of-requires : tie.Need-edges-of-requires
-edges-of-requires c κs = search needs
-
-mul-put-header : tie.Need-mul-put-header
-mul-put-header c = search needs
-
-mul-put-header-2 : tie.Need-mul-put-header-2
-mul-put-header-2 c = search needs
-
-mul-put-header-3 : tie.Need-mul-put-header-3
-mul-put-header-3 c = search needs
-
-put-header-requires : tie.Need-put-header-requires
-put-header-requires c κs = search needs
-
-put-points-requires : tie.Need-put-points-requires
-put-points-requires c κs = search needs
+-- The entry, seen from the call of `edges_of`.
+abbrev entry-of : tie.After-edges-of → tie.Start
+entry-of at-edges-of =
+    let at-ends = at-edges-of .before .before in
+    at-ends .before .before .before
 
 put-points-requires-2 : tie.Need-put-points-requires-2
 put-points-requires-2 c κs =
-    let pins = c .before .before .before in
-    let header = pins .before .before .before .before in
-    let kept = header .before .before .before .before .before .before .before .pre in
-    (kept .inSteiner, omega (arith, header .put-header .ensures .next, pins-end kept (pins .put-points .ensures), kept .room))
+    let at-put-points = c .before .before .before in
+    let at-put-points-arg = at-put-points .before in
+    let at-put-header = at-put-points-arg .before .before .before in
+    let kept = entry-of (at-put-header .before .before) .pre in
+    (kept .inSteiner, omega (arith, at-put-header .put-header .ensures .next, pins-end kept (at-put-points .put-points .ensures), kept .room))
 
 put-edges-requires : tie.Need-put-edges-requires
 put-edges-requires c κs =
-    let steiner = c .before .before .before in
-    let pins = steiner .before .before .before .before in
-    let header = pins .before .before .before .before in
-    let kept = header .before .before .before .before .before .before .before .pre in
-    let at-steiner = pins-end kept (pins .put-points .ensures) in
-    let at-edges = steiner-end kept (steiner .put-points2 .ensures) in
-    let count = header .before .before .edges-of .ensures in
-    (omega (arith, count, kept .inEnds), omega (arith, header .put-header .ensures .next, at-steiner, at-edges, count, kept .room))
-
-same-length : tie.Need-same-length
-same-length c = search needs
+    let at-put-points2 = c .before .before .before in
+    let at-put-points-arg2 = at-put-points2 .before in
+    let at-put-points = at-put-points-arg2 .before .before .before in
+    let at-put-points-arg = at-put-points .before in
+    let at-put-header = at-put-points-arg .before .before .before in
+    let at-edges-of = at-put-header .before .before in
+    let kept = entry-of at-edges-of .pre in
+    let steiner = pins-end kept (at-put-points .put-points .ensures) in
+    let edges = steiner-end kept (at-put-points2 .put-points2 .ensures) in
+    let count = at-edges-of .edges-of .ensures in
+    (omega (arith, count, kept .inEnds), omega (arith, at-put-header .put-header .ensures .next, steiner, edges, count, kept .room))
 
 returns : tie.Need-returns
 returns c =
-    let edges = c .before .before in
-    let steiner = edges .before .before .before .before in
-    let pins = steiner .before .before .before .before in
-    let header = pins .before .before .before .before in
-    parts-put (header .before .before .before .before .before .before .before .pre) (header .before .before .edges-of .ensures)
-    (header .put-header .ensures) (pins .put-points .ensures) (steiner .put-points2 .ensures) (edges .put-edges .ensures)
+    let at-put-edges = c .before .before in
+    let at-put-edges-arg = at-put-edges .before in
+    let at-put-points2 = at-put-edges-arg .before .before .before in
+    let at-put-points-arg2 = at-put-points2 .before in
+    let at-put-points = at-put-points-arg2 .before .before .before in
+    let at-put-points-arg = at-put-points .before in
+    let at-put-header = at-put-points-arg .before .before .before in
+    let at-edges-of = at-put-header .before .before in
+    parts-put (entry-of at-edges-of .pre) (at-edges-of .edges-of .ensures)
+    (at-put-header .put-header .ensures) (at-put-points .put-points .ensures) (at-put-points2 .put-points2 .ensures) (at-put-edges .put-edges .ensures)
 
 pub put-parts-spec : {M : Type 1} → statement M
 put-parts-spec =
     tie.close
     (tie.spec
-    add-edges-of
-    edges-of-requires
-    mul-put-header
-    mul-put-header-2
-    mul-put-header-3
-    put-header-requires
-    put-points-requires
+    (λ c. search needs)
+    (λ c κs. search needs)
+    (λ c. search needs)
+    (λ c. search needs)
+    (λ c. search needs)
+    (λ c κs. search needs)
+    (λ c κs. search needs)
     put-points-requires-2
     put-edges-requires
-    same-length
+    (λ c. search needs)
     returns)

@@ -27,6 +27,6 @@ pick-spec =
     (λ c. search needs)
     (λ c. search needs)
     (λ c.
-    let body = c .before .before .before in
-    column-more (body .before .loop .inv) (omega arith) (body .loop-test .taken) (c .before .before .gain-at .ensures) (c .better .ensures))
+    let at-loop-test = c .before .before .before in
+    column-more (at-loop-test .before .loop .inv) (omega arith) (at-loop-test .loop-test .taken) (c .before .before .gain-at .ensures) (c .better .ensures))
     (λ c. column-end (c .before .loop .inv) (c .loop-test .left)))

@@ -1,31 +1,20 @@
 -- `deck::Deck::edge_at` meets its contract: the check, then the question on the working form.
-use borrow.Author.Tests.{not-true, not-false}
 use Rattle.questions.specs.Answers.{ofEdge}
-use Rattle.deck.proofs.Calls.{checked-sound}
+use Rattle.deck.proofs.Calls.{ready}
 use Rattle.deck.proofs.Questions.{refused-answer, asked-by}
 use borrow.Author.Needs.{needs}
 use Rattle.deck.proofs.Deck.edge_at.Statement.{statement}
 use Rattle.deck.proofs.Deck.edge_at.Tie as tie
 
-check-requires : tie.Need-check-requires
-check-requires c κs = search needs
-
-returns : tie.Need-returns
-returns c =
-    let at-check = c .before .before in
-    refused-answer _ _ (at-check .check .ensures) (not-true _ (c .if1 .taken)) _
-
-edge-at-requires : tie.Need-edge-at-requires
-edge-at-requires c κs =
-    let at-check = c .before .before in
-    checked-sound _ _ (at-check .check .ensures) (not-false _ (c .if1 .left)) .1
-
-returns-2 : tie.Need-returns-2
-returns-2 c =
+returned : tie.Need-returns-2
+returned c =
     let at-if = c .before in
     let at-check = at-if .before .before in
-    let at-start = at-check .before in
-    asked-by _ _ (at-check .check .ensures) (not-false _ (at-if .if1 .left)) (ofEdge (at-start .args .i)) _ (c .edge-at .ensures)
+    asked-by _ (at-check .check .ensures) (ofEdge (at-check .before .args .i)) (at-if .if1 .left) (c .edge-at .ensures)
 
 pub edge-at-spec : {M : Type 1} → statement M
-edge-at-spec = tie.close (tie.spec check-requires returns edge-at-requires returns-2)
+edge-at-spec =
+    tie.close
+    (tie.spec (λ c κs. search needs)
+    (λ c. refused-answer _ (c .before .before .check .ensures) _ (c .if1 .taken))
+    (λ c κs. ready _ (c .before .before .check .ensures) (c .if1 .left) .0) returned)

@@ -9,12 +9,9 @@ use Rattle.deck.specs.Form.{deckOf}
 use Rattle.deck.proofs.Deck.empty.Statement.{statement}
 use Rattle.deck.proofs.Deck.empty.Tie as tie
 
-empty-requires : tie.Need-empty-requires
-empty-requires c κs = tt
-
 returns : tie.Need-returns
 unfolding deckOf listed union mst kruskal edges pairs points
 returns c = λ i. record { points = c .empty .ensures i; ends = replicate 128 0 }
 
 pub empty-spec : {M : Type 1} → statement M
-empty-spec = tie.close (tie.spec empty-requires returns)
+empty-spec = tie.close (tie.spec (λ c κs. tt) returns)

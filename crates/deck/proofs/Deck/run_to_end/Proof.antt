@@ -1,44 +1,22 @@
 -- `deck::Deck::run_to_end` meets its contract: the check, then the call on the working form.
-use borrow.Author.Tests.{not-true, not-false}
-use Rattle.deck.proofs.Calls.{checked-valid, refused-by, called-by}
+use Rattle.deck.proofs.Calls.{ready, refused-by, called-by}
 use borrow.Author.Needs.{needs}
 use Rattle.deck.proofs.Deck.run_to_end.Statement.{statement}
 use Rattle.deck.proofs.Deck.run_to_end.Tie as tie
 
-check-requires : tie.Need-check-requires
-check-requires c κs = search needs
-
-refuse-requires : tie.Need-refuse-requires
-refuse-requires c κs = search needs
-
-returns : tie.Need-returns
-returns c =
+refused : tie.Need-returns
+refused c =
     let at-if = c .before in
-    let at-check = at-if .before .before in
-    refused-by _ _ (at-check .check .ensures) _ _ (not-true _ (at-if .if1 .taken)) (c .refuse .ensures)
+    refused-by _ (at-if .before .before .check .ensures) _ (at-if .if1 .taken) (c .refuse .ensures)
 
-run-to-end-requires : tie.Need-run-to-end-requires
-run-to-end-requires c κs =
-    let at-check = c .before .before in
-    checked-valid _ _ (at-check .check .ensures) (not-false _ (c .if1 .left))
-
-outcome-of-requires : tie.Need-outcome-of-requires
-outcome-of-requires c κs = search needs
-
-returns-2 : tie.Need-returns-2
-returns-2 c =
+returned : tie.Need-returns-2
+returned c =
     let at-call = c .before in
     let at-if = at-call .before in
-    let at-check = at-if .before .before in
-    called-by _ _ (at-check .check .ensures) _ _ (not-false _ (at-if .if1 .left)) _ (at-call .run-to-end .ensures) (c .outcome-of .ensures)
+    called-by _ (at-if .before .before .check .ensures) _ (at-if .if1 .left) (at-call .run-to-end .ensures) (c .outcome-of .ensures)
 
 pub run-to-end-spec : {M : Type 1} → statement M
 run-to-end-spec =
     tie.close
-    (tie.spec
-    check-requires
-    refuse-requires
-    returns
-    run-to-end-requires
-    outcome-of-requires
-    returns-2)
+    (tie.spec (λ c κs. search needs) (λ c κs. search needs) refused
+    (λ c κs. ready _ (c .before .before .check .ensures) (c .if1 .left)) (λ c κs. search needs) returned)

@@ -7,29 +7,20 @@ use borrow.Author.Needs.{needs}
 use Rattle.deck.proofs.check.check.Statement.{statement}
 use Rattle.deck.proofs.check.check.Tie as tie
 
-working-of-requires : tie.Need-working-of-requires
-working-of-requires c κs = search needs
-
 returns : tie.Need-returns
-returns c = points-fail _ _ (c .before .before .working-of .ensures) (not-true _ (c .if1 .taken))
+returns c = let at-working = c .before .before in points-fail _ _ (at-working .working-of .ensures) (not-true _ (c .if1 .taken))
 
 deck-of-requires : tie.Need-deck-of-requires
 deck-of-requires c κs =
     let at-working = c .before .before in
     points-order (at-working .before .args .d) _ (at-working .working-of .ensures) (not-false _ (c .if1 .left))
 
-has-ends-requires : tie.Need-has-ends-requires
-has-ends-requires c κs = search needs
-
-unsound-requires : tie.Need-unsound-requires
-unsound-requires c κs = search needs
-
 returns-2 : tie.Need-returns-2
 returns-2 c =
     let at-ends = c .before .before in
     let at-if = at-ends .before .before in
-    let fails =
-    edges-fail _ _ (at-if .before .before .working-of .ensures) (not-false _ (at-if .if1 .left)) _ (at-ends .before .deck-of .ensures) in
+    let at-working = at-if .before .before in
+    let fails = edges-fail _ _ (at-working .working-of .ensures) (not-false _ (at-if .if1 .left)) _ (at-ends .before .deck-of .ensures) in
     refused _ _ _ (c .unsound .ensures) (fails (refuted (at-ends .has-ends .ensures) (not-true _ (c .before .if2 .taken))))
 
 returns-3 : tie.Need-returns-3
@@ -42,11 +33,4 @@ returns-3 c =
 pub check-spec : {M : Type 1} → statement M
 check-spec =
     tie.close
-    (tie.spec
-    working-of-requires
-    returns
-    deck-of-requires
-    has-ends-requires
-    unsound-requires
-    returns-2
-    returns-3)
+    (tie.spec (λ c κs. search needs) returns deck-of-requires (λ c κs. search needs) (λ c κs. search needs) returns-2 returns-3)

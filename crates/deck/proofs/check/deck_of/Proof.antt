@@ -5,9 +5,6 @@ use borrow.Author.Needs.{needs}
 use Rattle.deck.proofs.check.deck_of.Statement.{statement}
 use Rattle.deck.proofs.check.deck_of.Tie as tie
 
-edge-numbers-requires : tie.Need-edge-numbers-requires
-edge-numbers-requires c κs = search needs
-
 returns : tie.Need-returns
 unfolding deckOf
 returns c =
@@ -15,4 +12,4 @@ returns c =
     λ i. record { points = arranged-coded _ (made .before .pre .arranged) i; ends = made .edge-numbers .ensures i }
 
 pub deck-of-spec : {M : Type 1} → statement M
-deck-of-spec = tie.close (tie.spec edge-numbers-requires returns)
+deck-of-spec = tie.close (tie.spec (λ c κs. search needs) returns)

@@ -8,9 +8,6 @@ use borrow.Author.Needs.{needs}
 use Rattle.deck.proofs.check.unsound.Statement.{statement}
 use Rattle.deck.proofs.check.unsound.Tie as tie
 
-empty-requires : tie.Need-empty-requires
-empty-requires c κs = search needs
-
 arrange-requires : tie.Need-arrange-requires
 arrange-requires c κs = subst⁻¹ Arranged (c .empty .ensures) (valid-arranged empty empty-valid)
 
@@ -18,4 +15,4 @@ returns : tie.Need-returns
 returns c = search needs
 
 pub unsound-spec : {M : Type 1} → statement M
-unsound-spec = tie.close (tie.spec empty-requires arrange-requires returns)
+unsound-spec = tie.close (tie.spec (λ c κs. search needs) arrange-requires returns)

@@ -12,12 +12,6 @@ use borrow.Author.Needs.{needs}
 use Rattle.deck.proofs.check.working_of.Statement.{statement}
 use Rattle.deck.proofs.check.working_of.Tie as tie
 
-is-arranged-requires : tie.Need-is-arranged-requires
-is-arranged-requires c κs = search needs
-
-unsound-requires : tie.Need-unsound-requires
-unsound-requires c κs = search needs
-
 returns : tie.Need-returns
 returns c =
     let tested = c .before .before in
@@ -31,12 +25,6 @@ arrange-requires c κs =
     let h : length (q .pins) ≡ 64 = search needs in
     let k : length (q .steiner) ≡ 128 = search needs in
     passes-arranged q h k (of-true (sym (c .before .is-arranged .ensures) ∙ not-false _ (c .if1 .left)))
-
-lowest-weak-requires : tie.Need-lowest-weak-requires
-lowest-weak-requires c κs = search needs
-
-unsound-requires-2 : tie.Need-unsound-requires-2
-unsound-requires-2 c κs = search needs
 
 returns-2 : tie.Need-returns-2
 returns-2 c =
@@ -54,12 +42,4 @@ returns-3 c =
 pub working-of-spec : {M : Type 1} → statement M
 working-of-spec =
     tie.close
-    (tie.spec
-    is-arranged-requires
-    unsound-requires
-    returns
-    arrange-requires
-    lowest-weak-requires
-    unsound-requires-2
-    returns-2
-    returns-3)
+    (tie.spec (λ c κs. search needs) (λ c κs. search needs) returns arrange-requires (λ c κs. search needs) (λ c κs. search needs) returns-2 returns-3)

@@ -1,4 +1,4 @@
--- `deckfile::reader::accept` meets its contract.
+-- `deckfile::reader::accept` meets its contract: the arranged state is what the file reads as, and the reply is that it is done.
 use Rattle.deckfile.proofs.reader.LastCheck.{accepted-read}
 use Rattle.deckfile.proofs.reader.accept.Statement.{statement}
 use Rattle.deckfile.proofs.reader.accept.Tie as tie

@@ -5,49 +5,31 @@ use borrow.Author.Needs.{needs}
 use Rattle.deckfile.proofs.reader.has_edges.Statement.{statement}
 use Rattle.deckfile.proofs.reader.has_edges.Tie as tie
 
-number4-requires : tie.Need-number4-requires
-number4-requires c κs = search needs
-
-mul-if1 : tie.Need-mul-if1
-mul-if1 c = search needs
-
 returns : tie.Need-returns
 returns c =
-    let at-number = c .before .before in
-    let s = at-number .before .before in
-    edges-other (s .args .b .now) (s .pre .0) _ (s .pre .1 .0) (s .pre .1 .1) _ (at-number .number4 .ensures .0) (c .if1 .taken)
-
-edge-numbers-requires : tie.Need-edge-numbers-requires
-edge-numbers-requires c κs = search needs
-
-number4-requires-2 : tie.Need-number4-requires-2
-number4-requires-2 c κs = search needs
-
-slice-aggregate-same-edges : tie.Need-slice-aggregate-same-edges
-slice-aggregate-same-edges c = search needs
-
-same-edges-requires : tie.Need-same-edges-requires
-same-edges-requires c κs = search needs
+    let at-number4 = c .before .before in
+    let entry = at-number4 .before .before in
+    edges-other (entry .args .b .now) (entry .pre .0) _ (entry .pre .1 .0) (entry .pre .1 .1) _ (at-number4 .number4 .ensures .0) (c .if1 .taken)
 
 returns-2 : tie.Need-returns-2
 returns-2 c =
-    let at-ends = c .before .before .before in
-    let at-if = at-ends .before in
-    let at-number = at-if .before .before in
-    let s = at-number .before .before in
+    let at-number42 = c .before .before in
+    let at-test = at-number42 .before .before in
+    let at-number4 = at-test .before .before in
+    let entry = at-number4 .before .before in
     c .same-edges .ensures
-    ∙ edges-same (s .args .b .now) (s .pre .0) _ (s .pre .1 .0) (s .pre .1 .1) _ _ _ (at-number .number4 .ensures .0) (at-if .if1 .left)
-    (c .before .before .number42 .ensures .0) (at-ends .edge-numbers .ensures)
+    ∙ edges-same (entry .args .b .now) (entry .pre .0) _ (entry .pre .1 .0) (entry .pre .1 .1) _ _ _ (at-number4 .number4 .ensures .0) (at-test .if1 .left)
+    (at-number42 .number42 .ensures .0) (at-number42 .before .edge-numbers .ensures)
 
 pub has-edges-spec : {M : Type 1} → statement M
 has-edges-spec =
     tie.close
     (tie.spec
-    number4-requires
-    mul-if1
+    (λ c κs. search needs)
+    (λ c. search needs)
     returns
-    edge-numbers-requires
-    number4-requires-2
-    slice-aggregate-same-edges
-    same-edges-requires
+    (λ c κs. search needs)
+    (λ c κs. search needs)
+    (λ c. search needs)
+    (λ c κs. search needs)
     returns-2)

@@ -9,9 +9,6 @@ use borrow.Author.Needs.{needs}
 use Rattle.deckfile.proofs.reader.refuse.Statement.{statement}
 use Rattle.deckfile.proofs.reader.refuse.Tie as tie
 
-empty-requires : tie.Need-empty-requires
-empty-requires c κs = search needs
-
 arrange-requires : tie.Need-arrange-requires
 arrange-requires c κs = subst⁻¹ Arranged (c .empty .ensures) (valid-arranged empty empty-valid)
 
@@ -19,4 +16,4 @@ returns : tie.Need-returns
 returns c = refused-read _ _ _ (c .before .empty .ensures) (c .arrange .ensures)
 
 pub refuse-spec : {M : Type 1} → statement M
-refuse-spec = tie.close (tie.spec empty-requires arrange-requires returns)
+refuse-spec = tie.close (tie.spec (λ c κs. search needs) arrange-requires returns)

@@ -8,46 +8,35 @@ use borrow.Author.Needs.{needs}
 use Rattle.deckfile.proofs.writer.put_file.Statement.{statement}
 use Rattle.deckfile.proofs.writer.put_file.Tie as tie
 
-edge-numbers-requires : tie.Need-edge-numbers-requires
-edge-numbers-requires c κs = search needs
-
-slice-aggregate-put-parts : tie.Need-slice-aggregate-put-parts
-slice-aggregate-put-parts c = search needs
-
-slice-aggregate-put-parts-2 : tie.Need-slice-aggregate-put-parts-2
-slice-aggregate-put-parts-2 c = search needs
-
-slice-aggregate-put-parts-3 : tie.Need-slice-aggregate-put-parts-3
-slice-aggregate-put-parts-3 c = search needs
-
 put-parts-requires : tie.Need-put-parts-requires
 put-parts-requires c κs =
-    let at-ends = c .before .before .before .before in
-    let s = at-ends .before .before .before .before in
-    let long : length (at-ends .edge-numbers .result) ≡ 128 = search needs in
-    parts-kept _ (s .pre .0) (s .pre .1 .0) (at-ends .edge-numbers .ensures) long _ (s .pre .1 .1)
-
-same-length : tie.Need-same-length
-same-length c = search needs
+    let at-ends = c .before in
+    let at-edge-numbers = at-ends .before .before .before in
+    let at-out = at-edge-numbers .before .before .before in
+    let entry = at-out .before in
+    let long : length (at-edge-numbers .edge-numbers .result) ≡ 128 = search needs in
+    parts-kept _ (entry .pre .0) (entry .pre .1 .0) (at-edge-numbers .edge-numbers .ensures) long _ (entry .pre .1 .1)
 
 returns : tie.Need-returns
 returns c =
-    let at-put = c .before .before in
-    let at-ends = at-put .before .before .before .before .before in
-    let s = at-ends .before .before .before .before in
-    let q = s .args .w .points in
+    let at-put-parts = c .before .before in
+    let at-ends = at-put-parts .before .before in
+    let at-edge-numbers = at-ends .before .before .before in
+    let at-out = at-edge-numbers .before .before .before in
+    let entry = at-out .before in
+    let q = entry .args .w .points in
     pasted-same
-    (ap (fileParts (q .pins) (q .npins) (q .steiner) (q .nsteiner)) (at-ends .edge-numbers .ensures) ∙ file-parts _ (s .pre .0) (s .pre .1 .0))
-    (at-put .put-parts .ensures)
+    (ap (fileParts (q .pins) (q .npins) (q .steiner) (q .nsteiner)) (at-edge-numbers .edge-numbers .ensures) ∙ file-parts _ (entry .pre .0) (entry .pre .1 .0))
+    (at-put-parts .put-parts .ensures)
 
 pub put-file-spec : {M : Type 1} → statement M
 put-file-spec =
     tie.close
     (tie.spec
-    edge-numbers-requires
-    slice-aggregate-put-parts
-    slice-aggregate-put-parts-2
-    slice-aggregate-put-parts-3
+    (λ c κs. search needs)
+    (λ c. search needs)
+    (λ c. search needs)
+    (λ c. search needs)
     put-parts-requires
-    same-length
+    (λ c. search needs)
     returns)

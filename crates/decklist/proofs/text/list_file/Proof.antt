@@ -13,26 +13,16 @@ use Rattle.decklist.proofs.text.list_file.Tie as tie
 returns : tie.Need-returns
 returns c = (front-none 8192 _ _ (c .if1 .taken), none-counted (c .before .before .before .args .out .now))
 
-read-working-requires : tie.Need-read-working-requires
-read-working-requires c κs = search needs
-
-refusal-number-requires : tie.Need-refusal-number-requires
-refusal-number-requires c κs = search needs
-
-list-refusal-requires : tie.Need-list-refusal-requires
-list-refusal-requires c κs = search needs
-
-same-length : tie.Need-same-length
-same-length c = search needs
-
 returns-2 : tie.Need-returns-2
 returns-2 c =
-    let line = c .before .before in
-    let test = line .before .before in
-    let read = test .before .before in
-    let start = read .before .before .before .before in
-    let e = printed-refusal (start .args .file .now) _ (read .read-working .ensures) (test .before .refusal-number .ensures) (test .if2 .taken) in
-    let f = roomy 128 _ _ _ _ _ (omega arith) (read .before .if1 .left) e (line .list-refusal .ensures) in
+    let at-list-refusal = c .before .before in
+    let at-refused-test = at-list-refusal .before .before in
+    let at-read-working = at-refused-test .before .before in
+    let at-room-test = at-read-working .before in
+    let entry = at-room-test .before .before .before in
+    let e = printed-refusal (entry .args .file .now) _ (at-read-working .read-working .ensures) (at-refused-test .before .refusal-number .ensures)
+    (at-refused-test .if2 .taken) in
+    let f = roomy 128 _ _ _ _ _ (omega arith) (at-room-test .if1 .left) e (at-list-refusal .list-refusal .ensures) in
     (f, front-within f)
 
 run-to-end-requires : tie.Need-run-to-end-requires
@@ -42,25 +32,23 @@ run-to-end-requires c κs =
 
 list-working-requires : tie.Need-list-working-requires
 list-working-requires c κs =
-    let run = c .before in
-    let test = run .before in
-    let read = test .before .before in
-    let taken = read-taken (readFile _) (read-possible _) (read .read-working .ensures) (test .before .refusal-number .ensures) (test .if2 .left) in
-    changed-valid (taken .2) (run .run-to-end .ensures)
-
-same-length-2 : tie.Need-same-length-2
-same-length-2 c = search needs
+    let at-refused-test = c .before .before in
+    let at-read-working = at-refused-test .before .before in
+    let taken = read-taken (readFile _) (read-possible _) (at-read-working .read-working .ensures) (at-refused-test .before .refusal-number .ensures)
+    (at-refused-test .if2 .left) in
+    changed-valid (taken .2) (c .before .run-to-end .ensures)
 
 returns-3 : tie.Need-returns-3
 returns-3 c =
-    let list = c .before .before in
-    let run = list .before .before in
-    let test = run .before in
-    let read = test .before .before in
-    let start = read .before .before .before .before in
-    let taken = read-taken (readFile _) (read-possible _) (read .read-working .ensures) (test .before .refusal-number .ensures) (test .if2 .left) in
-    let e = printed-deck (start .args .file .now) _ _ (taken .0) (run .run-to-end .ensures .next) in
-    let f = roomy 8192 _ _ _ _ _ (omega arith) (read .before .if1 .left) e (list .list-working .ensures) in
+    let at-list-working = c .before .before in
+    let at-run-to-end = at-list-working .before .before in
+    let at-refusal-number = at-run-to-end .before .before in
+    let at-room-test = at-refusal-number .before .before in
+    let entry = at-room-test .before .before .before in
+    let taken = read-taken (readFile _) (read-possible _) (at-refusal-number .before .read-working .ensures) (at-refusal-number .refusal-number .ensures)
+    (at-run-to-end .before .if2 .left) in
+    let e = printed-deck (entry .args .file .now) _ _ (taken .0) (at-run-to-end .run-to-end .ensures .next) in
+    let f = roomy 8192 _ _ _ _ _ (omega arith) (at-room-test .if1 .left) e (at-list-working .list-working .ensures) in
     (f, front-within f)
 
 pub list-file-spec : {M : Type 1} → statement M
@@ -68,12 +56,12 @@ list-file-spec =
     tie.close
     (tie.spec
     returns
-    read-working-requires
-    refusal-number-requires
-    list-refusal-requires
-    same-length
+    (λ c κs. search needs)
+    (λ c κs. search needs)
+    (λ c κs. search needs)
+    (λ c. search needs)
     returns-2
     run-to-end-requires
     list-working-requires
-    same-length-2
+    (λ c. search needs)
     returns-3)

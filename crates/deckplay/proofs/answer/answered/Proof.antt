@@ -1,4 +1,4 @@
--- `deckplay::answer::answered` meets its contract.
+-- `deckplay::answer::answered` meets its contract: the line of an answer fits into the room there is.
 use mathlib.Core.Path.{refl}
 use native.Mathlib.Omega.{arith}
 use Rattle.deckplay.specs.Play.{stays}
@@ -7,12 +7,6 @@ use borrow.Author.Needs.{needs}
 use Rattle.deckplay.proofs.answer.answered.Statement.{statement}
 use Rattle.deckplay.proofs.answer.answered.Tie as tie
 
-answer-line-requires : tie.Need-answer-line-requires
-answer-line-requires c κs = tt
-
-same-length : tie.Need-same-length
-same-length c = search needs
-
 returns : tie.Need-returns
 returns c =
     let at-answer-line = c .before .before in
@@ -20,9 +14,4 @@ returns c =
     plays (stays (at-start .args .d) _) 128 _ _ _ _ _ (omega arith) (at-start .pre) refl refl (at-answer-line .answer-line .ensures)
 
 pub answered-spec : {M : Type 1} → statement M
-answered-spec =
-    tie.close
-    (tie.spec
-    answer-line-requires
-    same-length
-    returns)
+answered-spec = tie.close (tie.spec (λ c κs. tt) (λ c. search needs) returns)

@@ -1,4 +1,4 @@
--- `deckplay::answer::failed` meets its contract.
+-- `deckplay::answer::failed` meets its contract: `error` fits into the room there is.
 use mathlib.Core.Path.{refl}
 use native.Mathlib.Omega.{arith}
 use Rattle.deckplay.specs.Play.{stays}
@@ -7,12 +7,6 @@ use borrow.Author.Needs.{needs}
 use Rattle.deckplay.proofs.answer.failed.Statement.{statement}
 use Rattle.deckplay.proofs.answer.failed.Tie as tie
 
-error-line-requires : tie.Need-error-line-requires
-error-line-requires c κs = tt
-
-same-length : tie.Need-same-length
-same-length c = search needs
-
 returns : tie.Need-returns
 returns c =
     let at-error-line = c .before .before in
@@ -20,9 +14,4 @@ returns c =
     plays (stays (at-start .args .d) _) 128 _ _ _ _ _ (omega arith) (at-start .pre) refl refl (at-error-line .error-line .ensures)
 
 pub failed-spec : {M : Type 1} → statement M
-failed-spec =
-    tie.close
-    (tie.spec
-    error-line-requires
-    same-length
-    returns)
+failed-spec = tie.close (tie.spec (λ c κs. tt) (λ c. search needs) returns)

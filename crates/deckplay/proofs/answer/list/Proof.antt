@@ -8,28 +8,17 @@ use borrow.Author.Needs.{needs}
 use Rattle.deckplay.proofs.answer.list.Statement.{statement}
 use Rattle.deckplay.proofs.answer.list.Tie as tie
 
-slice-aggregate-list : tie.Need-slice-aggregate-list
-slice-aggregate-list c = search needs
-
-list-requires : tie.Need-list-requires
-list-requires c κs = tt
-
 array-share-prefix-lines : tie.Need-array-share-prefix-lines
 array-share-prefix-lines c = listing-within _ _ _ (c .before .list .ensures) .0
 
 slice-aggregate-join-lines : tie.Need-slice-aggregate-join-lines
 slice-aggregate-join-lines c = listing-within _ _ _ (c .before .before .list .ensures) .1
 
-join-lines-requires : tie.Need-join-lines-requires
-join-lines-requires c κs = tt
-
-same-length : tie.Need-same-length
-same-length c = search needs
-
 returns : tie.Need-returns
 returns c =
     let at-join-lines = c .before .before in
-    let at-list = at-join-lines .before .before .before .before in
+    let at-lines = at-join-lines .before .before in
+    let at-list = at-lines .before .before in
     let at-start = at-list .before .before .before in
     let w = listing-within _ _ _ (at-list .list .ensures) in
     let h : length (at-list .list .last .1 .0) ≡ 8192 = search needs in
@@ -39,11 +28,4 @@ returns c =
 pub list-spec : {M : Type 1} → statement M
 list-spec =
     tie.close
-    (tie.spec
-    slice-aggregate-list
-    list-requires
-    array-share-prefix-lines
-    slice-aggregate-join-lines
-    join-lines-requires
-    same-length
-    returns)
+    (tie.spec (λ c. search needs) (λ c κs. tt) array-share-prefix-lines slice-aggregate-join-lines (λ c κs. tt) (λ c. search needs) returns)

@@ -1,4 +1,4 @@
--- `deckplay::answer::octant` meets its contract.
+-- `deckplay::answer::octant` meets its contract: `error` where there is no octant, else its number, which fits into the room there is.
 use mathlib.Core.Path.{refl, ap}
 use native.Mathlib.Omega.{arith}
 use Rattle.deckplay.specs.Play.{stays}
@@ -6,15 +6,6 @@ use Rattle.deckplay.proofs.answer.Texts.{plays, plays-same, octant-none
 use borrow.Author.Needs.{needs}
 use Rattle.deckplay.proofs.answer.octant.Statement.{statement}
 use Rattle.deckplay.proofs.answer.octant.Tie as tie
-
-octant-requires : tie.Need-octant-requires
-octant-requires c κs = tt
-
-failed-requires : tie.Need-failed-requires
-failed-requires c κs = search needs
-
-same-length : tie.Need-same-length
-same-length c = search needs
 
 returns : tie.Need-returns
 returns c =
@@ -24,15 +15,6 @@ returns c =
     let at-start = at-octant .before .before in
     let e = octant-none _ _ _ (at-octant .octant .ensures) (at-start .fits .x) (at-start .fits .y) (at-if1 .if1 .taken) in
     plays-same _ _ _ _ _ (ap (stays (at-start .args .d)) e) (at-failed .failed .ensures)
-
-cast-octant-line : tie.Need-cast-octant-line
-cast-octant-line c = search needs
-
-octant-line-requires : tie.Need-octant-line-requires
-octant-line-requires c κs = tt
-
-same-length-2 : tie.Need-same-length-2
-same-length-2 c = search needs
 
 returns-2 : tie.Need-returns-2
 returns-2 c =
@@ -46,12 +28,4 @@ returns-2 c =
 pub octant-spec : {M : Type 1} → statement M
 octant-spec =
     tie.close
-    (tie.spec
-    octant-requires
-    failed-requires
-    same-length
-    returns
-    cast-octant-line
-    octant-line-requires
-    same-length-2
-    returns-2)
+    (tie.spec (λ c κs. tt) (λ c κs. search needs) (λ c. search needs) returns (λ c. search needs) (λ c κs. tt) (λ c. search needs) returns-2)

@@ -6,29 +6,28 @@ use Rattle.deckplay.proofs.lines.Bytes.{take-end, take-more, take-past}
 use Rattle.deckplay.proofs.lines.take.Statement.{statement}
 use Rattle.deckplay.proofs.lines.take.Tie as tie
 
-end-requires : tie.Need-end-requires
-end-requires c κs = search needs
-
 returns : tie.Need-returns
 returns c =
-    let h : length (c .before .before .args .r .line) ≡ 4001 = search needs in
-    take-end _ _ h (c .before .before .pre) _ (c .before .if1 .taken) (c .end .ensures)
-
-array-write-line : tie.Need-array-write-line
-array-write-line c = search needs
-
-add-t10 : tie.Need-add-t10
-add-t10 c = search needs
+    let at-feed = c .before in
+    let at-start = at-feed .before in
+    let h : length (at-start .args .r .line) ≡ 4001 = search needs in
+    take-end _ _ h (at-start .pre) _ (at-feed .if1 .taken) (c .end .ensures)
 
 returns-2 : tie.Need-returns-2
 returns-2 c =
-    let h : length (c .before .before .before .before .args .r .line) ≡ 4001 = search needs in
-    take-more _ _ h (c .before .before .before .before .pre) (c .before .before .before .if1 .left) (c .if2 .taken)
+    let at-feed = c .before .before .before in
+    let at-start = at-feed .before in
+    let h : length (at-start .args .r .line) ≡ 4001 = search needs in
+    take-more _ _ h (at-start .pre) (at-feed .if1 .left) (c .if2 .taken)
 
 returns-3 : tie.Need-returns-3
 returns-3 c =
-    let h : length (c .before .before .before .before .args .r .line) ≡ 4001 = search needs in
-    take-past (c .before .before .before .before .args .r) _ h (c .before .before .before .before .pre) (c .before .before .before .if1 .left) (c .if2 .left)
+    let at-feed = c .before .before .before in
+    let at-start = at-feed .before in
+    let h : length (at-start .args .r .line) ≡ 4001 = search needs in
+    take-past (at-start .args .r) _ h (at-start .pre) (at-feed .if1 .left) (c .if2 .left)
 
 pub take-spec : {M : Type 1} → statement M
-take-spec = tie.close (tie.spec end-requires returns array-write-line add-t10 returns-2 returns-3)
+take-spec =
+    tie.close
+    (tie.spec (λ c κs. search needs) returns (λ c. search needs) (λ c. search needs) returns-2 returns-3)

@@ -10,28 +10,15 @@ use Rattle.arrays.proofs.paste.Parts.{pasted-then, pasted-same}
 use Rattle.listing.proofs.rows.point_fields.Statement.{statement}
 use Rattle.listing.proofs.rows.point_fields.Tie as tie
 
-x-of-requires : tie.Need-x-of-requires
-x-of-requires c κs = search needs
-
-coordinate-field-requires : tie.Need-coordinate-field-requires
-coordinate-field-requires c κs = search needs
-
-y-of-requires : tie.Need-y-of-requires
-y-of-requires c κs = search needs
-
-coordinate-field-requires-2 : tie.Need-coordinate-field-requires-2
-coordinate-field-requires-2 c κs = search needs
-
-same-length : tie.Need-same-length
-same-length c = search needs
-
 returns : tie.Need-returns
 returns c =
-    let second = c .before .before in
-    let first = second .before .before .before .before .before in
+    let at-coordinate-field2 = c .before .before in
+    let at-y-of = at-coordinate-field2 .before in
+    let at-coordinate-field-arg2 = at-y-of .before in
+    let at-coordinate-field = at-coordinate-field-arg2 .before .before .before in
     let text : ℕ → List ℕ = λ u. field (signedDecimal (coordinate u)) in (
-      pasted-then (pasted-same (ap text (first .before .x-of .ensures)) (first .coordinate-field .ensures .0)) (omega arith)
-          (pasted-same (ap text (second .before .y-of .ensures)) (second .coordinate-field2 .ensures .0)),
+      pasted-then (pasted-same (ap text (at-coordinate-field .before .x-of .ensures)) (at-coordinate-field .coordinate-field .ensures .0)) (omega arith)
+          (pasted-same (ap text (at-y-of .y-of .ensures)) (at-coordinate-field2 .coordinate-field2 .ensures .0)),
       omega arith,
     )
 
@@ -39,9 +26,9 @@ pub point-fields-spec : {M : Type 1} → statement M
 point-fields-spec =
     tie.close
     (tie.spec
-    x-of-requires
-    coordinate-field-requires
-    y-of-requires
-    coordinate-field-requires-2
-    same-length
+    (λ c κs. search needs)
+    (λ c κs. search needs)
+    (λ c κs. search needs)
+    (λ c κs. search needs)
+    (λ c. search needs)
     returns)

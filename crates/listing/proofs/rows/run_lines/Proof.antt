@@ -18,48 +18,41 @@ Inv-loop out₀ at w ends next₀ i₀ out next i = PutFirst (runText (listed (s
 abbrev μ-loop : tie.MeasureT-loop
 μ-loop out₀ at w ends next₀ i₀ out next i = w .nkeys - i
 
-edge-numbers-requires : tie.Need-edge-numbers-requires Inv-loop μ-loop
-edge-numbers-requires c κs = search needs
-
 loop-holds : tie.Need-loop-holds Inv-loop μ-loop
 loop-holds c =
-    let at-start = c .before .before in
-    let l = listed (stateOf (at-start .args .w)) in
+    let entry = c .before .before in
+    let l = listed (stateOf (entry .args .w)) in
     first-none (runText l) 53 _ _ _ (run-none l)
 
 edge-at-requires : tie.Need-edge-at-requires Inv-loop μ-loop
 edge-at-requires c κs =
-    let at-if = c .before .before in
-    let at-ends = at-if .before .before .before in
-    (at-ends .before .before .pre .1 .0, (at-ends .edge-numbers .ensures, at-if .if1 .taken))
+    let at-test = c .before .before in
+    let at-edge-numbers = at-test .before .before .before in
+    let entry = at-edge-numbers .before .before in
+    (entry .pre .1 .0, (at-edge-numbers .edge-numbers .ensures, at-test .if1 .taken))
 
 run-line-requires : tie.Need-run-line-requires Inv-loop μ-loop
 run-line-requires c κs =
-    let at-if = c .before .before .before in
-    let at-loop = at-if .before .before in
-    let at-start = at-loop .before .before .before in
-    let few = edges-few _ (at-start .pre .1 .1) in
+    let at-test = c .before .before .before in
+    let at-loop = at-test .before .before in
+    let entry = at-loop .before .before .before in
+    let few = edges-few _ (entry .pre .1 .1) in
     let inv = at-loop .loop .inv in
-    omega (arith, inv .most, inv .same, few, edge-count _ (at-start .pre .1 .0), at-if .if1 .taken)
-
-add-i : tie.Need-add-i Inv-loop μ-loop
-add-i c = search needs
-
-loop-less : tie.Need-loop-less Inv-loop μ-loop
-loop-less c = search needs
+    omega (arith, inv .most, inv .same, few, edge-count _ (entry .pre .1 .0), at-test .if1 .taken)
 
 loop-again : tie.Need-loop-again Inv-loop μ-loop
 loop-again c =
-    let at-line = c .before .before in
-    let at-if = at-line .before .before .before .before in
-    let at-loop = at-if .before .before in
-    let at-start = at-loop .before .before .before in
-    let s = stateOf (at-start .args .w) in
-    let few = edges-few _ (at-start .pre .1 .1) in
+    let at-run-line = c .before .before in
+    let at-edge-at = at-run-line .before in
+    let at-test = at-edge-at .before .before .before in
+    let at-loop = at-test .before .before in
+    let entry = at-loop .before .before .before in
+    let s = stateOf (entry .args .w) in
+    let few = edges-few _ (entry .pre .1 .1) in
     let inv = at-loop .loop .inv in
-    let line = at-line .run-line in
-    first-more (runText (listed s)) 53 _ _ _ _ _ _ _ _ _ inv (at-if .if1 .taken) (run-more s _ _ (at-line .before .edge-at .ensures))
-    (omega (arith, inv .most, inv .same, few, edge-count _ (at-start .pre .1 .0), at-if .if1 .taken)) (line .ensures .0) (line .ensures .1) (line .kept .0)
+    let line = at-run-line .run-line in
+    first-more (runText (listed s)) 53 _ _ _ _ _ _ _ _ _ inv (at-test .if1 .taken) (run-more s _ _ (at-edge-at .edge-at .ensures))
+    (omega (arith, inv .most, inv .same, few, edge-count _ (entry .pre .1 .0), at-test .if1 .taken)) (line .ensures .0) (line .ensures .1) (line .kept .0)
 
 same-length : tie.Need-same-length Inv-loop μ-loop
 same-length c = c .before .before .loop .inv .same
@@ -67,10 +60,10 @@ same-length c = c .before .before .loop .inv .same
 returns : tie.Need-returns Inv-loop μ-loop
 returns c =
     let at-loop = c .before .before in
-    let at-start = at-loop .before .before .before in
-    let w = at-start .args .w in
+    let entry = at-loop .before .before .before in
+    let w = entry .args .w in
     let all = first-end (runText (listed (stateOf w))) 53 _ _ _ _ _ _ (at-loop .loop .inv) (c .if1 .left) in
-    pasted-same (run-all (stateOf w) (w .nkeys) (omega (arith, listed-length w (at-start .pre .1 .0)))) (all .0)
+    pasted-same (run-all (stateOf w) (w .nkeys) (omega (arith, listed-length w (entry .pre .1 .0)))) (all .0)
 
 pub run-lines-spec : {M : Type 1} → statement M
 run-lines-spec =
@@ -78,12 +71,12 @@ run-lines-spec =
     (tie.spec
     Inv-loop
     μ-loop
-    edge-numbers-requires
+    (λ c κs. search needs)
     loop-holds
     edge-at-requires
     run-line-requires
-    add-i
-    loop-less
+    (λ c. search needs)
+    (λ c. search needs)
     loop-again
     same-length
     returns)

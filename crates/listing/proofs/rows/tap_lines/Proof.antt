@@ -16,36 +16,24 @@ abbrev μ-loop : tie.MeasureT-loop
 loop-holds : tie.Need-loop-holds Inv-loop μ-loop
 loop-holds c = first-none (tapText (c .before .before .args .codes .now)) 18 _ _ _ (tap-none (c .before .before .args .codes .now))
 
-mul-tap-line : tie.Need-mul-tap-line Inv-loop μ-loop
-mul-tap-line c = search needs
-
-shared-slice-read-tap-line : tie.Need-shared-slice-read-tap-line Inv-loop μ-loop
-shared-slice-read-tap-line c = search needs
-
-tap-line-requires : tie.Need-tap-line-requires Inv-loop μ-loop
-tap-line-requires c κs = search needs
-
-add-i : tie.Need-add-i Inv-loop μ-loop
-add-i c = search needs
-
-loop-less : tie.Need-loop-less Inv-loop μ-loop
-loop-less c = search needs
-
 loop-again : tie.Need-loop-again Inv-loop μ-loop
 loop-again c =
     let at-tap-line = c .before .before in
     let at-loop-test = at-tap-line .before .before .before in
     let at-loop = at-loop-test .before in
-    let at-start = at-loop .before .before .before in
-    first-more (tapText (at-start .args .codes .now)) 18 _ _ _ _ _ _ _ _ _ (at-loop .loop .inv) (at-loop-test .loop-test .taken)
-    (tap-more (at-start .args .codes .now) (at-loop .loop .i) (omega (arith, at-start .pre .1, at-loop-test .loop-test .taken))) (omega arith)
+    let entry = at-loop .before .before .before in
+    first-more (tapText (entry .args .codes .now)) 18 _ _ _ _ _ _ _ _ _ (at-loop .loop .inv) (at-loop-test .loop-test .taken)
+    (tap-more (entry .args .codes .now) (at-loop .loop .i) (omega (arith, entry .pre .1, at-loop-test .loop-test .taken))) (omega arith)
     (at-tap-line .tap-line .ensures .0) (at-tap-line .tap-line .ensures .1) (at-tap-line .tap-line .kept .0)
 
 same-length : tie.Need-same-length Inv-loop μ-loop
 same-length c = c .before .loop .inv .same
 
 returns : tie.Need-returns Inv-loop μ-loop
-returns c = first-end (tapText (c .before .before .before .before .args .codes .now)) 18 _ _ _ _ _ _ (c .before .loop .inv) (c .loop-test .left)
+returns c =
+    let at-loop = c .before in
+    let entry = at-loop .before .before .before in
+    first-end (tapText (entry .args .codes .now)) 18 _ _ _ _ _ _ (at-loop .loop .inv) (c .loop-test .left)
 
 pub tap-lines-spec : {M : Type 1} → statement M
 tap-lines-spec =
@@ -54,11 +42,11 @@ tap-lines-spec =
     Inv-loop
     μ-loop
     loop-holds
-    mul-tap-line
-    shared-slice-read-tap-line
-    tap-line-requires
-    add-i
-    loop-less
+    (λ c. search needs)
+    (λ c. search needs)
+    (λ c κs. search needs)
+    (λ c. search needs)
+    (λ c. search needs)
     loop-again
     same-length
     returns)

@@ -4,7 +4,7 @@ use mathlib.Core.Bool.{_&&_}
 use borrow.Author.Needs.{needs}
 use lib.Dec.{T}
 use Rattle.plane.specs.Point.{Point, coordinateInRange, inRange}
-use Rattle.plane.specs.Coordinate.{biased}
+use Rattle.plane.specs.Coordinate.{storedOf}
 use Rattle.plane.specs.Code.{packed, code}
 use Rattle.plane.specs.declared.codes.Located.the-variants.{At}
 use Rattle.arrays.proofs.Signed.{read-one}
@@ -23,12 +23,6 @@ test c =
     let x = c .before .is-in-range .ensures ∙ read-one coordinateInRange (s .fits .x) in
     sym (ap₂ _&&_ x (c .is-in-range2 .ensures ∙ read-one coordinateInRange (s .fits .y)))
 
-is-in-range-requires : tie.Need-is-in-range-requires
-is-in-range-requires c κs = search needs
-
-is-in-range-requires-2 : tie.Need-is-in-range-requires-2
-is-in-range-requires-2 c κs = search needs
-
 both : (c : tie.Then1) → T (c .before .before .is-in-range .result) × T (c .before .is-in-range2 .result)
 both c = and-parts (c .before .before .is-in-range .result) (c .before .is-in-range2 .result) (of-true (c .if1 .taken))
 
@@ -38,16 +32,13 @@ stored-requires c κs = subst T (c .before .before .is-in-range .ensures) (both 
 stored-requires-2 : tie.Need-stored-requires-2
 stored-requires-2 c κs = subst T (c .before .before .is-in-range2 .ensures) (both (c .before) .1)
 
-pack-requires : tie.Need-pack-requires
-pack-requires c κs = search needs
-
 returns : tie.Need-returns
 unfolding code
 returns c =
     let at-if = c .before .before .before in
     let s = at-if .before .before .before in
-    let x = c .before .before .stored .ensures ∙ read-one biased (s .fits .x) in
-    let y = c .before .stored2 .ensures ∙ read-one biased (s .fits .y) in
+    let x = c .before .before .stored .ensures ∙ read-one storedOf (s .fits .x) in
+    let y = c .before .stored2 .ensures ∙ read-one storedOf (s .fits .y) in
     ap At (c .pack .ensures .0 ∙ ap₂ packed x y) ∙ sym (located-in (point s) (test (at-if .before) ∙ at-if .if1 .taken))
 
 returns-2 : tie.Need-returns-2
@@ -56,11 +47,4 @@ returns-2 c = sym (located-out (point (c .before .before .before)) (test (c .bef
 pub locate-spec : {M : Type 1} → statement M
 locate-spec =
     tie.close
-    (tie.spec
-    is-in-range-requires
-    is-in-range-requires-2
-    stored-requires
-    stored-requires-2
-    pack-requires
-    returns
-    returns-2)
+    (tie.spec (λ c κs. search needs) (λ c κs. search needs) stored-requires stored-requires-2 (λ c κs. search needs) returns returns-2)

@@ -8,26 +8,26 @@ use lib.Dec.{T}
 use lib.Signed.{nonNeg}
 use Rattle.arrays.proofs.Signed.{read, read-is, read-one}
 use Rattle.plane.specs.Point.{limit}
-use Rattle.plane.specs.Coordinate.{biased}
-use Rattle.plane.proofs.Stored.{biased-bound}
+use Rattle.plane.specs.Coordinate.{storedOf}
+use Rattle.plane.proofs.Stored.{stored-bound}
 use Rattle.plane.proofs.Signed.{raised}
 use Rattle.plane.proofs.codes.stored.Statement.{statement}
 use Rattle.plane.proofs.codes.stored.Tie as tie
 
 -- The sum, of what is read back from the bits of z.
-sum : (s : tie.Start) → read (s .args .z) +ℤ pos limit ≡ pos (biased (s .args .z))
+sum : (s : tie.Start) → read (s .args .z) +ℤ pos limit ≡ pos (storedOf (s .args .z))
 sum s = read-one (λ (z : ℤ). z +ℤ pos limit) (s .fits .z) ∙ raised (s .args .z) (s .pre)
 
 add-result : tie.Need-add-result
-add-result c = subst (SFits w32) (sym (sum c)) (record { sfits = omega (arith, biased-bound (c .args .z) (c .pre)) })
+add-result c = subst (SFits w32) (sym (sum c)) (record { sfits = omega (arith, stored-bound (c .args .z) (c .pre)) })
 
 -- It is read back as it is.
-back : (s : tie.Start) → read (read (s .args .z) +ℤ pos limit) ≡ pos (biased (s .args .z))
+back : (s : tie.Start) → read (read (s .args .z) +ℤ pos limit) ≡ pos (storedOf (s .args .z))
 back s = read-is (add-result s) (sum s)
 
 cast-result : tie.Need-cast-result
 cast-result c =
-    subst (λ (z : ℤ). T (nonNeg z) × Fits w16 (natAbs z)) (sym (back c)) (tt, record { fits = omega (arith, biased-bound (c .args .z) (c .pre)) })
+    subst (λ (z : ℤ). T (nonNeg z) × Fits w16 (natAbs z)) (sym (back c)) (tt, record { fits = omega (arith, stored-bound (c .args .z) (c .pre)) })
 
 returns : tie.Need-returns
 returns c = ap natAbs (back c)

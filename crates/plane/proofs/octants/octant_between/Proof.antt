@@ -8,32 +8,10 @@ use Rattle.plane.proofs.octants.Between.{between-upper, between-under, 
 use Rattle.plane.proofs.octants.octant_between.Statement.{statement}
 use Rattle.plane.proofs.octants.octant_between.Tie as tie
 
-add-x-more : tie.Need-add-x-more
-add-x-more c = search needs
-
-add-y-more : tie.Need-add-y-more
-add-y-more c = search needs
-
-add-far : tie.Need-add-far
-add-far c = search needs
-
-add-near : tie.Need-add-near
-add-near c = search needs
-
-passes-requires : tie.Need-passes-requires
-passes-requires c κs = search needs
-
-passes-requires-2 : tie.Need-passes-requires-2
-passes-requires-2 c κs = search needs
-
-is-lower-requires : tie.Need-is-lower-requires
-is-lower-requires c κs = search needs
-
-is-lower-requires-2 : tie.Need-is-lower-requires-2
-is-lower-requires-2 c κs = search needs
-
 add-result : tie.Need-add-result
-add-result c = omega (arith, c .before .before .before .before .passes2 .ensures .1)
+add-result c =
+    let at-is-lower = c .before .before .before in
+    omega (arith, at-is-lower .before .passes2 .ensures .1)
 
 returns : tie.Need-returns
 returns c =
@@ -56,26 +34,17 @@ returns-2 c =
 
 returns-3 : tie.Need-returns-3
 returns-3 c =
-    let at-is-lower = c .before .before .before in
+    let at-is-lower2 = c .before in
+    let at-if1 = at-is-lower2 .before in
+    let at-is-lower = at-if1 .before in
     let s = at-is-lower .before .before .before .args in (
-      between-none (s .ax) (s .ay) (s .bx) (s .by) (sym (at-is-lower .is-lower .ensures) ∙ c .before .before .if1 .left)
-          (sym (c .before .is-lower2 .ensures) ∙ c .if2 .left),
+      between-none (s .ax) (s .ay) (s .bx) (s .by) (sym (at-is-lower .is-lower .ensures) ∙ at-if1 .if1 .left)
+          (sym (at-is-lower2 .is-lower2 .ensures) ∙ c .if2 .left),
       omega arith,
     )
 
 pub octant-between-spec : {M : Type 1} → statement M
 octant-between-spec =
     tie.close
-    (tie.spec
-    add-x-more
-    add-y-more
-    add-far
-    add-near
-    passes-requires
-    passes-requires-2
-    is-lower-requires
-    is-lower-requires-2
-    add-result
-    returns
-    returns-2
-    returns-3)
+    (tie.spec (λ c. search needs) (λ c. search needs) (λ c. search needs) (λ c. search needs) (λ c κs. search needs) (λ c κs. search needs)
+    (λ c κs. search needs) (λ c κs. search needs) add-result returns returns-2 returns-3)

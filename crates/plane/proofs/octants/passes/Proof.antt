@@ -5,17 +5,8 @@ use Rattle.plane.proofs.octants.Between.{at-most-one}
 use Rattle.plane.proofs.octants.passes.Statement.{statement}
 use Rattle.plane.proofs.octants.passes.Tie as tie
 
-cast-result : tie.Need-cast-result
-cast-result c = search needs
-
-cast-result-2 : tie.Need-cast-result-2
-cast-result-2 c = search needs
-
 add-result : tie.Need-add-result
 add-result c = omega (arith, at-most-one (c .args .p), at-most-one (c .args .q))
-
-cast-result-3 : tie.Need-cast-result-3
-cast-result-3 c = search needs
 
 add-result-2 : tie.Need-add-result-2
 add-result-2 c = omega (arith, at-most-one (c .args .p), at-most-one (c .args .q), at-most-one (c .args .s))
@@ -25,4 +16,5 @@ returns c = (search needs, omega (arith, at-most-one (c .args .p), at-most-one (
 
 pub passes-spec : {M : Type 1} → statement M
 passes-spec =
-    tie.close (tie.spec cast-result cast-result-2 add-result cast-result-3 add-result-2 returns)
+    tie.close
+    (tie.spec (λ c. search needs) (λ c. search needs) add-result (λ c. search needs) add-result-2 returns)

@@ -4,25 +4,15 @@ use borrow.Author.Needs.{needs}
 use Rattle.points.proofs.change.with_pin.Statement.{statement}
 use Rattle.points.proofs.change.with_pin.Tie as tie
 
-slice-aggregate-put : tie.Need-slice-aggregate-put
-slice-aggregate-put c = search needs
-
-put-requires : tie.Need-put-requires
-put-requires c κs = search needs
-
-slice-aggregate-out : tie.Need-slice-aggregate-out
-slice-aggregate-out c = search needs
-
-out-requires : tie.Need-out-requires
-out-requires c κs = search needs
-
 returns : tie.Need-returns
 returns c =
-    let joined = c .before .before .before .before in
-    let start = joined .before .before .before .before in
-    with-pin _ (start .pre .0) _ (start .pre .1 .0) _ _ _ _ (start .pre .1 .1) (joined .put .ensures) (joined .put .kept .0) (c .before .out .ensures)
-    (c .before .out .kept .0)
+    let at-out = c .before in
+    let at-put = at-out .before .before .before in
+    let at-pins = at-put .before in
+    let entry = at-pins .before .before .before in
+    with-pin _ (entry .pre .0) _ (entry .pre .1 .0) _ _ _ _ (entry .pre .1 .1) (at-put .put .ensures) (at-put .put .kept .0) (at-out .out .ensures)
+    (at-out .out .kept .0)
 
 pub with-pin-spec : {M : Type 1} → statement M
 with-pin-spec =
-    tie.close (tie.spec slice-aggregate-put put-requires slice-aggregate-out out-requires returns)
+    tie.close (tie.spec (λ c. search needs) (λ c κs. search needs) (λ c. search needs) (λ c κs. search needs) returns)

@@ -4,16 +4,12 @@ use borrow.Author.Needs.{needs}
 use Rattle.points.proofs.change.with_steiner.Statement.{statement}
 use Rattle.points.proofs.change.with_steiner.Tie as tie
 
-slice-aggregate-put : tie.Need-slice-aggregate-put
-slice-aggregate-put c = search needs
-
-put-requires : tie.Need-put-requires
-put-requires c κs = search needs
-
 returns : tie.Need-returns
 returns c =
-    let start = c .before .before .before .before .before in
-    with-steiner _ (start .pre .0) _ (start .pre .1 .0) _ _ (start .pre .1 .1 .0) (start .pre .1 .1 .1) (c .before .put .ensures) (c .before .put .kept .0)
+    let at-put = c .before in
+    let at-steiner = at-put .before in
+    let entry = at-steiner .before .before .before in
+    with-steiner _ (entry .pre .0) _ (entry .pre .1 .0) _ _ (entry .pre .1 .1 .0) (entry .pre .1 .1 .1) (at-put .put .ensures) (at-put .put .kept .0)
 
 pub with-steiner-spec : {M : Type 1} → statement M
-with-steiner-spec = tie.close (tie.spec slice-aggregate-put put-requires returns)
+with-steiner-spec = tie.close (tie.spec (λ c. search needs) (λ c κs. search needs) returns)

@@ -4,16 +4,12 @@ use borrow.Author.Needs.{needs}
 use Rattle.points.proofs.change.without_pin.Statement.{statement}
 use Rattle.points.proofs.change.without_pin.Tie as tie
 
-slice-aggregate-out : tie.Need-slice-aggregate-out
-slice-aggregate-out c = search needs
-
-out-requires : tie.Need-out-requires
-out-requires c κs = search needs
-
 returns : tie.Need-returns
 returns c =
-    let start = c .before .before .before .before .before in
-    without-pin _ (start .pre .0) _ (start .pre .1) _ _ (c .before .out .ensures) (c .before .out .kept .0)
+    let at-out = c .before in
+    let at-pins = at-out .before in
+    let entry = at-pins .before .before .before in
+    without-pin _ (entry .pre .0) _ (entry .pre .1) _ _ (at-out .out .ensures) (at-out .out .kept .0)
 
 pub without-pin-spec : {M : Type 1} → statement M
-without-pin-spec = tie.close (tie.spec slice-aggregate-out out-requires returns)
+without-pin-spec = tie.close (tie.spec (λ c. search needs) (λ c κs. search needs) returns)

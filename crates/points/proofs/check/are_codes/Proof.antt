@@ -17,34 +17,19 @@ abbrev μ-loop : tie.MeasureT-loop
 loop-holds : tie.Need-loop-holds Inv-loop μ-loop
 loop-holds c = passed-none _ _ _
 
-mul-is-code : tie.Need-mul-is-code Inv-loop μ-loop
-mul-is-code c = search needs
-
-shared-slice-read-is-code : tie.Need-shared-slice-read-is-code Inv-loop μ-loop
-shared-slice-read-is-code c = search needs
-
-is-code-requires : tie.Need-is-code-requires Inv-loop μ-loop
-is-code-requires c κs = search needs
-
 returns : tie.Need-returns Inv-loop μ-loop
 returns c =
     let at-is-code = c .before in
     let at-loop = at-is-code .before .before .before in
-    let at-start = at-loop .before .before in
-    passed-fail _ _ _ _ _ (at-loop .loop .inv) (omega arith) (at-start .pre) (at-is-code .is-code .ensures) (not-true _ (c .if1 .taken))
-
-add-i : tie.Need-add-i Inv-loop μ-loop
-add-i c = search needs
-
-loop-less : tie.Need-loop-less Inv-loop μ-loop
-loop-less c = search needs
+    let entry = at-loop .before .before in
+    passed-fail _ _ _ _ _ (at-loop .loop .inv) (omega arith) (entry .pre) (at-is-code .is-code .ensures) (not-true _ (c .if1 .taken))
 
 loop-again : tie.Need-loop-again Inv-loop μ-loop
 loop-again c =
     let at-is-code = c .before in
     let at-loop = at-is-code .before .before .before in
-    let at-start = at-loop .before .before in
-    passed-more _ _ _ _ _ (at-loop .loop .inv) (omega arith) (at-start .pre) (at-is-code .is-code .ensures) (not-false _ (c .if1 .left))
+    let entry = at-loop .before .before in
+    passed-more _ _ _ _ _ (at-loop .loop .inv) (omega arith) (entry .pre) (at-is-code .is-code .ensures) (not-false _ (c .if1 .left))
 
 returns-2 : tie.Need-returns-2 Inv-loop μ-loop
 returns-2 c = passed-end _ _ _ _ (c .before .loop .inv) (c .loop-test .left) (c .before .before .before .pre)
@@ -56,11 +41,11 @@ are-codes-spec =
     Inv-loop
     μ-loop
     loop-holds
-    mul-is-code
-    shared-slice-read-is-code
-    is-code-requires
+    (λ c. search needs)
+    (λ c. search needs)
+    (λ c κs. search needs)
     returns
-    add-i
-    loop-less
+    (λ c. search needs)
+    (λ c. search needs)
     loop-again
     returns-2)

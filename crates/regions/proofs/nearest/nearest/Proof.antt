@@ -13,13 +13,19 @@ Inv-loop xs n gaps ranks count x least₀ j₀ least j = (j ≤ n) × AtRows xs 
 abbrev μ-loop : tie.MeasureT-loop
 μ-loop xs n gaps ranks count x least₀ j₀ least j = n - j
 
+loop-holds : tie.Need-loop-holds Inv-loop μ-loop
+loop-holds c =
+    let at-ranks = c .before in
+    let entry = at-ranks .before .before .before in
+    (omega arith, rows-none (entry .pre .1))
+
 pub nearest-spec : {M : Type 1} → statement M
 nearest-spec =
     tie.close
     (tie.spec
     Inv-loop
     μ-loop
-    (λ c. (omega arith, rows-none (c .before .before .before .before .pre .1)))
+    loop-holds
     (λ c κs. search needs)
     (λ c. search needs)
     (λ c. search needs)

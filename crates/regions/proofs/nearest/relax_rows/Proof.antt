@@ -16,30 +16,54 @@ abbrev μ-loop : tie.MeasureT-loop
 
 less-requires : tie.Need-less-requires Inv-loop μ-loop
 less-requires c κs =
-    let l = c .before .before in
-    let near = l .before .before .before .pre .near _ (c .before .loop-test .taken) in
+    let at-loop-test = c .before in
+    let at-loop = at-loop-test .before in
+    let entry = at-loop .before .before .before in
+    let near = entry .pre .near _ (at-loop-test .loop-test .taken) in
     (omega arith, omega arith)
 
 sub-k : tie.Need-sub-k Inv-loop μ-loop
 sub-k c =
-    let l = c .before .before .before in
-    omega (arith, l .before .before .before .pre .near _ (c .before .before .loop-test .taken))
+    let at-loop-test = c .before .before in
+    let at-loop = at-loop-test .before in
+    let entry = at-loop .before .before .before in
+    omega (arith, entry .pre .near _ (at-loop-test .loop-test .taken))
+
+larger-requires : tie.Need-larger-requires Inv-loop μ-loop
+larger-requires c κs =
+    let at-less = c .before .before in
+    let at-loop = at-less .before .before .before in
+    (at-loop .loop .inv .2 .complements .low _, omega arith)
+
+larger-requires-2 : tie.Need-larger-requires-2 Inv-loop μ-loop
+larger-requires-2 c κs =
+    let at-larger = c .before .before in
+    let at-less = at-larger .before .before .before in
+    let at-loop = at-less .before .before .before in
+    (at-loop .loop .inv .2 .complements .low _, omega arith)
 
 loop-again : tie.Need-loop-again Inv-loop μ-loop
 loop-again c =
-    let first = c .before .before .before in
-    let test = first .before .before .before in
-    let body = test .before .before in
-    let l = body .before in
-    let p = l .before .before .before .pre in
-    let q = l .loop .inv in
+    let at-larger = c .before .before .before in
+    let at-less = at-larger .before .before .before in
+    let at-loop-test = at-less .before .before in
+    let at-loop = at-loop-test .before in
+    let entry = at-loop .before .before .before in
+    let p = entry .pre in
+    let q = at-loop .loop .inv in
     let less = complement-less _ _ (p .leaves) in (
       omega arith,
       omega arith,
-      relax-more p (q .0) (body .loop-test .taken) (q .2) (first .larger .ensures .1) (c .larger2 .ensures .1)
-          (offered-steep less (test .less .ensures) (first .larger .ensures .0) (first .before .choose .ensures .0))
-          (offered-flat less (test .less .ensures) (c .larger2 .ensures .0) (c .before .choose2 .ensures .0)),
+      relax-more p (q .0) (at-loop-test .loop-test .taken) (q .2) (at-larger .larger .ensures .1) (c .larger2 .ensures .1)
+          (offered-steep less (at-less .less .ensures) (at-larger .larger .ensures .0) (at-larger .before .choose .ensures .0))
+          (offered-flat less (at-less .less .ensures) (c .larger2 .ensures .0) (c .before .choose2 .ensures .0)),
     )
+
+returns : tie.Need-returns Inv-loop μ-loop
+returns c =
+    let at-loop = c .before in
+    let entry = at-loop .before .before .before in
+    relax-end (entry .pre) (omega arith) (omega arith) (at-loop .loop .inv .2)
 
 pub relax-rows-spec : {M : Type 1} → statement M
 relax-rows-spec =
@@ -57,12 +81,12 @@ relax-rows-spec =
     (λ c. search needs)
     (λ c. search needs)
     (λ c κs. search needs)
-    (λ c κs. (c .before .before .before .before .before .loop .inv .2 .complements .low _, omega arith))
+    larger-requires
     (λ c. search needs)
     (λ c. search needs)
     (λ c. search needs)
     (λ c κs. search needs)
-    (λ c κs. (c .before .before .before .before .before .before .before .before .loop .inv .2 .complements .low _, omega arith))
+    larger-requires-2
     (λ c. search needs)
     (λ c. search needs)
     (λ c. search needs)
@@ -73,4 +97,4 @@ relax-rows-spec =
     (λ c. search needs)
     loop-again
     (λ c. search needs)
-    (λ c. relax-end (c .before .before .before .before .pre) (omega arith) (omega arith) (c .before .loop .inv .2)))
+    returns)

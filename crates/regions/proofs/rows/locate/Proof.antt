@@ -19,9 +19,16 @@ abbrev μ-loop : tie.MeasureT-loop
 
 loop-again : tie.Need-loop-again Inv-loop μ-loop
 loop-again c =
-    let called = c .before .before .before .before in
-    let l = called .before .before .before .before in
-    (omega arith, search needs, search needs, point-more (l .loop .inv .3) (omega arith) (omega arith) (called .row-gaps .ensures) (c .rank .ensures))
+    let at-gaps = c .before .before .before in
+    let at-row-gaps = at-gaps .before in
+    let at-loop-test = at-row-gaps .before .before .before in
+    let at-loop = at-loop-test .before in (
+      omega arith,
+      search needs,
+      search needs,
+      point-more (at-loop .loop .inv .3) (omega arith) (omega arith) (at-row-gaps .row-gaps .ensures)
+          (c .rank .ensures),
+    )
 
 pub locate-spec : {M : Type 1} → statement M
 locate-spec =

@@ -17,11 +17,11 @@ abbrev μ-loop : tie.MeasureT-loop
 -- No row behind the first that is not below y is below it.
 returns : tie.Need-returns Inv-loop μ-loop
 returns c =
-    let l = c .before .before .before in
+    let at-loop = c .before .before .before in
     record {
       within = omega arith;
-      below = l .loop .inv .1;
-      above = λ q h k. ⊎-elim (λ e. rw (← e) (c .if1 .taken)) (λ g. omega (arith, l .before .pre .rises _ q g k)) (eq-or-lt-of-le h);
+      below = at-loop .loop .inv .1;
+      above = λ q h k. ⊎-elim (λ e. rw (← e) (c .if1 .taken)) (λ g. omega (arith, at-loop .before .pre .rises _ q g k)) (eq-or-lt-of-le h);
     }
 
 pub rank-spec : {M : Type 1} → statement M

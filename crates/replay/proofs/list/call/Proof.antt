@@ -7,33 +7,21 @@ use borrow.Author.Needs.{needs}
 use Rattle.replay.proofs.list.call.Statement.{statement}
 use Rattle.replay.proofs.list.call.Tie as tie
 
-add-requires : tie.Need-add-requires
-add-requires c κs = search needs
-
 returns : tie.Need-returns
 unfolding callOf
 returns c =
-    let s = c .before .before .before in
-    point-call _ (c .before .before .match .keys1) add _ _ (s .fits .x) (s .fits .y) refl (c .before .add .ensures)
-
-withdraw-requires : tie.Need-withdraw-requires
-withdraw-requires c κs = search needs
+    let entry = c .before .before .before in
+    point-call _ (c .before .before .match .keys1) add _ _ (entry .fits .x) (entry .fits .y) refl (c .before .add .ensures)
 
 returns-2 : tie.Need-returns-2
 unfolding callOf
 returns-2 c =
-    let s = c .before .before .before in
-    point-call _ (c .before .before .match .keys2) withdraw _ _ (s .fits .x) (s .fits .y) refl (c .before .withdraw .ensures)
-
-round-requires : tie.Need-round-requires
-round-requires c κs = search needs
+    let entry = c .before .before .before in
+    point-call _ (c .before .before .match .keys2) withdraw _ _ (entry .fits .x) (entry .fits .y) refl (c .before .withdraw .ensures)
 
 returns-3 : tie.Need-returns-3
 unfolding callOf
 returns-3 c = one-call _ (c .before .before .match .keys3) _ refl (c .before .round .ensures)
-
-run-to-end-requires : tie.Need-run-to-end-requires
-run-to-end-requires c κs = search needs
 
 returns-4 : tie.Need-returns-4
 unfolding callOf
@@ -46,10 +34,10 @@ pub call-spec : {M : Type 1} → statement M
 call-spec =
     tie.close
     (tie.spec
-    add-requires
-    withdraw-requires
-    round-requires
-    run-to-end-requires
+    (λ c κs. search needs)
+    (λ c κs. search needs)
+    (λ c κs. search needs)
+    (λ c κs. search needs)
     returns
     returns-2
     returns-3

@@ -19,18 +19,6 @@ loop-holds : tie.Need-loop-holds Inv-loop μ-loop
 unfolding deckAfter firstCalls
 loop-holds c = (omega arith, refl)
 
-mul-call-at : tie.Need-mul-call-at Inv-loop μ-loop
-mul-call-at c = search needs
-
-call-at-requires : tie.Need-call-at-requires Inv-loop μ-loop
-call-at-requires c κs = search needs
-
-add-i : tie.Need-add-i Inv-loop μ-loop
-add-i c = search needs
-
-loop-less : tie.Need-loop-less Inv-loop μ-loop
-loop-less c = search needs
-
 loop-again : tie.Need-loop-again Inv-loop μ-loop
 loop-again c = (omega (arith, c .before .loop-test .taken), one-more _ _ _ (c .before .before .loop .inv .1) (c .call-at .ensures))
 
@@ -41,4 +29,4 @@ returns c = all-made _ _ _ _ (c .before .loop .inv) (c .loop-test .left)
 pub call-all-spec : {M : Type 1} → statement M
 call-all-spec =
     tie.close
-    (tie.spec Inv-loop μ-loop loop-holds mul-call-at call-at-requires add-i loop-less loop-again returns)
+    (tie.spec Inv-loop μ-loop loop-holds (λ c. search needs) (λ c κs. search needs) (λ c. search needs) (λ c. search needs) loop-again returns)

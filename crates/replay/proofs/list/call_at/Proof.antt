@@ -7,47 +7,24 @@ use borrow.Author.Needs.{needs}
 use Rattle.replay.proofs.list.call_at.Statement.{statement}
 use Rattle.replay.proofs.list.call_at.Tie as tie
 
-add-number4 : tie.Need-add-number4
-add-number4 c = search needs
-
-number4-requires : tie.Need-number4-requires
-number4-requires c κs = search needs
-
-signed32-requires : tie.Need-signed32-requires
-signed32-requires c κs = search needs
-
-add-number4-2 : tie.Need-add-number4-2
-add-number4-2 c = search needs
-
-number4-requires-2 : tie.Need-number4-requires-2
-number4-requires-2 c κs = search needs
-
-signed32-requires-2 : tie.Need-signed32-requires-2
-signed32-requires-2 c κs = search needs
-
-shared-slice-read-call : tie.Need-shared-slice-read-call
-shared-slice-read-call c = search needs
-
-call-requires : tie.Need-call-requires
-call-requires c κs = search needs
-
 returns : tie.Need-returns
 returns c =
-    let y = c .before .before in
-    let x = y .before .before in
-    c .call .ensures ∙ call-read _ _ _ (read-is (record { sfits = x .signed32 .ok }) (x .signed32 .ensures ∙ ap signed32 (x .before .number4 .ensures .0)))
-    (read-is (record { sfits = y .signed322 .ok }) (y .signed322 .ensures ∙ ap signed32 (y .before .number42 .ensures .0)))
+    let at-signed322 = c .before .before in
+    let at-signed32 = at-signed322 .before .before in
+    c .call .ensures ∙ call-read _ _ _
+    (read-is (record { sfits = at-signed32 .signed32 .ok }) (at-signed32 .signed32 .ensures ∙ ap signed32 (at-signed32 .before .number4 .ensures .0)))
+    (read-is (record { sfits = at-signed322 .signed322 .ok }) (at-signed322 .signed322 .ensures ∙ ap signed32 (at-signed322 .before .number42 .ensures .0)))
 
 pub call-at-spec : {M : Type 1} → statement M
 call-at-spec =
     tie.close
     (tie.spec
-    add-number4
-    number4-requires
-    signed32-requires
-    add-number4-2
-    number4-requires-2
-    signed32-requires-2
-    shared-slice-read-call
-    call-requires
+    (λ c. search needs)
+    (λ c κs. search needs)
+    (λ c κs. search needs)
+    (λ c. search needs)
+    (λ c κs. search needs)
+    (λ c κs. search needs)
+    (λ c. search needs)
+    (λ c κs. search needs)
     returns)

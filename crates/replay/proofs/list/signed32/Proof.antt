@@ -4,14 +4,8 @@ use borrow.Author.Needs.{needs}
 use Rattle.replay.proofs.list.signed32.Statement.{statement}
 use Rattle.replay.proofs.list.signed32.Tie as tie
 
-cast-result : tie.Need-cast-result
-cast-result c = search needs
-
 returns : tie.Need-returns
 returns c = low-is _ (c .if1 .taken)
-
-cast-result-2 : tie.Need-cast-result-2
-cast-result-2 c = search needs
 
 add-result : tie.Need-add-result
 add-result c = high-fits _ (c .if1 .left) (c .before .pre)
@@ -20,4 +14,4 @@ returns-2 : tie.Need-returns-2
 returns-2 c = high-is _ (c .if1 .left) (c .before .pre)
 
 pub signed32-spec : {M : Type 1} → statement M
-signed32-spec = tie.close (tie.spec cast-result returns cast-result-2 add-result returns-2)
+signed32-spec = tie.close (tie.spec (λ c. search needs) returns (λ c. search needs) add-result returns-2)

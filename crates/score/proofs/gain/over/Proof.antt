@@ -1,4 +1,4 @@
--- `score::gain::over` meets its contract.
+-- `score::gain::over` meets its contract: the definition opened, its parts are what the calls return.
 use Prim.Native.Nat.{_+_, _*_, _%_}
 use native.Mathlib.Omega.{arith}
 use borrow.Author.Needs.{needs}

@@ -21,69 +21,41 @@ loop-holds c =
     let given = c .before .before .pre in
     edges-none _ _ _ _ (given .0) (given .1)
 
-mul-k : tie.Need-mul-k Inv-loop μ-loop
-mul-k c = search needs
-
-shared-slice-read-k : tie.Need-shared-slice-read-k Inv-loop μ-loop
-shared-slice-read-k c = search needs
-
-mul-wide : tie.Need-mul-wide Inv-loop μ-loop
-mul-wide c = search needs
-
-add-wide : tie.Need-add-wide Inv-loop μ-loop
-add-wide c = search needs
-
-shared-slice-read-wide : tie.Need-shared-slice-read-wide Inv-loop μ-loop
-shared-slice-read-wide c = search needs
-
-wide-requires : tie.Need-wide-requires Inv-loop μ-loop
-wide-requires c κs = search needs
-
 returns : tie.Need-returns Inv-loop μ-loop
 returns c =
-    let at-loop = c .before .before .before .before .before in
-    let given = at-loop .before .before .before .pre in
+    let at-wide = c .before in
+    let at-loop-test = at-wide .before .before .before in
+    let at-loop = at-loop-test .before in
+    let entry = at-loop .before .before .before in
+    let given = entry .pre in
     edges-fail-first _ _ _ _ (given .0) (given .1) _ (at-loop .loop .inv) (omega arith)
-    (λ e. c .if1 .taken (c .before .wide .ensures .0 ∙ e))
-
-mul-wide-2 : tie.Need-mul-wide-2 Inv-loop μ-loop
-mul-wide-2 c = search needs
-
-add-wide-2 : tie.Need-add-wide-2 Inv-loop μ-loop
-add-wide-2 c = search needs
-
-add-wide-3 : tie.Need-add-wide-3 Inv-loop μ-loop
-add-wide-3 c = search needs
-
-shared-slice-read-wide-2 : tie.Need-shared-slice-read-wide-2 Inv-loop μ-loop
-shared-slice-read-wide-2 c = search needs
-
-wide-requires-2 : tie.Need-wide-requires-2 Inv-loop μ-loop
-wide-requires-2 c κs = search needs
+    (λ e. c .if1 .taken (at-wide .wide .ensures .0 ∙ e))
 
 returns-2 : tie.Need-returns-2 Inv-loop μ-loop
 returns-2 c =
-    let at-loop = c .before .before .before .before .before .before .before .before in
-    let given = at-loop .before .before .before .pre in
+    let at-wide2 = c .before in
+    let at-wide = at-wide2 .before .before .before in
+    let at-loop-test = at-wide .before .before .before in
+    let at-loop = at-loop-test .before in
+    let entry = at-loop .before .before .before in
+    let given = entry .pre in
     edges-fail-second _ _ _ _ (given .0) (given .1) _ (at-loop .loop .inv) (omega arith) (omega arith)
-    (λ e. c .if2 .taken (c .before .wide2 .ensures .0 ∙ e))
-
-add-i : tie.Need-add-i Inv-loop μ-loop
-add-i c = search needs
-
-loop-less : tie.Need-loop-less Inv-loop μ-loop
-loop-less c = search needs
+    (λ e. c .if2 .taken (at-wide2 .wide2 .ensures .0 ∙ e))
 
 loop-again : tie.Need-loop-again Inv-loop μ-loop
 loop-again c =
-    let at-loop = c .before .before .before .before .before .before .before .before in
-    let given = at-loop .before .before .before .pre in
+    let at-low-test = c .before .before .before in
+    let at-slice = at-low-test .before .before in
+    let at-loop = at-slice .before .before .before in
+    let entry = at-loop .before .before .before in
+    let given = entry .pre in
     edges-more _ _ _ _ (given .0) (given .1) _ (at-loop .loop .inv) (omega arith) (omega arith) (omega arith)
 
 returns-3 : tie.Need-returns-3 Inv-loop μ-loop
 returns-3 c =
     let at-loop = c .before in
-    let given = at-loop .before .before .before .pre in
+    let entry = at-loop .before .before .before in
+    let given = entry .pre in
     edges-end _ _ _ _ (given .0) (given .1) _ (at-loop .loop .inv) (c .loop-test .left)
 
 pub same-edges-spec : {M : Type 1} → statement M
@@ -93,20 +65,20 @@ same-edges-spec =
     Inv-loop
     μ-loop
     loop-holds
-    mul-k
-    shared-slice-read-k
-    mul-wide
-    add-wide
-    shared-slice-read-wide
-    wide-requires
+    (λ c. search needs)
+    (λ c. search needs)
+    (λ c. search needs)
+    (λ c. search needs)
+    (λ c. search needs)
+    (λ c κs. search needs)
     returns
-    mul-wide-2
-    add-wide-2
-    add-wide-3
-    shared-slice-read-wide-2
-    wide-requires-2
+    (λ c. search needs)
+    (λ c. search needs)
+    (λ c. search needs)
+    (λ c. search needs)
+    (λ c κs. search needs)
     returns-2
-    add-i
-    loop-less
+    (λ c. search needs)
+    (λ c. search needs)
     loop-again
     returns-3)

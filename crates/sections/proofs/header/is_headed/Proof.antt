@@ -16,28 +16,24 @@ returns-2 c = head-long (c .before .before .before .args .b .now) (omega arith) 
 
 slice-aggregate-same-bytes : tie.Need-slice-aggregate-same-bytes
 slice-aggregate-same-bytes c =
-    let start = c .before .before .before .before in
-    sym (length-take-le 4 (start .args .b .now) (omega arith))
-
-slice-aggregate-same-bytes-2 : tie.Need-slice-aggregate-same-bytes-2
-slice-aggregate-same-bytes-2 c = search needs
-
-same-bytes-requires : tie.Need-same-bytes-requires
-same-bytes-requires c κs = search needs
+    let at-long-test = c .before in
+    let entry = at-long-test .before .before .before in
+    sym (length-take-le 4 (entry .args .b .now) (omega arith))
 
 returns-3 : tie.Need-returns-3
 returns-3 c =
-    let tests = c .before .before .before .before in
-    head-other (tests .before .before .before .args .b .now) (omega arith) (omega arith) (sym (c .before .same-bytes .ensures) ∙ not-true _ (c .if3 .taken))
-
-number2-requires : tie.Need-number2-requires
-number2-requires c κs = search needs
+    let at-same-bytes = c .before in
+    let at-long-test = at-same-bytes .before .before .before in
+    let entry = at-long-test .before .before .before in
+    head-other (entry .args .b .now) (omega arith) (omega arith) (sym (at-same-bytes .same-bytes .ensures) ∙ not-true _ (c .if3 .taken))
 
 returns-4 : tie.Need-returns-4
 returns-4 c =
-    let tests = c .before .before .before .before .before in
-    head-count (tests .before .before .before .args .b .now) (omega arith) (omega arith)
-    (sym (c .before .before .same-bytes .ensures) ∙ not-false _ (c .before .if3 .left)) _ (c .number2 .ensures .0)
+    let at-same-bytes = c .before .before in
+    let at-long-test = at-same-bytes .before .before .before in
+    let entry = at-long-test .before .before .before in
+    head-count (entry .args .b .now) (omega arith) (omega arith)
+    (sym (at-same-bytes .same-bytes .ensures) ∙ not-false _ (c .before .if3 .left)) _ (c .number2 .ensures .0)
 
 pub is-headed-spec : {M : Type 1} → statement M
 is-headed-spec =
@@ -46,8 +42,8 @@ is-headed-spec =
     returns
     returns-2
     slice-aggregate-same-bytes
-    slice-aggregate-same-bytes-2
-    same-bytes-requires
+    (λ c. search needs)
+    (λ c κs. search needs)
     returns-3
-    number2-requires
+    (λ c κs. search needs)
     returns-4)

@@ -5,15 +5,6 @@ use native.Mathlib.Omega.{arith}
 use Rattle.sections.proofs.header.is_laid_out.Statement.{statement}
 use Rattle.sections.proofs.header.is_laid_out.Tie as tie
 
-number4-requires : tie.Need-number4-requires
-number4-requires c κs = search needs
-
-number4-requires-2 : tie.Need-number4-requires-2
-number4-requires-2 c κs = search needs
-
-number4-requires-3 : tie.Need-number4-requires-3
-number4-requires-3 c κs = search needs
-
 returns : tie.Need-returns
 returns c =
     let at-first = c .before in
@@ -21,12 +12,6 @@ returns c =
     let at-second = at-third .before in
     let b = at-second .before .before .args .b .now in
     layout-first b _ _ _ 0 (at-first .number43 .ensures .0) (at-second .number4 .ensures .0) (at-third .number42 .ensures .0) (c .if1 .taken)
-
-number4-requires-4 : tie.Need-number4-requires-4
-number4-requires-4 c κs = search needs
-
-add-if2 : tie.Need-add-if2
-add-if2 c = search needs
 
 returns-2 : tie.Need-returns-2
 returns-2 c =
@@ -37,12 +22,6 @@ returns-2 c =
     layout-second b _ _ _ _ (at-first .number43 .ensures .0) (at-second .number4 .ensures .0) (at-third .number42 .ensures .0)
     (omega arith) (c .before .number44 .ensures .0) (c .if2 .taken)
 
-number4-requires-5 : tie.Need-number4-requires-5
-number4-requires-5 c κs = search needs
-
-add-if3 : tie.Need-add-if3
-add-if3 c = search needs
-
 returns-3 : tie.Need-returns-3
 returns-3 c =
     let at-pins = c .before .before .before in
@@ -52,12 +31,6 @@ returns-3 c =
     let b = at-second .before .before .args .b .now in
     layout-third b _ _ _ _ (at-first .number43 .ensures .0) (at-second .number4 .ensures .0) (at-third .number42 .ensures .0)
     (omega arith) (at-pins .number44 .ensures .0) (omega arith) _ (c .before .number45 .ensures .0) (c .if3 .taken)
-
-number4-requires-6 : tie.Need-number4-requires-6
-number4-requires-6 c κs = search needs
-
-add-result : tie.Need-add-result
-add-result c = search needs
 
 returns-4 : tie.Need-returns-4
 returns-4 c =
@@ -74,16 +47,16 @@ pub is-laid-out-spec : {M : Type 1} → statement M
 is-laid-out-spec =
     tie.close
     (tie.spec
-    number4-requires
-    number4-requires-2
-    number4-requires-3
+    (λ c κs. search needs)
+    (λ c κs. search needs)
+    (λ c κs. search needs)
     returns
-    number4-requires-4
-    add-if2
+    (λ c κs. search needs)
+    (λ c. search needs)
     returns-2
-    number4-requires-5
-    add-if3
+    (λ c κs. search needs)
+    (λ c. search needs)
     returns-3
-    number4-requires-6
-    add-result
+    (λ c κs. search needs)
+    (λ c. search needs)
     returns-4)

@@ -5,19 +5,15 @@ use native.Mathlib.Omega.{arith}
 use Rattle.sections.proofs.header.is_plain.Statement.{statement}
 use Rattle.sections.proofs.header.is_plain.Tie as tie
 
-number4-requires : tie.Need-number4-requires
-number4-requires c κs = search needs
-
 returns : tie.Need-returns
 returns c =
     plain-steiner (c .before .before .before .args .b .now) _ (c .before .number4 .ensures .0) (c .if1 .taken)
 
-number4-requires-2 : tie.Need-number4-requires-2
-number4-requires-2 c κs = search needs
-
 returns-2 : tie.Need-returns-2
 returns-2 c =
-    plain-edges (c .before .before .before .before .args .b .now) _ (c .before .before .number4 .ensures .0) (omega arith) _ (c .number42 .ensures .0)
+    let at-number4 = c .before .before in
+    let entry = at-number4 .before .before in
+    plain-edges (entry .args .b .now) _ (at-number4 .number4 .ensures .0) (omega arith) _ (c .number42 .ensures .0)
 
 pub is-plain-spec : {M : Type 1} → statement M
-is-plain-spec = tie.close (tie.spec number4-requires returns number4-requires-2 returns-2)
+is-plain-spec = tie.close (tie.spec (λ c κs. search needs) returns (λ c κs. search needs) returns-2)

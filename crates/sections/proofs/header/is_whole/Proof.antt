@@ -5,24 +5,15 @@ use native.Mathlib.Omega.{arith}
 use Rattle.sections.proofs.header.is_whole.Statement.{statement}
 use Rattle.sections.proofs.header.is_whole.Tie as tie
 
-number4-requires : tie.Need-number4-requires
-number4-requires c κs = search needs
-
 returns : tie.Need-returns
 returns c =
     whole-pins (c .before .before .before .args .b .now) _ (c .before .number4 .ensures .0) (c .if1 .taken)
-
-number4-requires-2 : tie.Need-number4-requires-2
-number4-requires-2 c κs = search needs
 
 returns-2 : tie.Need-returns-2
 returns-2 c =
     let at-pins = c .before .before .before in
     let b = at-pins .before .before .args .b .now in
     whole-steiner b _ (at-pins .number4 .ensures .0) (omega arith) _ (c .before .number42 .ensures .0) (c .if2 .taken)
-
-number4-requires-3 : tie.Need-number4-requires-3
-number4-requires-3 c κs = search needs
 
 returns-3 : tie.Need-returns-3
 returns-3 c =
@@ -34,4 +25,4 @@ returns-3 c =
 pub is-whole-spec : {M : Type 1} → statement M
 is-whole-spec =
     tie.close
-    (tie.spec number4-requires returns number4-requires-2 returns-2 number4-requires-3 returns-3)
+    (tie.spec (λ c κs. search needs) returns (λ c κs. search needs) returns-2 (λ c κs. search needs) returns-3)

@@ -10,9 +10,11 @@ use Rattle.test_deck.proofs.call_entries.entry_add.Tie as tie
 
 returns : tie.Need-returns
 returns c =
-    let k = c .before .before .before .before in
-    let f = k .before .before .before .fits in
-    of-call (k .before .deck-in .ensures) (ap call.add (read-two point _ _ (f .x) (f .y))) (k .add .ensures) (c .put-outcome .ensures)
+    let at-put-outcome-arg3 = c .before in
+    let at-add = at-put-outcome-arg3 .before .before .before in
+    let entry = at-add .before .before .before in
+    let f = entry .fits in
+    of-call (at-add .before .deck-in .ensures) (ap call.add (read-two point _ _ (f .x) (f .y))) (at-add .add .ensures) (c .put-outcome .ensures)
 
 pub entry-add-spec : {M : Type 1} → statement M
 entry-add-spec = tie.close (tie.spec (λ c κs. search needs) (λ c κs. search needs) (λ c κs. search needs) returns)

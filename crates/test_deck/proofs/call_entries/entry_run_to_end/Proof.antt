@@ -7,8 +7,9 @@ use Rattle.test_deck.proofs.call_entries.entry_run_to_end.Tie as tie
 
 returns : tie.Need-returns
 returns c =
-    let k = c .before .before .before .before in
-    of-call (k .before .deck-in .ensures) refl (k .run-to-end .ensures) (c .put-outcome .ensures)
+    let at-put-outcome-arg3 = c .before in
+    let at-run-to-end = at-put-outcome-arg3 .before .before .before in
+    of-call (at-run-to-end .before .deck-in .ensures) refl (at-run-to-end .run-to-end .ensures) (c .put-outcome .ensures)
 
 pub entry-run-to-end-spec : {M : Type 1} → statement M
 entry-run-to-end-spec =

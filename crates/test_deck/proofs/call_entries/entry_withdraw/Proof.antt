@@ -10,9 +10,12 @@ use Rattle.test_deck.proofs.call_entries.entry_withdraw.Tie as tie
 
 returns : tie.Need-returns
 returns c =
-    let k = c .before .before .before .before in
-    let f = k .before .before .before .fits in
-    of-call (k .before .deck-in .ensures) (ap call.withdraw (read-two point _ _ (f .x) (f .y))) (k .withdraw .ensures) (c .put-outcome .ensures)
+    let at-put-outcome-arg3 = c .before in
+    let at-withdraw = at-put-outcome-arg3 .before .before .before in
+    let entry = at-withdraw .before .before .before in
+    let f = entry .fits in
+    of-call (at-withdraw .before .deck-in .ensures) (ap call.withdraw (read-two point _ _ (f .x) (f .y))) (at-withdraw .withdraw .ensures)
+    (c .put-outcome .ensures)
 
 pub entry-withdraw-spec : {M : Type 1} → statement M
 entry-withdraw-spec =

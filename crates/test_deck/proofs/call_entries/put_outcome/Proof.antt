@@ -6,9 +6,10 @@ use Rattle.test_deck.proofs.call_entries.put_outcome.Tie as tie
 
 returns : tie.Need-returns
 returns c =
+    let at-parts-of-reply = c .before .before .before in
     record {
-      next = c .before .before .before .before .put-deck .ensures .1;
-      reply = c .put-parts .ensures ∙ c .before .before .before .parts-of-reply .ensures;
+      next = at-parts-of-reply .before .put-deck .ensures .1;
+      reply = c .put-parts .ensures ∙ at-parts-of-reply .parts-of-reply .ensures;
     }
 
 pub put-outcome-spec : {M : Type 1} → statement M

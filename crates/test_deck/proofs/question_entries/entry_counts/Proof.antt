@@ -7,9 +7,10 @@ use Rattle.test_deck.proofs.question_entries.entry_counts.Tie as tie
 
 returns : tie.Need-returns
 returns c =
-    let a = c .before .before .before in
-    let q = a .before in
-    of-question (q .before .deck-in .ensures) refl (q .counts .ensures) (a .parts-of-answer .ensures) (c .put-parts .ensures)
+    let at-parts-of-answer = c .before .before .before in
+    let at-deck-in = at-parts-of-answer .before .before in
+    of-question (at-deck-in .deck-in .ensures) refl (at-parts-of-answer .before .counts .ensures) (at-parts-of-answer .parts-of-answer .ensures)
+    (c .put-parts .ensures)
 
 pub entry-counts-spec : {M : Type 1} → statement M
 entry-counts-spec =

@@ -10,11 +10,12 @@ use Rattle.test_deck.proofs.question_entries.entry_degree_at.Tie as tie
 
 returns : tie.Need-returns
 returns c =
-    let a = c .before .before .before in
-    let q = a .before in
-    let f = q .before .before .before .fits in
-    of-question (q .before .deck-in .ensures) (ap ofDegree (read-two point _ _ (f .x) (f .y))) (q .degree-at .ensures)
-    (a .parts-of-answer .ensures)
+    let at-parts-of-answer = c .before .before .before in
+    let at-deck-in = at-parts-of-answer .before .before in
+    let entry = at-deck-in .before .before in
+    let f = entry .fits in
+    of-question (at-deck-in .deck-in .ensures) (ap ofDegree (read-two point _ _ (f .x) (f .y))) (at-parts-of-answer .before .degree-at .ensures)
+    (at-parts-of-answer .parts-of-answer .ensures)
     (c .put-parts .ensures)
 
 pub entry-degree-at-spec : {M : Type 1} → statement M

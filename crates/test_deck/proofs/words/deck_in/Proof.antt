@@ -12,13 +12,17 @@ size s = search needs
 
 returns : tie.Need-returns
 returns c =
-    let b = c .before .before .before .before .before .before in
-    let a = b .before .before .before .before .before in
-    let s = a .before .before .before .before in
-    let w = s .args .t1 in
-    let pins = part-copied w 0 64 (a .put-numbers .ensures) (omega (arith, size s)) refl in
-    let steiner = part-copied w 65 128 (b .put-numbers2 .ensures) (omega (arith, size s)) refl in
-    let ends = part-copied w 194 128 (c .before .put-numbers3 .ensures) (omega (arith, size s)) refl in
+    let at-put-numbers3 = c .before in
+    let at-words = at-put-numbers3 .before .before in
+    let at-put-numbers2 = at-words .before .before .before in
+    let at-words2 = at-put-numbers2 .before .before in
+    let at-put-numbers = at-words2 .before .before .before in
+    let at-put-numbers-arg = at-put-numbers .before in
+    let entry = at-put-numbers-arg .before .before .before in
+    let w = entry .args .t1 in
+    let pins = part-copied w 0 64 (at-put-numbers .put-numbers .ensures) (omega (arith, size entry)) refl in
+    let steiner = part-copied w 65 128 (at-put-numbers2 .put-numbers2 .ensures) (omega (arith, size entry)) refl in
+    let ends = part-copied w 194 128 (at-put-numbers3 .put-numbers3 .ensures) (omega (arith, size entry)) refl in
     λ i. record {
       points = record { pins = pins i; npins = getD w 64 0; steiner = steiner i; nsteiner = getD w 193 0 };
       ends = ends i;

@@ -1,4 +1,5 @@
 -- `test_deck::words::put_deck` meets its contract: the parts are put one behind the other, and read back they are the deck.
+-- (The entry is `s` here: must-fail/counts_exchanged.edit changes two lines that name it.)
 use mathlib.Core.Path.{refl, ap, _∙_}
 use native.Mathlib.Omega.{arith}
 use lib.ListN.{length-set}
@@ -12,26 +13,48 @@ sized : (s : tie.Start) → Sized (s .args .d)
 sized s = record { pins = search needs; steiner = search needs; ends = search needs }
 
 put-numbers-requires : tie.Need-put-numbers-requires
-put-numbers-requires c κs = omega (arith, sized (c .before .before .before .before .before) .pins)
+put-numbers-requires c κs =
+    let at-ends = c .before .before in
+    let s = at-ends .before .before .before in
+    omega (arith, sized s .pins)
 
 put-numbers-requires-2 : tie.Need-put-numbers-requires-2
 put-numbers-requires-2 c κs =
-    let a = c .before .before .before in
-    let s = a .before .before .before .before .before .before in
-    omega (arith, sized s .steiner, length-set (a .put-numbers .last .0) 64 (s .args .d .points .npins), a .put-numbers .kept .0)
+    let at-put-numbers = c .before .before .before in
+    let at-ends = at-put-numbers .before .before .before in
+    let s = at-ends .before .before .before in
+    omega (
+      arith,
+      sized s .steiner,
+      length-set (at-put-numbers .put-numbers .last .0) 64 (s .args .d .points .npins),
+      at-put-numbers .put-numbers .kept .0,
+    )
 
 put-numbers-requires-3 : tie.Need-put-numbers-requires-3
 put-numbers-requires-3 c κs =
-    let b = c .before .before .before in
-    let s = b .before .before .before .before .before .before .before .before .before .before in
-    omega (arith, sized s .ends, length-set (b .put-numbers2 .last .0) 193 (s .args .d .points .nsteiner), b .put-numbers2 .kept .0)
+    let at-put-numbers2 = c .before .before .before in
+    let at-steiner = at-put-numbers2 .before in
+    let at-put-numbers = at-steiner .before .before .before in
+    let at-ends = at-put-numbers .before .before .before in
+    let s = at-ends .before .before .before in
+    omega (
+      arith,
+      sized s .ends,
+      length-set (at-put-numbers2 .put-numbers2 .last .0) 193 (s .args .d .points .nsteiner),
+      at-put-numbers2 .put-numbers2 .kept .0,
+    )
 
 returns : tie.Need-returns
 returns c =
-    let b = c .before .before .before .before .before in
-    let a = b .before .before .before .before in
-    let s = a .before .before .before .before .before .before in
-    let laid = laid-out (s .args .d) (sized s) refl (a .put-numbers .ensures) (b .put-numbers2 .ensures) (c .before .put-numbers3 .ensures) in
+    let at-put-numbers3 = c .before in
+    let at-ends = at-put-numbers3 .before in
+    let at-put-numbers2 = at-ends .before .before .before in
+    let at-steiner = at-put-numbers2 .before in
+    let at-put-numbers = at-steiner .before .before .before in
+    let at-first-ends = at-put-numbers .before .before .before in
+    let s = at-first-ends .before .before .before in
+    let laid = laid-out (s .args .d) (sized s) refl (at-put-numbers .put-numbers .ensures) (at-put-numbers2 .put-numbers2 .ensures)
+    (at-put-numbers3 .put-numbers3 .ensures) in
     (laid, ap deckIn laid ∙ deck-in-words (s .args .d) (sized s))
 
 pub put-deck-spec : {M : Type 1} → statement M

@@ -10,33 +10,42 @@ use Rattle.test_tree.proofs.lengths.lengths.Tie as tie
 
 -- Where the second slice is known, once the tree is built.
 abbrev ys-known : tie.After-build → tie.After-shared-slice-known2
-ys-known c = c .before .before .before .before .before
+ys-known c =
+    let at-out = c .before .before in
+    at-out .before .before .before
 
 total-of-requires : tie.Need-total-of-requires
 total-of-requires c κs =
-    let b = c .before .before in
-    let few = keys-few _ _ _ _ _ (ys-known b .before .before .pre .0) (b .build .ensures) in
-    (omega (arith, b .build .kept .1 .1 .1 .0), omega arith)
+    let at-build = c .before .before in
+    let at-ys = ys-known at-build in
+    let entry = at-ys .before .before in
+    let few = keys-few _ _ _ _ _ (entry .pre .0) (at-build .build .ensures) in
+    (omega (arith, at-build .build .kept .1 .1 .1 .0), omega arith)
 
 fill-requires : tie.Need-fill-requires
 fill-requires c κs =
-    let b = c .before .before .before .before .before .before in
-    let ys = ys-known b in
-    let start = ys .before .before in
-    let few = keys-few _ _ _ _ _ (start .pre .0) (b .build .ensures) in
-    tree-filling (start .args .xs .now) (start .args .ys .now) _ (omega (arith, start .pre .0 .few)) (λ i. ys .before .shared-slice-known .given i .fits)
-    (λ i. ys .shared-slice-known2 .given i .fits) (omega (arith, b .build .kept .1 .1 .1 .0)) (front-take (b .build .ensures))
-    (c .before .before .blank .ensures)
+    let at-blank = c .before .before in
+    let at-total-of = at-blank .before in
+    let at-build = at-total-of .before .before .before in
+    let at-ys = ys-known at-build in
+    let entry = at-ys .before .before in
+    let few = keys-few _ _ _ _ _ (entry .pre .0) (at-build .build .ensures) in
+    tree-filling (entry .args .xs .now) (entry .args .ys .now) _ (omega (arith, entry .pre .0 .few)) (λ i. at-ys .before .shared-slice-known .given i .fits)
+    (λ i. at-ys .shared-slice-known2 .given i .fits) (omega (arith, at-build .build .kept .1 .1 .1 .0)) (front-take (at-build .build .ensures))
+    (at-blank .blank .ensures)
 
 try-each-requires : tie.Need-try-each-requires
 try-each-requires c κs =
-    let filled = c .before .before .before in
-    let blank = filled .before .before .before in
-    let b = blank .before .before .before .before in
-    let p = ys-known b .before .before .pre in
-    let size = filled .fill .kept .1 .1 .1 .0 ∙ blank .blank .ensures in
+    let at-fill = c .before .before .before in
+    let at-blank = at-fill .before .before .before in
+    let at-total-of = at-blank .before in
+    let at-build = at-total-of .before .before .before in
+    let at-ys = ys-known at-build in
+    let entry = at-ys .before .before in
+    let p = entry .pre in
+    let size = at-fill .fill .kept .1 .1 .1 .0 ∙ at-blank .blank .ensures in
     record {
-      given = tree-measured _ _ _ _ _ _ _ (p .0) (b .build .ensures) (blank .before .total-of .ensures) size (filled .fill .ensures);
+      given = tree-measured _ _ _ _ _ _ _ (p .0) (at-build .build .ensures) (at-total-of .total-of .ensures) size (at-fill .fill .ensures);
       both = p .1;
       fits = p .2;
     }

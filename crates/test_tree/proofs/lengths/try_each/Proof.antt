@@ -19,6 +19,34 @@ Inv-loop xs ys n table plain cx cy out₀ gaps₀ ranks₀ i₀ out gaps ranks i
 abbrev μ-loop : tie.MeasureT-loop
 μ-loop xs ys n table plain cx cy out₀ gaps₀ ranks₀ i₀ out gaps ranks i = length cx - i
 
+loop-again : tie.Need-loop-again Inv-loop μ-loop
+loop-again c =
+    let at-length-at = c .before .before in
+    let at-slice = at-length-at .before .before .before in
+    let at-loop = at-slice .before .before .before in
+    let at-out = at-loop .before .before in
+    let at-table = at-out .before .before .before in
+    let entry = at-table .before .before .before in
+    let p = entry .pre in (
+      omega arith,
+      search needs,
+      search needs,
+      search needs,
+      row-more _ _ _ _ _ (omega (arith, p .fits)) (at-loop .loop .inv .4)
+          (at-length-at .length-at .ensures),
+    )
+
+returns : tie.Need-returns Inv-loop μ-loop
+returns c =
+    let at-loop = c .before in
+    let at-out = at-loop .before .before in
+    let at-table = at-out .before .before .before in
+    let entry = at-table .before .before .before in
+    let l = at-loop .loop in
+    let a = entry .args in
+    let e : l .i ≡ length (a .cx .now) = omega arith in
+    l .inv .4 ∙ ap (λ i. lengthsWith (a .xs .now) (a .ys .now) (a .n) (a .cx .now) (a .cy .now) i ++ drop i (a .out .now)) e
+
 pub try-each-spec : {M : Type 1} → statement M
 try-each-spec =
     tie.close
@@ -33,21 +61,11 @@ try-each-spec =
     (λ c. search needs)
     (λ c. search needs)
     (λ c. search needs)
-    (λ c κs.
-    let l = c .before .before .before .before .before in
-    (l .before .before .before .before .before .before .before .before .pre .given, search needs, search needs))
+    (λ c κs. search needs)
     (λ c. search needs)
     (λ c. search needs)
     (λ c. search needs)
     (λ c. search needs)
-    (λ c.
-    let called = c .before .before in
-    let l = called .before .before .before .before .before .before in
-    let p = l .before .before .before .before .before .before .before .before .pre in
-    (omega arith, search needs, search needs, search needs, row-more _ _ _ _ _ (omega (arith, p .fits)) (l .loop .inv .4) (called .length-at .ensures)))
+    loop-again
     (λ c. search needs)
-    (λ c.
-    let l = c .before .loop in
-    let a = c .before .before .before .before .before .before .before .before .before .args in
-    let e : l .i ≡ length (a .cx .now) = omega arith in
-    l .inv .4 ∙ ap (λ i. lengthsWith (a .xs .now) (a .ys .now) (a .n) (a .cx .now) (a .cy .now) i ++ drop i (a .out .now)) e))
+    returns)

@@ -20,54 +20,22 @@ abbrev μ-loop : tie.MeasureT-loop
 loop-holds : tie.Need-loop-holds Inv-loop μ-loop
 loop-holds c = (omega arith, rises-one _)
 
-sub-is-lower : tie.Need-sub-is-lower Inv-loop μ-loop
-sub-is-lower c = search needs
-
-mul-is-lower : tie.Need-mul-is-lower Inv-loop μ-loop
-mul-is-lower c = search needs
-
-shared-slice-read-is-lower : tie.Need-shared-slice-read-is-lower Inv-loop μ-loop
-shared-slice-read-is-lower c = search needs
-
-sub-is-lower-2 : tie.Need-sub-is-lower-2 Inv-loop μ-loop
-sub-is-lower-2 c = search needs
-
-mul-is-lower-2 : tie.Need-mul-is-lower-2 Inv-loop μ-loop
-mul-is-lower-2 c = search needs
-
-shared-slice-read-is-lower-2 : tie.Need-shared-slice-read-is-lower-2 Inv-loop μ-loop
-shared-slice-read-is-lower-2 c = search needs
-
-mul-is-lower-3 : tie.Need-mul-is-lower-3 Inv-loop μ-loop
-mul-is-lower-3 c = search needs
-
-shared-slice-read-is-lower-3 : tie.Need-shared-slice-read-is-lower-3 Inv-loop μ-loop
-shared-slice-read-is-lower-3 c = search needs
-
-mul-is-lower-4 : tie.Need-mul-is-lower-4 Inv-loop μ-loop
-mul-is-lower-4 c = search needs
-
-shared-slice-read-is-lower-4 : tie.Need-shared-slice-read-is-lower-4 Inv-loop μ-loop
-shared-slice-read-is-lower-4 c = search needs
-
-is-lower-requires : tie.Need-is-lower-requires Inv-loop μ-loop
-is-lower-requires c κs = search needs
-
 returns : tie.Need-returns Inv-loop μ-loop
 returns c =
-    let l = c .before .before .before .before .before .before .before in
-    says-no refl (rises-not _ _ _ (l .loop .inv .0) (omega arith) (sym (c .before .is-lower .ensures) ∙ not-true _ (c .if1 .taken)))
-
-add-i : tie.Need-add-i Inv-loop μ-loop
-add-i c = search needs
-
-loop-less : tie.Need-loop-less Inv-loop μ-loop
-loop-less c = search needs
+    let at-is-lower = c .before in
+    let at-slice = at-is-lower .before .before .before in
+    let at-loop = at-slice .before .before .before in
+    says-no refl (rises-not _ _ _ (at-loop .loop .inv .0) (omega arith) (sym (at-is-lower .is-lower .ensures) ∙ not-true _ (c .if1 .taken)))
 
 loop-again : tie.Need-loop-again Inv-loop μ-loop
 loop-again c =
-    let l = c .before .before .before .before .before .before .before in
-    (omega arith, rises-more _ _ (l .loop .inv .0) (l .loop .inv .1) (subst T (sym (sym (c .before .is-lower .ensures) ∙ not-false _ (c .if1 .left))) tt))
+    let at-is-lower = c .before in
+    let at-slice = at-is-lower .before .before .before in
+    let at-loop = at-slice .before .before .before in (
+      omega arith,
+      rises-more _ _ (at-loop .loop .inv .0) (at-loop .loop .inv .1)
+          (subst T (sym (sym (at-is-lower .is-lower .ensures) ∙ not-false _ (c .if1 .left))) tt),
+    )
 
 returns-2 : tie.Need-returns-2 Inv-loop μ-loop
 returns-2 c = says-yes refl (rises-fewer _ _ _ (c .loop-test .left) (c .before .loop .inv .1))
@@ -79,19 +47,19 @@ rises-spec =
     Inv-loop
     μ-loop
     loop-holds
-    sub-is-lower
-    mul-is-lower
-    shared-slice-read-is-lower
-    sub-is-lower-2
-    mul-is-lower-2
-    shared-slice-read-is-lower-2
-    mul-is-lower-3
-    shared-slice-read-is-lower-3
-    mul-is-lower-4
-    shared-slice-read-is-lower-4
-    is-lower-requires
+    (λ c. search needs)
+    (λ c. search needs)
+    (λ c. search needs)
+    (λ c. search needs)
+    (λ c. search needs)
+    (λ c. search needs)
+    (λ c. search needs)
+    (λ c. search needs)
+    (λ c. search needs)
+    (λ c. search needs)
+    (λ c κs. search needs)
     returns
-    add-i
-    loop-less
+    (λ c. search needs)
+    (λ c. search needs)
     loop-again
     returns-2)

@@ -1,8 +1,9 @@
 -- `tree::kruskal::span` meets its contract. The invariant: the labels are those of the keys kept so far, and these, with what Kruskal's
 -- method keeps of the rest, are all that it keeps. A key between two labels is kept, and one within a label is skipped.
-use mathlib.Core.Path.{refl, sym}
+use mathlib.Core.Path.{refl}
 use Prim.Native.Nat.{_-_}
 use native.Mathlib.Omega.{arith}
+use borrow.Author.Needs.{needs}
 use Rattle.tree.proofs.kruskal.Labels.{labels-none}
 use Rattle.tree.proofs.kruskal.Pass.{Pass, pass-none, pass-skip, pass-keep, pass-end}
 use Rattle.tree.proofs.kruskal.span.Statement.{statement}
@@ -17,26 +18,25 @@ abbrev μ-loop : tie.MeasureT-loop
 loop-holds : tie.Need-loop-holds Inv-loop μ-loop
 loop-holds c = pass-none (labels-none (c .before .separate .kept .0) (c .before .separate .ensures))
 
-slice-aggregate-relabel : tie.Need-slice-aggregate-relabel Inv-loop μ-loop
-slice-aggregate-relabel c = sym (c .before .before .before .before .before .before .loop .inv .labelled .size)
-
-relabel-requires : tie.Need-relabel-requires Inv-loop μ-loop
-relabel-requires c κs = c .before .before .before .before .before .before .loop .inv .labelled .size
-
 loop-again : tie.Need-loop-again Inv-loop μ-loop
 loop-again c =
-    let test = c .before .before .before in
-    let read = test .before .before in
-    let head = read .before .before .before in
-    let pre = head .before .before .before .before .before .before .pre in
-    pass-keep (head .loop .inv) (pre .0) (omega arith) _ refl (read .low .ensures) (test .before .high .ensures) (pre .1) (test .if1 .taken)
-    (c .before .relabel .kept .0) (c .before .relabel .ensures)
+    let at-relabel = c .before in
+    let at-test = at-relabel .before .before in
+    let at-low = at-test .before .before in
+    let at-loop = at-low .before .before .before in
+    let at-labels = at-loop .before .before .before in
+    let entry = at-labels .before .before .before in
+    let pre = entry .pre in
+    pass-keep (at-loop .loop .inv) (pre .0) (omega arith) _ refl (at-low .low .ensures) (at-test .before .high .ensures) (pre .1) (at-test .if1 .taken)
+    (at-relabel .relabel .kept .0) (at-relabel .relabel .ensures)
 
 loop-again-2 : tie.Need-loop-again-2 Inv-loop μ-loop
 loop-again-2 c =
-    let read = c .before .before in
-    let head = read .before .before .before in
-    pass-skip (head .loop .inv) (head .before .before .before .before .before .before .pre .0) (omega arith) _ refl (read .low .ensures)
+    let at-low = c .before .before in
+    let at-loop = at-low .before .before .before in
+    let at-labels = at-loop .before .before .before in
+    let entry = at-labels .before .before .before in
+    pass-skip (at-loop .loop .inv) (entry .pre .0) (omega arith) _ refl (at-low .low .ensures)
     (c .before .high .ensures) (c .if1 .left)
 
 pub span-spec : {M : Type 1} → statement M
@@ -58,8 +58,8 @@ span-spec =
     (λ c. omega arith)
     (λ c. omega arith)
     (λ c. omega arith)
-    slice-aggregate-relabel
-    relabel-requires
+    (λ c. search needs)
+    (λ c κs. search needs)
     (λ c. omega arith)
     loop-again
     (λ c. omega arith)

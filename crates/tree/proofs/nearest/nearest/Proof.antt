@@ -23,16 +23,23 @@ loop-holds c = search needs
 
 loop-again : tie.Need-loop-again Inv-loop μ-loop
 loop-again c =
-    let at = c .before .before .before .before .before .before .before .before .before in
-    let a = at .before .before .before .args in
+    let at-key = c .before in
+    let at-distance = at-key .before in
+    let at-octant-between = at-distance .before .before .before in
+    let at-loop-test = at-octant-between .before .before .before in
+    let at-loop = at-loop-test .before in
+    let entry = at-loop .before .before .before in
+    let a = entry .args in
     let h = held (a .xs .now) (a .ys .now) in
-    let o = c .before .before .before .before .before .octant-between in (
+    let o = at-octant-between .octant-between in (
       search needs,
       ⊎-elim
-          (λ w. point-in-octant h (pointAt (a .x) (a .y)) (a .n) (at .loop .j) (o .result) (o .ensures .0) (at .loop .best) (c .if1 .best) (at .loop .inv .1)
-          (c .before .key .result) (w .1 .result) (search needs)
-          (c .before .key .ensures ∙ ap (λ (d : ℕ). key d (at .loop .j) (a .n)) (c .before .before .distance .ensures .0)) (w .1 .ensures) (w .2))
-          (λ w. point-in-none h (pointAt (a .x) (a .y)) (a .n) (at .loop .j) (o .result) (o .ensures .0) (at .loop .best) (c .if1 .best) (at .loop .inv .1)
+          (λ w. point-in-octant h (pointAt (a .x) (a .y)) (a .n) (at-loop .loop .j) (o .result) (o .ensures .0) (at-loop .loop .best) (c .if1 .best)
+          (at-loop .loop .inv .1)
+          (at-key .key .result) (w .1 .result) (search needs)
+          (at-key .key .ensures ∙ ap (λ (d : ℕ). key d (at-loop .loop .j) (a .n)) (at-distance .distance .ensures .0)) (w .1 .ensures) (w .2))
+          (λ w. point-in-none h (pointAt (a .x) (a .y)) (a .n) (at-loop .loop .j) (o .result) (o .ensures .0) (at-loop .loop .best) (c .if1 .best)
+          (at-loop .loop .inv .1)
           (search needs) (w .1))
           (c .if1 .came),
     )
@@ -40,8 +47,10 @@ loop-again c =
 returns : tie.Need-returns Inv-loop μ-loop
 unfolding octantKeys
 returns c =
-    let at = c .before .loop in
-    let a = c .before .before .before .before .args in
+    let at-loop = c .before in
+    let entry = at-loop .before .before .before in
+    let at = at-loop .loop in
+    let a = entry .args in
     at .inv .1 ∙ ap (λ (j : ℕ). tab (λ (o : ℕ). leastKey (held (a .xs .now) (a .ys .now)) (pointAt (a .x) (a .y)) (a .n) o j) 8) (omega arith)
 
 pub nearest-spec : {M : Type 1} → statement M

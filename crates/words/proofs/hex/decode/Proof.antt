@@ -24,69 +24,57 @@ same-length c = let l = c .before .before .loop in decoding.same-length _ _ _ (l
 returns : tie.Need-returns Inv-loop μ-loop
 returns c = let l = c .before .before .loop in decoded-all _ _ _ (l .i) (l .k) (l .inv) (c .if1 .taken)
 
-shared-slice-read-digit : tie.Need-shared-slice-read-digit Inv-loop μ-loop
-shared-slice-read-digit c = omega arith
-
-digit-requires : tie.Need-digit-requires Inv-loop μ-loop
-digit-requires c κs = search needs
-
 add-digit : tie.Need-add-digit Inv-loop μ-loop
 add-digit c =
-    let t = c .before .before in
-    let l = t .before .before in
-    let s = step-at (l .before .before .before .args .word .now) (l .loop .i) (t .if1 .left) (l .loop .inv .hex) in
+    let at-test = c .before .before in
+    let at-loop = at-test .before .before in
+    let entry = at-loop .before .before .before in
+    let s = step-at (entry .args .word .now) (at-loop .loop .i) (at-test .if1 .left) (at-loop .loop .inv .hex) in
     omega (arith, s .long)
 
 shared-slice-read-digit-2 : tie.Need-shared-slice-read-digit-2 Inv-loop μ-loop
 shared-slice-read-digit-2 c =
-    let t = c .before .before .before in
-    let l = t .before .before in
-    let s = step-at (l .before .before .before .args .word .now) (l .loop .i) (t .if1 .left) (l .loop .inv .hex) in
+    let at-test = c .before .before .before in
+    let at-loop = at-test .before .before in
+    let entry = at-loop .before .before .before in
+    let s = step-at (entry .args .word .now) (at-loop .loop .i) (at-test .if1 .left) (at-loop .loop .inv .hex) in
     omega (arith, s .long)
-
-digit-requires-2 : tie.Need-digit-requires-2 Inv-loop μ-loop
-digit-requires-2 c κs = search needs
 
 mul-out : tie.Need-mul-out Inv-loop μ-loop
 mul-out c =
-    let t = c .before .before .before .before in
-    let l = t .before .before in
-    let s = step-at (l .before .before .before .args .word .now) (l .loop .i) (t .if1 .left) (l .loop .inv .hex) in
-    omega (arith, s .high, c .before .before .digit .ensures .0)
+    let at-digit = c .before .before in
+    let at-test = at-digit .before .before in
+    let at-loop = at-test .before .before in
+    let entry = at-loop .before .before .before in
+    let s = step-at (entry .args .word .now) (at-loop .loop .i) (at-test .if1 .left) (at-loop .loop .inv .hex) in
+    omega (arith, s .high, at-digit .digit .ensures .0)
 
 add-out : tie.Need-add-out Inv-loop μ-loop
 add-out c =
-    let t = c .before .before .before .before in
-    let l = t .before .before in
-    let s = step-at (l .before .before .before .args .word .now) (l .loop .i) (t .if1 .left) (l .loop .inv .hex) in
-    omega (arith, s .high, s .low, c .before .before .digit .ensures .0, c .digit2 .ensures .0)
-
-slice-write-out : tie.Need-slice-write-out Inv-loop μ-loop
-slice-write-out c = search needs
-
-add-i : tie.Need-add-i Inv-loop μ-loop
-add-i c =
-    let t = c .before .before .before .before in
-    let l = t .before .before in
-    let s = step-at (l .before .before .before .args .word .now) (l .loop .i) (t .if1 .left) (l .loop .inv .hex) in
-    omega (arith, s .long)
-
-add-k : tie.Need-add-k Inv-loop μ-loop
-add-k c = omega arith
+    let at-digit = c .before .before in
+    let at-test = at-digit .before .before in
+    let at-loop = at-test .before .before in
+    let entry = at-loop .before .before .before in
+    let s = step-at (entry .args .word .now) (at-loop .loop .i) (at-test .if1 .left) (at-loop .loop .inv .hex) in
+    omega (arith, s .high, s .low, at-digit .digit .ensures .0, c .digit2 .ensures .0)
 
 loop-less : tie.Need-loop-less Inv-loop μ-loop
 loop-less c =
-    let l = c .before .before .before .before .before .before in
-    let s = l .before .before .before .args in
-    let e = decoding.same-length (s .word .now) (s .out .now) (l .loop .out) (l .loop .i) (l .loop .k) (l .loop .inv) in
+    let at-slice = c .before .before .before in
+    let at-loop = at-slice .before .before .before in
+    let entry = at-loop .before .before .before in
+    let s = entry .args in
+    let e = decoding.same-length (s .word .now) (s .out .now) (at-loop .loop .out) (at-loop .loop .i) (at-loop .loop .k) (at-loop .loop .inv) in
     omega arith
 
 loop-again : tie.Need-loop-again Inv-loop μ-loop
 loop-again c =
-    let t = c .before .before .before .before in
-    let l = t .before .before .loop in
-    decoded-more _ _ _ (l .i) (l .k) (l .inv) _ _ (c .before .before .digit .ensures .0) (c .digit2 .ensures .0) (t .if1 .left)
-    (t .before .loop-test .taken)
+    let at-digit = c .before .before in
+    let at-test = at-digit .before .before in
+    let at-loop = at-test .before .before in
+    let l = at-loop .loop in
+    decoded-more _ _ _ (l .i) (l .k) (l .inv) _ _ (at-digit .digit .ensures .0) (c .digit2 .ensures .0) (at-test .if1 .left)
+    (at-test .before .loop-test .taken)
 
 same-length-2 : tie.Need-same-length-2 Inv-loop μ-loop
 same-length-2 c = let l = c .before .loop in decoding.same-length _ _ _ (l .i) (l .k) (l .inv)
@@ -103,16 +91,16 @@ decode-spec =
     loop-holds
     same-length
     returns
-    shared-slice-read-digit
-    digit-requires
+    (λ c. omega arith)
+    (λ c κs. search needs)
     add-digit
     shared-slice-read-digit-2
-    digit-requires-2
+    (λ c κs. search needs)
     mul-out
     add-out
-    slice-write-out
-    add-i
-    add-k
+    (λ c. search needs)
+    (λ c. search needs)
+    (λ c. omega arith)
     loop-less
     loop-again
     same-length-2

@@ -5,43 +5,27 @@ use Rattle.words.proofs.hex.Pairs.{digit-decimal, digit-upper, digit-lo
 use Rattle.words.proofs.hex.digit.Statement.{statement}
 use Rattle.words.proofs.hex.digit.Tie as tie
 
-sub-result : tie.Need-sub-result
-sub-result c = search needs
-
-sub-result-2 : tie.Need-sub-result-2
-sub-result-2 c = search needs
-
 returns : tie.Need-returns
-returns c = (digit-decimal (c .before .before .args .b) (omega arith) (omega arith), omega arith)
+returns c = (digit-decimal _ (omega arith) (omega arith), omega arith)
 
 returns-2 : tie.Need-returns-2
-returns-2 c = (digit-upper (c .before .before .before .before .args .b) (omega arith) (omega arith), omega arith)
+returns-2 c = (digit-upper _ (omega arith) (omega arith), omega arith)
 
 returns-3 : tie.Need-returns-3
-returns-3 c = (digit-lower (c .before .before .before .before .before .before .args .b) (omega arith) (omega arith), omega arith)
+returns-3 c = (digit-lower _ (omega arith) (omega arith), omega arith)
 
 returns-4 : tie.Need-returns-4
-returns-4 c = (digit-none (c .before .args .b) (λ h. omega arith) (λ h. omega arith) (λ h. omega arith), omega arith)
+returns-4 c = (digit-none _ (λ h. omega arith) (λ h. omega arith) (λ h. omega arith), omega arith)
 
 returns-5 : tie.Need-returns-5
-returns-5 c = (digit-none (c .before .before .before .args .b) (λ h. omega arith) (λ h. omega arith) (λ h. omega arith), omega arith)
+returns-5 c = (digit-none _ (λ h. omega arith) (λ h. omega arith) (λ h. omega arith), omega arith)
 
 returns-6 : tie.Need-returns-6
-returns-6 c = (digit-none (c .before .before .before .before .before .args .b) (λ h. omega arith) (λ h. omega arith) (λ h. omega arith), omega arith)
+returns-6 c = (digit-none _ (λ h. omega arith) (λ h. omega arith) (λ h. omega arith), omega arith)
 
 returns-7 : tie.Need-returns-7
-returns-7 c = (digit-none (c .before .before .before .before .before .before .args .b) (λ h. omega arith) (λ h. omega arith) (λ h. omega arith), omega arith)
+returns-7 c = (digit-none _ (λ h. omega arith) (λ h. omega arith) (λ h. omega arith), omega arith)
 
 pub digit-spec : {M : Type 1} → statement M
 digit-spec =
-    tie.close
-    (tie.spec
-    sub-result
-    sub-result-2
-    returns
-    returns-2
-    returns-3
-    returns-4
-    returns-5
-    returns-6
-    returns-7)
+    tie.close (tie.spec (λ c. search needs) (λ c. search needs) returns returns-2 returns-3 returns-4 returns-5 returns-6 returns-7)

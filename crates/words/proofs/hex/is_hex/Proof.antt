@@ -19,54 +19,39 @@ abbrev μ-loop : tie.MeasureT-loop
 loop-holds : tie.Need-loop-holds Inv-loop μ-loop
 loop-holds c = (omega arith, refl)
 
-add-j : tie.Need-add-j Inv-loop μ-loop
-add-j c = omega arith
-
 returns : tie.Need-returns Inv-loop μ-loop
 returns c = let l = c .before .before .loop in hex-odd _ (l .i) (l .inv .1) (c .before .loop-test .taken) (c .if1 .taken)
 
-shared-slice-read-digit : tie.Need-shared-slice-read-digit Inv-loop μ-loop
-shared-slice-read-digit c = search needs
-
-digit-requires : tie.Need-digit-requires Inv-loop μ-loop
-digit-requires c κs = search needs
-
 returns-2 : tie.Need-returns-2 Inv-loop μ-loop
 returns-2 c =
-    let t1 = c .before .before .before in
-    let l = t1 .before .before .loop in
-    hex-first _ (l .i) (l .inv .1) (t1 .before .loop-test .taken) (t1 .if1 .left) (sym (c .before .digit .ensures .0) ∙ c .if2 .taken)
-
-shared-slice-read-digit-2 : tie.Need-shared-slice-read-digit-2 Inv-loop μ-loop
-shared-slice-read-digit-2 c = omega arith
-
-digit-requires-2 : tie.Need-digit-requires-2 Inv-loop μ-loop
-digit-requires-2 c κs = search needs
+    let at-odd-test = c .before .before .before in
+    let at-loop = at-odd-test .before .before in
+    let l = at-loop .loop in
+    hex-first _ (l .i) (l .inv .1) (at-odd-test .before .loop-test .taken) (at-odd-test .if1 .left) (sym (c .before .digit .ensures .0) ∙ c .if2 .taken)
 
 returns-3 : tie.Need-returns-3 Inv-loop μ-loop
 returns-3 c =
-    let t2 = c .before .before .before in
-    let t1 = t2 .before .before .before in
-    let l = t1 .before .before .loop in
-    hex-second _ (l .i) (l .inv .1) (t1 .before .loop-test .taken) (t1 .if1 .left)
-    (below16 (t2 .before .digit .ensures .0) (t2 .before .digit .ensures .1) (t2 .if2 .left))
+    let at-first-test = c .before .before .before in
+    let at-digit = at-first-test .before in
+    let at-odd-test = at-digit .before .before in
+    let at-loop = at-odd-test .before .before in
+    let l = at-loop .loop in
+    hex-second _ (l .i) (l .inv .1) (at-odd-test .before .loop-test .taken) (at-odd-test .if1 .left)
+    (below16 (at-digit .digit .ensures .0) (at-digit .digit .ensures .1) (at-first-test .if2 .left))
     (sym (c .before .digit2 .ensures .0) ∙ c .if3 .taken)
-
-add-i : tie.Need-add-i Inv-loop μ-loop
-add-i c = omega arith
-
-loop-less : tie.Need-loop-less Inv-loop μ-loop
-loop-less c = omega arith
 
 loop-again : tie.Need-loop-again Inv-loop μ-loop
 loop-again c =
-    let t2 = c .before .before .before in
-    let t1 = t2 .before .before .before in
-    let l = t1 .before .before .loop in
+    let at-digit2 = c .before in
+    let at-first-test = at-digit2 .before .before in
+    let at-digit = at-first-test .before in
+    let at-odd-test = at-digit .before .before in
+    let at-loop = at-odd-test .before .before in
+    let l = at-loop .loop in
     let on =
-    hex-on _ (l .i) (l .inv .1) (t1 .before .loop-test .taken) (t1 .if1 .left)
-    (below16 (t2 .before .digit .ensures .0) (t2 .before .digit .ensures .1) (t2 .if2 .left))
-    (below16 (c .before .digit2 .ensures .0) (c .before .digit2 .ensures .1) (c .if3 .left)) in
+    hex-on _ (l .i) (l .inv .1) (at-odd-test .before .loop-test .taken) (at-odd-test .if1 .left)
+    (below16 (at-digit .digit .ensures .0) (at-digit .digit .ensures .1) (at-first-test .if2 .left))
+    (below16 (at-digit2 .digit2 .ensures .0) (at-digit2 .digit2 .ensures .1) (c .if3 .left)) in
     (omega arith, on)
 
 returns-4 : tie.Need-returns-4 Inv-loop μ-loop
@@ -79,15 +64,15 @@ is-hex-spec =
     Inv-loop
     μ-loop
     loop-holds
-    add-j
+    (λ c. omega arith)
     returns
-    shared-slice-read-digit
-    digit-requires
+    (λ c. search needs)
+    (λ c κs. search needs)
     returns-2
-    shared-slice-read-digit-2
-    digit-requires-2
+    (λ c. omega arith)
+    (λ c κs. search needs)
     returns-3
-    add-i
-    loop-less
+    (λ c. omega arith)
+    (λ c. omega arith)
     loop-again
     returns-4)

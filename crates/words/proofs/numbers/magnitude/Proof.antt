@@ -16,61 +16,46 @@ Inv-loop digits most none v₀ i₀ v i = (v ≤ most) × (magnitudeOf most digi
 abbrev μ-loop : tie.MeasureT-loop
 μ-loop digits most none v₀ i₀ v i = length digits - i
 
-add-none : tie.Need-add-none Inv-loop μ-loop
-add-none c = search needs
-
 returns : tie.Need-returns Inv-loop μ-loop
 returns c = read-none _ _ (c .if1 .taken)
 
 loop-holds : tie.Need-loop-holds Inv-loop μ-loop
 loop-holds c = (omega arith, read-all _ _ (c .if1 .left))
 
-shared-slice-read-b : tie.Need-shared-slice-read-b Inv-loop μ-loop
-shared-slice-read-b c = search needs
-
 returns-2 : tie.Need-returns-2 Inv-loop μ-loop
 returns-2 c =
-    let l = c .before .before .before in
-    read-low _ _ (l .loop .v) (l .loop .i) (l .loop .inv .1) (c .before .before .loop-test .taken) (c .if2 .taken)
+    let at-loop-test = c .before .before in
+    let at-loop = at-loop-test .before in
+    read-low _ _ (at-loop .loop .v) (at-loop .loop .i) (at-loop .loop .inv .1) (at-loop-test .loop-test .taken) (c .if2 .taken)
 
 returns-3 : tie.Need-returns-3 Inv-loop μ-loop
 returns-3 c =
-    let l = c .before .before .before .before in
-    read-high _ _ (l .loop .v) (l .loop .i) (l .loop .inv .1) (c .before .before .before .loop-test .taken) (c .before .if2 .left) (c .if3 .taken)
-
-mul-v : tie.Need-mul-v Inv-loop μ-loop
-mul-v c = omega arith
-
-cast-v : tie.Need-cast-v Inv-loop μ-loop
-cast-v c = omega arith
-
-add-v : tie.Need-add-v Inv-loop μ-loop
-add-v c = omega arith
+    let at-loop-test = c .before .before .before in
+    let at-loop = at-loop-test .before in
+    read-high _ _ (at-loop .loop .v) (at-loop .loop .i) (at-loop .loop .inv .1) (at-loop-test .loop-test .taken) (c .before .if2 .left) (c .if3 .taken)
 
 returns-4 : tie.Need-returns-4 Inv-loop μ-loop
 returns-4 c =
-    let l = c .before .before .before .before .before in
-    read-large _ _ (l .loop .v) (l .loop .i) (l .loop .inv .1) (c .before .before .before .before .loop-test .taken)
-    (c .before .before .if2 .left) (c .before .if3 .left) (c .if4 .taken)
-
-add-i : tie.Need-add-i Inv-loop μ-loop
-add-i c = search needs
-
-loop-less : tie.Need-loop-less Inv-loop μ-loop
-loop-less c = omega arith
+    let at-low-test = c .before .before in
+    let at-loop-test = at-low-test .before .before in
+    let at-loop = at-loop-test .before in
+    read-large _ _ (at-loop .loop .v) (at-loop .loop .i) (at-loop .loop .inv .1) (at-loop-test .loop-test .taken)
+    (at-low-test .if2 .left) (c .before .if3 .left) (c .if4 .taken)
 
 loop-again : tie.Need-loop-again Inv-loop μ-loop
 loop-again c =
-    let l = c .before .before .before .before .before in (
+    let at-low-test = c .before .before in
+    let at-loop-test = at-low-test .before .before in
+    let at-loop = at-loop-test .before in (
       c .if4 .left,
-      read-on _ _ (l .loop .v) (l .loop .i) (l .loop .inv .1) (c .before .before .before .before .loop-test .taken)
-          (c .before .before .if2 .left) (c .before .if3 .left) (c .if4 .left),
+      read-on _ _ (at-loop .loop .v) (at-loop .loop .i) (at-loop .loop .inv .1) (at-loop-test .loop-test .taken)
+          (at-low-test .if2 .left) (c .before .if3 .left) (c .if4 .left),
     )
 
 returns-5 : tie.Need-returns-5 Inv-loop μ-loop
 returns-5 c =
-    let l = c .before in
-    read-end _ _ (l .loop .v) (l .loop .i) (l .loop .inv .1) (c .loop-test .left)
+    let at-loop = c .before in
+    read-end _ _ (at-loop .loop .v) (at-loop .loop .i) (at-loop .loop .inv .1) (c .loop-test .left)
 
 pub magnitude-spec : {M : Type 1} → statement M
 magnitude-spec =
@@ -78,17 +63,17 @@ magnitude-spec =
     (tie.spec
     Inv-loop
     μ-loop
-    add-none
+    (λ c. search needs)
     returns
     loop-holds
-    shared-slice-read-b
+    (λ c. search needs)
     returns-2
     returns-3
-    mul-v
-    cast-v
-    add-v
+    (λ c. omega arith)
+    (λ c. omega arith)
+    (λ c. omega arith)
     returns-4
-    add-i
-    loop-less
+    (λ c. search needs)
+    (λ c. omega arith)
     loop-again
     returns-5)

@@ -10,9 +10,6 @@ use Rattle.words.proofs.numbers.Digits.{minus-is, minus-fits}
 use Rattle.words.proofs.numbers.negated.Statement.{statement}
 use Rattle.words.proofs.numbers.negated.Tie as tie
 
-cast-result : tie.Need-cast-result
-cast-result c = search needs
-
 -- The difference as it is computed.
 read : (c : tie.Start) → pos 0 -ℤ toZ w64 (c .args .m) ≡ negℤ (pos (c .args .m))
 read c = ap (λ (z : ℤ). pos 0 -ℤ z) (toZ-pos w64 (c .args .m) (omega arith)) ∙ minus-is (c .args .m)
@@ -31,4 +28,4 @@ returns : tie.Need-returns
 returns c = toZ-ofZ w32 _ (cast-result-2 c) ∙ back c
 
 pub negated-spec : {M : Type 1} → statement M
-negated-spec = tie.close (tie.spec cast-result sub-result cast-result-2 returns)
+negated-spec = tie.close (tie.spec (λ c. search needs) sub-result cast-result-2 returns)

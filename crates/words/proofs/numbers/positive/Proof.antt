@@ -6,11 +6,8 @@ use mir.ValLaws.{toZ-pos}
 use Rattle.words.proofs.numbers.positive.Statement.{statement}
 use Rattle.words.proofs.numbers.positive.Tie as tie
 
-cast-result : tie.Need-cast-result
-cast-result c = search needs
-
 returns : tie.Need-returns
 returns c = toZ-pos w32 (c .args .m) (omega arith)
 
 pub positive-spec : {M : Type 1} → statement M
-positive-spec = tie.close (tie.spec cast-result returns)
+positive-spec = tie.close (tie.spec (λ c. search needs) returns)

@@ -4,19 +4,11 @@ use Rattle.words.proofs.numbers.Digits.{size-none, size-negative, size-
 use Rattle.words.proofs.numbers.size_of.Statement.{statement}
 use Rattle.words.proofs.numbers.size_of.Tie as tie
 
-number-of-requires : tie.Need-number-of-requires
-number-of-requires c κs = search needs
-
-enum-told : tie.Need-enum-told
-enum-told c = search needs
-
-enum-known-z : tie.Need-enum-known-z
-enum-known-z c = search needs
-
 returns : tie.Need-returns
 returns c =
-    let known = c .before .before in
-    size-negative _ _ _ (known .before .before .number-of .ensures) (known .z .given .1) (record { sfits = c .before .known-told .given .0 .1 })
+    let at-z = c .before .before in
+    let at-number-of = at-z .before .before in
+    size-negative _ _ _ (at-number-of .number-of .ensures) (at-z .z .given .1) (record { sfits = c .before .known-told .given .0 .1 })
     (c .if1 .taken)
 
 cast-t6 : tie.Need-cast-t6
@@ -27,11 +19,12 @@ returns-2 c = size-none _ _ (c .before .before .number-of .ensures) (c .enum-tol
 
 returns-3 : tie.Need-returns-3
 returns-3 c =
-    let known = c .before .before in
-    size-some _ _ _ (known .before .before .number-of .ensures) (known .z .given .1) (record { sfits = c .before .known-told .given .0 .1 })
+    let at-z = c .before .before in
+    let at-number-of = at-z .before .before in
+    size-some _ _ _ (at-number-of .number-of .ensures) (at-z .z .given .1) (record { sfits = c .before .known-told .given .0 .1 })
     (c .if1 .left)
 
 pub size-of-spec : {M : Type 1} → statement M
 size-of-spec =
     tie.close
-    (tie.spec number-of-requires enum-told enum-known-z returns cast-t6 returns-2 returns-3)
+    (tie.spec (λ c κs. search needs) (λ c. search needs) (λ c. search needs) returns cast-t6 returns-2 returns-3)

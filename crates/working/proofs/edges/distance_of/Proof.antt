@@ -6,24 +6,6 @@ use borrow.Author.Needs.{needs}
 use Rattle.working.proofs.edges.distance_of.Statement.{statement}
 use Rattle.working.proofs.edges.distance_of.Tie as tie
 
-x-of-requires : tie.Need-x-of-requires
-x-of-requires c κs = search needs
-
-y-of-requires : tie.Need-y-of-requires
-y-of-requires c κs = search needs
-
-x-of-requires-2 : tie.Need-x-of-requires-2
-x-of-requires-2 c κs = search needs
-
-y-of-requires-2 : tie.Need-y-of-requires-2
-y-of-requires-2 c κs = search needs
-
-distance-requires : tie.Need-distance-requires
-distance-requires c κs = search needs
-
-cast-result : tie.Need-cast-result
-cast-result c = search needs
-
 returns : tie.Need-returns
 returns c =
     let at-y2 = c .before in
@@ -37,10 +19,10 @@ pub distance-of-spec : {M : Type 1} → statement M
 distance-of-spec =
     tie.close
     (tie.spec
-    x-of-requires
-    y-of-requires
-    x-of-requires-2
-    y-of-requires-2
-    distance-requires
-    cast-result
+    (λ c κs. search needs)
+    (λ c κs. search needs)
+    (λ c κs. search needs)
+    (λ c κs. search needs)
+    (λ c κs. search needs)
+    (λ c. search needs)
     returns)

@@ -7,23 +7,19 @@ use Rattle.working.proofs.edges.Numbers.{row-is}
 use Rattle.working.proofs.edges.edge_numbers.Statement.{statement}
 use Rattle.working.proofs.edges.edge_numbers.Tie as tie
 
-slice-aggregate-listing : tie.Need-slice-aggregate-listing
-slice-aggregate-listing c = search needs
-
-slice-aggregate-listing-2 : tie.Need-slice-aggregate-listing-2
-slice-aggregate-listing-2 c = search needs
-
 listing-requires : tie.Need-listing-requires
 listing-requires c κs =
-    let s = c .before .before .before in
-    let h : length (s .args .w .keys) ≡ 136 = search needs in
-    (omega (arith, s .pre .keysFew), omega (arith, s .pre .keysFew))
+    let entry = c .before .before .before in
+    let h : length (entry .args .w .keys) ≡ 136 = search needs in
+    (omega (arith, entry .pre .keysFew), omega (arith, entry .pre .keysFew))
 
 returns : tie.Need-returns
 returns c =
-    let listed = c .before in
-    row-is _ (listed .before .before .before .before .pre) _ _ (listed .listing .ensures)
+    let at-listing = c .before in
+    let at-ends = at-listing .before in
+    let entry = at-ends .before .before .before in
+    row-is _ (entry .pre) _ _ (at-listing .listing .ensures)
 
 pub edge-numbers-spec : {M : Type 1} → statement M
 edge-numbers-spec =
-    tie.close (tie.spec slice-aggregate-listing slice-aggregate-listing-2 listing-requires returns)
+    tie.close (tie.spec (λ c. search needs) (λ c. search needs) listing-requires returns)

@@ -6,22 +6,18 @@ use borrow.Author.Needs.{needs}
 use Rattle.working.proofs.prune.lowest_weak.Statement.{statement}
 use Rattle.working.proofs.prune.lowest_weak.Tie as tie
 
-slice-aggregate-first-weak : tie.Need-slice-aggregate-first-weak
-slice-aggregate-first-weak c = search needs
+codes-sized : (entry : tie.Start) → length (entry .args .w .codes) ≡ 128
+codes-sized entry = search needs
 
-slice-aggregate-first-weak-2 : tie.Need-slice-aggregate-first-weak-2
-slice-aggregate-first-weak-2 c = search needs
-
-slice-aggregate-first-weak-3 : tie.Need-slice-aggregate-first-weak-3
-slice-aggregate-first-weak-3 c = search needs
+keys-sized : (entry : tie.Start) → length (entry .args .w .keys) ≡ 136
+keys-sized entry = search needs
 
 first-weak-requires : tie.Need-first-weak-requires
 first-weak-requires c κs =
-    let p = c .before .before .before .before .before .before .pre in
-    let w = c .before .before .before .before .before .before .args .w in
-    let hc : length (w .codes) ≡ 128 = search needs in
-    let hk : length (w .keys) ≡ 136 = search needs in
-    (omega (arith, p .few), omega (arith, p .keysFew), omega (arith, p .arranged .steinerCodes .few, p .arranged .steinerCodes .size))
+    let at-steiner = c .before .before .before in
+    let entry = at-steiner .before .before .before in
+    let row = entry .pre .arranged .steinerCodes in
+    (omega (arith, entry .pre .few, codes-sized entry), omega (arith, entry .pre .keysFew, keys-sized entry), omega (arith, row .few, row .size))
 
 returns : tie.Need-returns
 returns c = search needs
@@ -30,8 +26,8 @@ pub lowest-weak-spec : {M : Type 1} → statement M
 lowest-weak-spec =
     tie.close
     (tie.spec
-    slice-aggregate-first-weak
-    slice-aggregate-first-weak-2
-    slice-aggregate-first-weak-3
+    (λ c. search needs)
+    (λ c. search needs)
+    (λ c. search needs)
     first-weak-requires
     returns)

@@ -25,9 +25,6 @@ lowest-weak-requires c κs = c .arrange .ensures .0
 loop-holds : tie.Need-loop-holds Inv-loop μ-loop
 loop-holds c = sweeping-start _ _ _ (c .before .arrange .ensures .0, refl) (c .lowest-weak .ensures)
 
-mul-k : tie.Need-mul-k Inv-loop μ-loop
-mul-k c = search needs
-
 array-read-k : tie.Need-array-read-k Inv-loop μ-loop
 array-read-k c =
     let l = c .before .before .before .loop in
@@ -46,24 +43,28 @@ lowest-weak-requires-2 c κs = c .arrange2 .ensures .0
 
 loop-less : tie.Need-loop-less Inv-loop μ-loop
 loop-less c =
-    let left = c .before .before in
-    let l = left .before .before .before .before in
-    let kept : c .before .arrange2 .result .points ≡ left .without-steiner .result = c .before .arrange2 .ensures .1 in
-    let same : c .before .arrange2 .result .points .nsteiner ≡ left .without-steiner .result .nsteiner = λ i. kept i .nsteiner in
-    omega (arith, same, sweeping-less _ _ _ (l .loop .inv) _ (left .before .before .if1 .taken) refl _ (left .without-steiner .ensures))
+    let at-arrange2 = c .before in
+    let at-without-steiner = at-arrange2 .before in
+    let at-test = at-without-steiner .before .before in
+    let at-loop = at-test .before .before in
+    let kept : at-arrange2 .arrange2 .result .points ≡ at-without-steiner .without-steiner .result = at-arrange2 .arrange2 .ensures .1 in
+    let same : at-arrange2 .arrange2 .result .points .nsteiner ≡ at-without-steiner .without-steiner .result .nsteiner = λ i. kept i .nsteiner in
+    omega (arith, same, sweeping-less _ _ _ (at-loop .loop .inv) _ (at-test .if1 .taken) refl _ (at-without-steiner .without-steiner .ensures))
 
 loop-again : tie.Need-loop-again Inv-loop μ-loop
 loop-again c =
-    let left = c .before .before in
-    let l = left .before .before .before .before in
-    sweeping-more _ _ _ (l .loop .inv) _ (left .before .before .if1 .taken) refl _ (left .without-steiner .ensures) _ _ (c .before .arrange2 .ensures)
+    let at-without-steiner = c .before .before in
+    let at-test = at-without-steiner .before .before in
+    let at-loop = at-test .before .before in
+    sweeping-more _ _ _ (at-loop .loop .inv) _ (at-test .if1 .taken) refl _ (at-without-steiner .without-steiner .ensures) _ _ (c .before .arrange2 .ensures)
     (c .lowest-weak2 .ensures)
 
 returns : tie.Need-returns Inv-loop μ-loop
 returns c =
-    let first = c .before .before .before .before in
-    let swept = sweeping-end _ _ _ (c .before .before .loop .inv) (c .if1 .left) in
-    (swept .0, swept .1 ∙ ap (λ (q : Points). prune (stateOf q)) (first .arrange .ensures .1))
+    let at-loop = c .before .before in
+    let at-arrange = at-loop .before .before in
+    let swept = sweeping-end _ _ _ (at-loop .loop .inv) (c .if1 .left) in
+    (swept .0, swept .1 ∙ ap (λ (q : Points). prune (stateOf q)) (at-arrange .arrange .ensures .1))
 
 pub prune-spec : {M : Type 1} → statement M
 prune-spec =
@@ -74,7 +75,7 @@ prune-spec =
     arrange-requires
     lowest-weak-requires
     loop-holds
-    mul-k
+    (λ c. search needs)
     array-read-k
     without-steiner-requires
     arrange-requires-2
