@@ -61,17 +61,17 @@ abbrev pub octantText : ℤ → ℤ → List ℕ
 octantText x y = let k = octant x y in if (eqb k octantCount) (λ _. errorWord) (λ _. numberText octantWord k)
 
 -- The call and the question of a line.
-unfoldable pub callOf : Change → call.Call
-callOf (change.Add x y) = call.add (point x y)
-callOf (change.Withdraw x y) = call.withdraw (point x y)
-callOf change.Round = call.oneRound
-callOf change.Finish = call.runToEnd
+unfoldable pub callFor : Change → call.Call
+callFor (change.Add x y) = call.add (point x y)
+callFor (change.Withdraw x y) = call.withdraw (point x y)
+callFor change.Round = call.oneRound
+callFor change.Finish = call.runToEnd
 
-unfoldable pub questionOf : Query → Question
-questionOf query.Length = ofLength
-questionOf query.Counts = ofCounts
-questionOf (query.Run i) = ofEdge i
-questionOf (query.Degree x y) = ofDegree (point x y)
+unfoldable pub questionFor : Query → Question
+questionFor query.Length = ofLength
+questionFor query.Counts = ofCounts
+questionFor (query.Run i) = ofEdge i
+questionFor (query.Degree x y) = ofDegree (point x y)
 
 -- What a command asks for. No buffer for a file is longer than the longest file.
 unfoldable pub lineOf : Deck → List ℕ → Command → Line
@@ -79,8 +79,8 @@ lineOf d b command.Blank = stays d []
 lineOf d b command.Error = stays d errorWord
 lineOf d b command.Read = changes (reading (script.fileInLine b))
 lineOf d b (command.Write n) = stays d (writeText d (min n script.longestFile))
-lineOf d b (command.Call c) = changes (called d (callOf c))
-lineOf d b (command.Ask q) = stays d (answerText (asked d (questionOf q)))
+lineOf d b (command.Call c) = changes (called d (callFor c))
+lineOf d b (command.Ask q) = stays d (answerText (asked d (questionFor q)))
 lineOf d b (command.Octant x y) = stays d (octantText x y)
 lineOf d b command.List = stays d (joinedLines (deckText d))
 

@@ -27,7 +27,7 @@ ghost use Rattle.script.specs.Commands.{longestFile, commandOf, fileInLine};
 ghost use Rattle.ascii.specs.Encoding.{joinedLines};
 ghost use Rattle.replies.specs.Replies.{errorWord, answerText};
 ghost use Rattle.listing.specs.Whole.{deckText};
-ghost use Rattle.deckplay.specs.Play.{answerRoom, stays, changes, writeText, octantText, callOf, questionOf, lineOf, played, Plays};
+ghost use Rattle.deckplay.specs.Play.{answerRoom, stays, changes, writeText, octantText, callFor, questionFor, lineOf, played, Plays};
 
 // Room for any answer: the lines of a listing joined take three times as many bytes at most.
 pub const ANSWER_ROOM: usize = 3 * LISTING_ROOM;
@@ -155,7 +155,7 @@ fn list(d: Deck, out: &mut [u8]) -> Played
 // Makes a call.
 fn call(d: Deck, c: Change, out: &mut [u8]) -> Played
     requires { ⌜ answerRoom ≤ length (now out) ⌝ }
-    ensures { λ r. ⌜ Plays (changes (called d (callOf c))) (now (out .entry)) (now (out .exit)) r ⌝ }
+    ensures { λ r. ⌜ Plays (changes (called d (callFor c))) (now (out .entry)) (now (out .exit)) r ⌝ }
 {
     match c {
         Change::Add(x, y) => changed(d.add(x, y), out),
@@ -168,7 +168,7 @@ fn call(d: Deck, c: Change, out: &mut [u8]) -> Played
 // Asks a question.
 fn ask(d: Deck, q: Query, out: &mut [u8]) -> Played
     requires { ⌜ answerRoom ≤ length (now out) ⌝ }
-    ensures { λ r. ⌜ Plays (stays d (answerText (asked d (questionOf q)))) (now (out .entry)) (now (out .exit)) r ⌝ }
+    ensures { λ r. ⌜ Plays (stays d (answerText (asked d (questionFor q)))) (now (out .entry)) (now (out .exit)) r ⌝ }
 {
     match q {
         Query::Length => answered(d, d.length(), out),

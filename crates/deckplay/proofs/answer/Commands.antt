@@ -19,20 +19,20 @@ use Rattle.script.specs.declared.Change.{Change}
 use Rattle.script.specs.declared.Query.{Query}
 use Rattle.replies.specs.Replies.{answerText}
 use Rattle.deckplay.specs.declared.answer.Played.{Played}
-use Rattle.deckplay.specs.Play.{Line, stays, changes, octantText, callOf, questionOf, Plays}
+use Rattle.deckplay.specs.Play.{Line, stays, changes, octantText, callFor, questionFor, Plays}
 
 -- What was asked for (a command, a call or a question) is k, and what was played is the line that it asks for.
 pub obeys : {A : Type 0} (lineFor : A → Line) {c k : A} {a : Line} {before after : List ℕ} {p : Played} → c ≡ k → a ≡ lineFor k
     → Plays a before after p → Plays (lineFor c) before after p
 obeys lineFor {before = before} {after} {p} e f = subst (λ (z : Line). Plays z before after p) (f ∙ ap lineFor (sym e))
 
-pub makes : (d : Deck) {c k : Change} {a : Line} {before after : List ℕ} {p : Played} → c ≡ k → a ≡ changes (called d (callOf k))
-    → Plays a before after p → Plays (changes (called d (callOf c))) before after p
-makes d = obeys (λ (k : Change). changes (called d (callOf k)))
+pub makes : (d : Deck) {c k : Change} {a : Line} {before after : List ℕ} {p : Played} → c ≡ k → a ≡ changes (called d (callFor k))
+    → Plays a before after p → Plays (changes (called d (callFor c))) before after p
+makes d = obeys (λ (k : Change). changes (called d (callFor k)))
 
-pub answers : (d : Deck) {q k : Query} {a : Line} {before after : List ℕ} {p : Played} → q ≡ k → a ≡ stays d (answerText (asked d (questionOf k)))
-    → Plays a before after p → Plays (stays d (answerText (asked d (questionOf q)))) before after p
-answers d = obeys (λ (k : Query). stays d (answerText (asked d (questionOf k))))
+pub answers : (d : Deck) {q k : Query} {a : Line} {before after : List ℕ} {p : Played} → q ≡ k → a ≡ stays d (answerText (asked d (questionFor k)))
+    → Plays a before after p → Plays (stays d (answerText (asked d (questionFor q)))) before after p
+answers d = obeys (λ (k : Query). stays d (answerText (asked d (questionFor k))))
 
 -- Equal answers are one line.
 pub same-answer : {d : Deck} {a b : Answer} → a ≡ b → stays d (answerText a) ≡ stays d (answerText b)

@@ -1,13 +1,13 @@
--- `deckplay::answer::ask` meets its contract: in each arm the question is told, and the deck's method answers what `questionOf` says of it.
+-- `deckplay::answer::ask` meets its contract: in each arm the question is told, and the deck's method answers what `questionFor` says of it.
 use Rattle.questions.specs.Answers.{ofDegree}
-use Rattle.deckplay.specs.Play.{questionOf}
+use Rattle.deckplay.specs.Play.{questionFor}
 use Rattle.deckplay.proofs.answer.Commands.{answers, same-answer, asked-at}
 use borrow.Author.Needs.{needs}
 use Rattle.deckplay.proofs.answer.ask.Statement.{statement}
 use Rattle.deckplay.proofs.answer.ask.Tie as tie
 
 lengths : tie.Need-returns
-unfolding questionOf
+unfolding questionFor
 lengths c =
     let at-answered = c .before .before in
     let at-length = at-answered .before .before in
@@ -15,7 +15,7 @@ lengths c =
     (at-answered .answered .ensures)
 
 counts : tie.Need-returns-2
-unfolding questionOf
+unfolding questionFor
 counts c =
     let at-answered = c .before .before in
     let at-counts = at-answered .before .before in
@@ -23,7 +23,7 @@ counts c =
     (at-answered .answered2 .ensures)
 
 edges : tie.Need-returns-3
-unfolding questionOf
+unfolding questionFor
 edges c =
     let at-answered = c .before .before in
     let at-edge = at-answered .before .before in
@@ -31,7 +31,7 @@ edges c =
     (at-answered .answered3 .ensures)
 
 degrees : tie.Need-returns-4
-unfolding questionOf
+unfolding questionFor
 degrees c =
     let at-answered = c .before .before in
     let at-degree = at-answered .before .before in

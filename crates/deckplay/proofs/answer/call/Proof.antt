@@ -1,14 +1,14 @@
--- `deckplay::answer::call` meets its contract: in each arm the call is told, and the deck's method answers what `callOf` says of it.
+-- `deckplay::answer::call` meets its contract: in each arm the call is told, and the deck's method answers what `callFor` says of it.
 use mathlib.Core.Path.{ap}
 use Rattle.model.specs.Call as call
-use Rattle.deckplay.specs.Play.{changes, callOf}
+use Rattle.deckplay.specs.Play.{changes, callFor}
 use Rattle.deckplay.proofs.answer.Commands.{makes, called-at}
 use borrow.Author.Needs.{needs}
 use Rattle.deckplay.proofs.answer.call.Statement.{statement}
 use Rattle.deckplay.proofs.answer.call.Tie as tie
 
 adds : tie.Need-returns
-unfolding callOf
+unfolding callFor
 adds c =
     let at-changed = c .before .before in
     let at-add = at-changed .before .before in
@@ -18,7 +18,7 @@ adds c =
     (called-at (record { sfits = fits .0 .1 }) (record { sfits = fits .1 .0 .1 }) _ call.add (at-add .add .ensures)) (at-changed .changed .ensures)
 
 withdraws : tie.Need-returns-2
-unfolding callOf
+unfolding callFor
 withdraws c =
     let at-changed = c .before .before in
     let at-withdraw = at-changed .before .before in
@@ -29,7 +29,7 @@ withdraws c =
     (at-changed .changed2 .ensures)
 
 rounds : tie.Need-returns-3
-unfolding callOf
+unfolding callFor
 rounds c =
     let at-changed = c .before .before in
     let at-round = at-changed .before .before in
@@ -37,7 +37,7 @@ rounds c =
     (at-changed .changed3 .ensures)
 
 finishes : tie.Need-returns-4
-unfolding callOf
+unfolding callFor
 finishes c =
     let at-changed = c .before .before in
     let at-finish = at-changed .before .before in
