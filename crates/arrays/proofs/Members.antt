@@ -4,6 +4,7 @@ use mathlib.Core.Logic.{_↔_, _⊎_, inl, inr, ⊎-elim}
 use mathlib.Core.List.{List, [], _∷_, _++_, List·Memᴰ, List·Memᴰ·head as head, List·Memᴰ·tail as tail}
 use mathlib.Core.List.{List·Memᴰ·cases-cons as cases, List·Memᴰ·not-nil as not-nil, List·Memᴰ·append-cases, Memᴰ·append-left, Memᴰ·append-right}
 use Rattle.arrays.specs.Order.{StrictTotal, Sorted}
+use Rattle.arrays.specs.Set.{Each}
 
 module _ {A : Type 0} where
   -- A list with the member a is cut at a.
@@ -26,6 +27,18 @@ module _ {A : Type 0} where
     ⊎-elim (λ k. ⊎-elim (λ p. inr (head p)) inl (cases k)) (λ k. inr (tail k)),
     ⊎-elim (λ k. inl (tail k)) (λ k. ⊎-elim (λ p. inl (head p)) inr (cases k)),
   )
+
+  -- The first two elements may be exchanged, and so the second and the third.
+  pub mem-swap : {a b c : A} {l : List A} → List·Memᴰ c (a ∷ b ∷ l) → List·Memᴰ c (b ∷ a ∷ l)
+  mem-swap m = ⊎-elim (λ p. tail (head p)) (λ k. ⊎-elim head (λ j. tail (tail j)) (cases k)) (cases m)
+
+  pub mem-swap-next : {a b c d : A} {l : List A} → List·Memᴰ d (a ∷ b ∷ c ∷ l) → List·Memᴰ d (a ∷ c ∷ b ∷ l)
+  mem-swap-next m = ⊎-elim head (λ k. tail (mem-swap k)) (cases m)
+
+  -- What holds of each element holds of the members.
+  pub mem-each : (Q : A → Type 0) (l : List A) → Each Q l → {a : A} → List·Memᴰ a l → Q a
+  mem-each Q [] h m = absurd (not-nil m)
+  mem-each Q (b ∷ l) h m = ⊎-elim (λ p. subst Q (sym p) (h .0)) (mem-each Q l (h .1)) (cases m)
 
   -- A list without repeats.
   abbrev pub Distinct : List A → Type 0

@@ -1,7 +1,7 @@
 -- Sets as rising lists: what is in them after put, out, union and `setOf`, and that they stay rising. Over any strict total order.
 use mathlib.Core.Path.{_≡_, refl, sym, ap, _∙_, subst}
 use mathlib.Core.Logic.{_⊎_, inl, inr, ⊎-elim, _↔_}
-use mathlib.Core.Bool.{Bool, not}
+use mathlib.Core.Bool.{Bool, true, false, not}
 use mathlib.Core.List.{List, [], _∷_, _++_, List·Memᴰ, List·Memᴰ·head as head, List·Memᴰ·tail as tail}
 use mathlib.Core.List.{List·Memᴰ·cases-cons as cases, List·Memᴰ·not-nil as not-nil, List·Memᴰ·append-cases}
 use Prim.Native.Nat.{suc, _+_}
@@ -127,6 +127,14 @@ module _ {A : Type 0} (less : A → A → Bool) (order : StrictTotal (λ (a b : 
   put-same a l s i =
       sorted-ext order (put less a l) l (put-sorted a l s) s
       (λ c j. ⊎-elim (λ e. subst (λ z. List·Memᴰ z l) (sym e) i) (λ k. k) (put-in a c l .0 j)) (λ c j. put-in a c l .1 (inr j))
+
+  -- An element is there already, and then nothing is put, or it is not there.
+  pub put-or-free : (a : A) (l : List A) → Sorted Less l → (put less a l ≡ l) ⊎ ¬ List·Memᴰ a l
+  put-or-free a l s = go (has less a l) (has-in a l .0) (has-not a l .0)
+    where
+      go : (b : Bool) → (T b → List·Memᴰ a l) → (T (not b) → List·Memᴰ a l → ⊥) → (put less a l ≡ l) ⊎ ¬ List·Memᴰ a l
+      go true there free = inl (put-same a l s (there tt))
+      go false there free = inr (free tt)
 
   pub rising-sorted : (l : List A) → T (rising less l) ↔ Sorted Less l
   unfolding rising

@@ -38,6 +38,11 @@ rising less [] = true
 rising less (a ∷ []) = true
 rising less (a ∷ b ∷ l) = less a b && rising less (b ∷ l)
 
+-- Every element of a list satisfies Q, said one behind the other.
+abbrev pub Each : {A : Type 0} → (A → Type 0) → List A → Type 0
+Each Q [] = Unit {0}
+Each Q (a ∷ l) = Q a × Each Q l
+
 -- Whether every element passes a test.
 unfoldable pub all : {A : Type 0} → (A → Bool) → List A → Bool
 all f [] = true

@@ -68,7 +68,7 @@ module _ (d : Deck) (s : Sound d) where
   pub answered : (q : Question) → asked d q ≡ answerTo q (stateOf d)
   answered q = sym (asked-sound d q (passes d s))
 
-  next-state : (c : call.Call) → stateOf (called d c .next) ≡ call.step (stateOf d) c .next
+  pub next-state : (c : call.Call) → stateOf (called d c .next) ≡ call.step (stateOf d) c .next
   next-state c = ap stateOf (next-is c) ∙ state-deck (call.step (stateOf d) c .next) (step-valid (stateOf d) c (s .valid) .placed)
 
   -- The tree.

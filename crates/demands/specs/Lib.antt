@@ -1,3 +1,4 @@
 pub mod Demands
 pub mod Method
 pub mod Sessions
+pub mod ThreePins

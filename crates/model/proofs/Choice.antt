@@ -19,7 +19,7 @@ use Rattle.arrays.specs.Set.{put}
 use Rattle.model.specs.Tree.{treeLength}
 use Rattle.model.specs.Round.{candidates, saving, bestAbove, best}
 use Rattle.model.specs.Choice.{Candidate, saved, Chosen}
-use Rattle.model.proofs.Candidate.{candidates-are, candidates-rise}
+use Rattle.model.proofs.Candidate.{candidates-are, candidates-rise, less-save}
 
 -- What the search among a rising list cs finds, beside what was found before: nothing that saves more than `top`, or of those
 -- that save most the lowest.
@@ -113,7 +113,7 @@ best-none ps = go (best-choice ps)
     go (none-saves f) = (λ _. f, λ _. refl)
     go (some-chosen c h) = (λ e. absurd (Option·some-ne-none c e), λ f. absurd (f c (h .candidate) (h .saves)))
 
--- A candidate that saves something makes the tree shorter, and one that does not leaves it as long at least.
+-- A candidate that saves something makes the tree shorter, and one that does not leaves it at least as long.
 pub saved-shorter : (ps : List Point) (c : Point) → T (ltZ (pos 0) (saved ps c)) → treeLength (put lower c ps) < treeLength ps
 unfolding saving
 saved-shorter ps c t = omega (arith, less-value (pos 0) (saved ps c) t, sub-value (treeLength ps) (treeLength (put lower c ps)))
@@ -124,4 +124,13 @@ unsaved-longer ps c n = go (decLt (treeLength (put lower c ps)) (treeLength ps))
   where
     go : Dec (treeLength (put lower c ps) < treeLength ps) → treeLength ps ≤ treeLength (put lower c ps)
     go (yes h) = absurd (n (value-less (pos 0) (saved ps c) (omega (arith, sub-value (treeLength ps) (treeLength (put lower c ps))))))
+    go (no h) = omega arith
+
+-- With a point that saves no more than c the tree is at least as long as with c.
+pub no-more-saved : (ps : List Point) (c d : Point) → ¬ T (ltZ (saved ps c) (saved ps d)) → treeLength (put lower c ps) ≤ treeLength (put lower d ps)
+unfolding saving
+no-more-saved ps c d n = go (decLt (treeLength (put lower d ps)) (treeLength (put lower c ps)))
+  where
+    go : Dec (treeLength (put lower d ps) < treeLength (put lower c ps)) → treeLength (put lower c ps) ≤ treeLength (put lower d ps)
+    go (yes h) = absurd (n (less-save (treeLength ps) (treeLength (put lower c ps)) (treeLength (put lower d ps)) h))
     go (no h) = omega arith

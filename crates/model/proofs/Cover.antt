@@ -14,16 +14,13 @@ use Rattle.plane.specs.Point.{Point, Lower}
 use Rattle.plane.specs.Edge.{Edge, edgeLength, planar}
 use Rattle.plane.proofs.Order.{lower-order, before-order, before-length}
 use Rattle.plane.proofs.Metric.{dist-sym}
+use Rattle.plane.proofs.Axis.{Connects}
 use Rattle.model.specs.Tree.{edges, mst, lengthOf, treeLength}
 use Rattle.model.proofs.Tree.{edges-in, edges-sorted}
 
 -- Every end of an edge of C is a point of ps.
 abbrev pub Ends : List Point → List Edge → Type 0
 Ends ps C = (e : Edge) → List·Memᴰ e C → List·Memᴰ (e .lo) ps × List·Memᴰ (e .hi) ps
-
--- C connects any two points of ps.
-abbrev pub Connects : List Point → List Edge → Type 0
-Connects ps C = (u v : Point) → List·Memᴰ u ps → List·Memᴰ v ps → Conn planar (In C) v u
 
 -- C with the ends of each edge in order: no longer, and it connects what C connects.
 record Directed (ps : List Point) (C : List Edge) : Type 0 where

@@ -1,13 +1,16 @@
 -- The table of decks, each row by computation: it holds, and the file of the last state of a row of calls reads back to that state.
 use mathlib.Core.Path.{refl}
+use Rattle.arrays.specs.Set.{Each}
 use Rattle.plane.specs.OctantTable.{octants}
-use Rattle.model.specs.Decks.{deckRow, Holds, Filed, All, play, filed}
+use Rattle.model.specs.Decks.{deckRow, Holds, Filed, play, halfAround, filed}
 use Rattle.model.specs.Example.{ExampleListing, exampleFile, exampleText, listingAnswer}
 use Rattle.model.specs.Table.{table, deck1, deck2, deck3, deck4, deck5, deck6, deck7, deck8, deck9, deck10, deck11}
 use Rattle.model.specs.TableFiles.{otherStart, otherCount, tooLong, sectionsApart, byteBehind, unevenSection, unevenRuns, pinTooMany, pinTwice}
 use Rattle.model.specs.TableFiles.{beyondRange, tapOnPin, runTurned, tapOfTwoRuns, otherTree, fullFile, plainFile}
 use Rattle.model.specs.TableMore.{sweptByItsRound, sweepOrder, lineOfTap, secondRemoval, anotherRunJoins, orderOfEntry, equalSavings}
 use Rattle.model.specs.TableMore.{greatestSaving, lowerEndFirst, octantBorder, refusals}
+use Rattle.model.specs.TableThreePins.{threeOnALine, twoOnOneX, middleIsPin, tapOffMiddle}
+use Rattle.model.specs.TableThreePins.{boxOfLine, boxOfTwoOnOneX, boxOfMiddlePin, boxOfTapOffMiddle, boxAroundOrigin}
 use Rattle.model.proofs.FileRows.{otherStart-holds, sectionsApart-holds, unevenSection-holds, pinTooMany-holds, pinTwice-holds}
 use Rattle.model.proofs.FileRows.{runTurned-holds, fullFile-holds, plainFile-holds}
 use Rattle.model.proofs.FileRows.{otherCount-holds, tooLong-holds, byteBehind-holds, unevenRuns-holds, beyondRange-holds, tapOnPin-holds}
@@ -61,9 +64,9 @@ sweepOrder-holds : Holds (deckRow sweepOrder)
 unfolding play sweepOrder
 sweepOrder-holds = refl
 
-tapLine-holds : Holds (deckRow lineOfTap)
+lineOfTap-holds : Holds (deckRow lineOfTap)
 unfolding play lineOfTap
-tapLine-holds = refl
+lineOfTap-holds = refl
 
 secondRemoval-holds : Holds (deckRow secondRemoval)
 unfolding play secondRemoval
@@ -97,35 +100,77 @@ refusals-holds : Holds (deckRow refusals)
 unfolding play refusals
 refusals-holds = refl
 
+threeOnALine-holds : Holds (deckRow threeOnALine)
+unfolding play threeOnALine
+threeOnALine-holds = refl
+
+twoOnOneX-holds : Holds (deckRow twoOnOneX)
+unfolding play twoOnOneX
+twoOnOneX-holds = refl
+
+middleIsPin-holds : Holds (deckRow middleIsPin)
+unfolding play middleIsPin
+middleIsPin-holds = refl
+
+tapOffMiddle-holds : Holds (deckRow tapOffMiddle)
+unfolding play tapOffMiddle
+tapOffMiddle-holds = refl
+
+boxOfLine-holds : Holds boxOfLine
+unfolding halfAround boxOfLine
+boxOfLine-holds = refl
+
+boxOfTwoOnOneX-holds : Holds boxOfTwoOnOneX
+unfolding halfAround boxOfTwoOnOneX
+boxOfTwoOnOneX-holds = refl
+
+boxOfMiddlePin-holds : Holds boxOfMiddlePin
+unfolding halfAround boxOfMiddlePin
+boxOfMiddlePin-holds = refl
+
+boxOfTapOffMiddle-holds : Holds boxOfTapOffMiddle
+unfolding halfAround boxOfTapOffMiddle
+boxOfTapOffMiddle-holds = refl
+
+boxAroundOrigin-holds : Holds boxAroundOrigin
+unfolding halfAround boxAroundOrigin
+boxAroundOrigin-holds = refl
+
 deck11-holds : Holds deck11
 unfolding octants deck11
 deck11-holds = refl
 
--- Facts one behind the other, as `All` asks for them.
+-- Facts one behind the other, as `Each` asks for them.
 infixr 2 _and_
 _and_ : {A B : Type 0} → A → B → A × B
 _and_ a b = (a, b)
 
-pub decks-hold : All Holds table
+pub decks-hold : Each Holds table
 unfolding table deck11 otherStart otherCount tooLong sectionsApart byteBehind unevenSection unevenRuns pinTooMany pinTwice beyondRange tapOnPin
-    runTurned tapOfTwoRuns otherTree fullFile plainFile
+    runTurned tapOfTwoRuns otherTree fullFile plainFile boxOfLine boxOfTwoOnOneX boxOfMiddlePin boxOfTapOffMiddle
+    boxAroundOrigin
 decks-hold =
     deck1-holds and deck2-holds and deck3-holds and deck4-holds and deck5-holds and deck6-holds and deck7-holds and deck8-holds
-    and deck9-holds and deck10-holds and deck11-holds and sweptByItsRound-holds and sweepOrder-holds and tapLine-holds
+    and deck9-holds and deck10-holds and deck11-holds and sweptByItsRound-holds and sweepOrder-holds and lineOfTap-holds
     and secondRemoval-holds and anotherRunJoins-holds and orderOfEntry-holds and equalSavings-holds and greatestSaving-holds
-    and lowerEndFirst-holds and octantBorder-holds and refusals-holds and otherStart-holds and otherCount-holds and tooLong-holds
+    and lowerEndFirst-holds and octantBorder-holds and refusals-holds
+    and threeOnALine-holds and twoOnOneX-holds and middleIsPin-holds and tapOffMiddle-holds
+    and boxOfLine-holds and boxOfTwoOnOneX-holds and boxOfMiddlePin-holds and boxOfTapOffMiddle-holds and boxAroundOrigin-holds
+    and otherStart-holds and otherCount-holds and tooLong-holds
     and sectionsApart-holds and byteBehind-holds and unevenSection-holds and unevenRuns-holds and pinTooMany-holds
     and pinTwice-holds and beyondRange-holds and tapOnPin-holds and runTurned-holds and tapOfTwoRuns-holds and otherTree-holds
     and fullFile-holds and plainFile-holds and tt
 
-pub decks-filed : All Filed table
+pub decks-filed : Each Filed table
 unfolding table filed deck1 deck2 deck3 deck4 deck5 deck6 deck7 deck8 deck9 deck10 deck11 sweptByItsRound sweepOrder lineOfTap secondRemoval
     anotherRunJoins orderOfEntry equalSavings greatestSaving lowerEndFirst octantBorder refusals otherStart otherCount tooLong sectionsApart
     byteBehind unevenSection unevenRuns pinTooMany pinTwice beyondRange tapOnPin runTurned tapOfTwoRuns otherTree fullFile plainFile
+    threeOnALine twoOnOneX middleIsPin tapOffMiddle boxOfLine boxOfTwoOnOneX boxOfMiddlePin boxOfTapOffMiddle boxAroundOrigin
 decks-filed =
-    refl and refl and refl and refl and refl and refl and refl and refl and refl and refl and tt and refl and refl and refl
-    and refl and refl and refl and refl and refl and refl and refl and refl and tt and tt and tt and tt and tt and tt and tt
-    and tt and tt and tt and tt and tt and tt and tt and tt and tt and tt
+    refl and refl and refl and refl and refl and refl and refl and refl and refl and refl and tt
+    and refl and refl and refl and refl and refl and refl and refl and refl and refl and refl and refl and refl and refl and refl and refl
+    and tt and tt and tt and tt and tt
+    and tt and tt and tt and tt and tt and tt and tt and tt and tt and tt and tt and tt and tt and tt and tt and tt and tt
 
 -- The example of a listing, by computation.
 pub example-listing : ExampleListing

@@ -2,12 +2,10 @@
 -- tree, then some candidate shortens it. The point is replaced by one with the median x and the median y of its neighbours.
 use mathlib.Core.Path.{_≡_, refl, sym, ap, _∙_, subst, subst⁻¹}
 use mathlib.Core.Logic.{_⊎_, inl, inr, ⊎-elim}
-use mathlib.Core.Bool.{Bool, true, false, not}
 use mathlib.Core.List.{List, [], _∷_, map, List·Memᴰ, List·Memᴰ·head as head, List·Memᴰ·tail as tail, List·Memᴰ·cases-cons as cases}
 use Prim.Native.Nat.{_+_, _≤_}
 use native.Mathlib.Nat.{le-trans}
 use native.Mathlib.Omega.{arith}
-use lib.Dec.{T}
 use lib.ListN.{length}
 use lib.IntN.{ℤ}
 use Rattle.spanning.specs.Graph.{Conn, In, Tree, total}
@@ -20,10 +18,11 @@ use Rattle.plane.specs.Point.{Point, lower, Lower, dist, pointDec}
 use Rattle.plane.specs.Edge.{Edge, planar}
 use Rattle.plane.proofs.Order.{lower-order}
 use Rattle.plane.proofs.Median.{sumGap, median}
-use Rattle.arrays.specs.Set.{put, has, union}
+use Rattle.arrays.specs.Set.{put, union}
 use Rattle.model.specs.Tree.{pairs, edges, mst, lengthOf, treeLength, edgesAt}
-use Rattle.arrays.proofs.Set.{put-in, put-sorted, put-same, has-in, has-not}
-use Rattle.model.proofs.Cover.{Connects, mst-cover}
+use Rattle.arrays.proofs.Set.{put-in, put-sorted, put-or-free}
+use Rattle.plane.proofs.Axis.{Connects}
+use Rattle.model.proofs.Cover.{mst-cover}
 use Rattle.model.proofs.Replace.{swap, swap-same, swap-other, replaced, star, sumDist, replaced-conn, replaced-ends, replaced-length}
 use Rattle.model.proofs.Replace.{star-count, star-edge}
 use Rattle.model.specs.Choice.{Candidate}
@@ -90,7 +89,9 @@ module _ (ps : List Point) (rising : Sorted Lower ps) (q : Point) (far : ¬ List
 
   -- The median point of q's neighbours, one of which is n.
   pub grid : (n : Point) → List·Memᴰ n (star q t) → ((c : Point) → Candidate ps c → treeLength ps ≤ treeLength (put lower c ps)) → treeLength ps ≤ lengthOf t
-  grid n i none = by (has lower c ps) (has-in lower lower-order c ps .0) (has-not lower lower-order c ps .0)
+  grid n i none =
+      ⊎-elim (λ e. subst (λ (z : List Point). treeLength z ≤ lengthOf t) e short)
+      (λ free. le-trans (none c (record { onX = onX; onY = onY; free = free })) short) (put-or-free lower lower-order c ps rising)
     where
       xs : List ℤ
       xs = map (λ (m : Point). m .x) (star q t)
@@ -115,10 +116,6 @@ module _ (ps : List Point) (rising : Sorted Lower ps) (q : Point) (far : ¬ List
 
       onY : (b : Point) × List·Memᴰ b ps × (c .y ≡ b .y)
       onY = let r = map-in (λ (m : Point). m .y) (star q t) (my .0) .0 (my .1) in (r .0, neighbour-held (r .0) (r .1), r .2)
-
-      by : (b : Bool) → (T b → List·Memᴰ c ps) → (T (not b) → List·Memᴰ c ps → ⊥) → treeLength ps ≤ lengthOf t
-      by true held free = subst (λ (z : List Point). treeLength z ≤ lengthOf t) (put-same lower lower-order c ps rising (held tt)) short
-      by false held free = le-trans (none c (record { onX = onX; onY = onY; free = free tt })) short
 
 -- No points, no length.
 no-length : treeLength [] ≡ 0

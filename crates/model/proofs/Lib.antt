@@ -12,7 +12,9 @@ pub mod FileRows
 pub mod FileSize
 pub mod FileValid
 pub mod Grid
+pub mod Hub
 pub mod OctantClaim
+pub mod PinsAdded
 pub mod Prune
 pub mod Refusal
 pub mod Removal
@@ -21,5 +23,6 @@ pub mod Round
 pub mod Session
 pub mod Step
 pub mod Sweep
+pub mod ThreePins
 pub mod Tree
 pub mod Validity

@@ -16,7 +16,8 @@ use Rattle.arrays.specs.Set.{out}
 use Rattle.model.specs.Tree.{mst, treeLength, edgesAt, RunTree}
 use Rattle.arrays.proofs.Set.{out-in, out-sorted}
 use Rattle.model.proofs.Tree.{mst-run-tree}
-use Rattle.model.proofs.Cover.{Connects, mst-cover}
+use Rattle.plane.proofs.Axis.{Connects}
+use Rattle.model.proofs.Cover.{mst-cover}
 use Rattle.model.proofs.Replace.{swap, swap-same, swap-other, replaced, star, sumDist, replaced-conn, replaced-ends, replaced-length}
 use Rattle.model.proofs.Replace.{star-count, star-edge, star-none}
 

@@ -1,6 +1,6 @@
 -- A vertex q is replaced by c on every edge of a list: what was connected is connected along, and the length changes as the
 -- sum of the distances to q's neighbours does.
-use mathlib.Core.Path.{_≡_, refl, sym, ap, _∙_, subst, subst⁻¹}
+use mathlib.Core.Path.{_≡_, refl, sym, ap, _∙_, subst⁻¹}
 use mathlib.Core.Logic.{_⊎_, inl, inr, ⊎-elim, dite, dif-neg}
 use mathlib.Core.List.{List, [], _∷_, map, List·Memᴰ, List·Memᴰ·head as head, List·Memᴰ·tail as tail, List·Memᴰ·cases-cons as cases}
 use mathlib.Core.List.{List·Memᴰ·not-nil as not-nil}
@@ -152,6 +152,32 @@ star-edge q n (e ∷ t) i = go (λ j. let r = star-edge q n t j in (r .0, tail (
     go later l (starts h) j = ⊎-elim (λ m. (e, head refl, inl (h, m))) later (cases j)
     go later l (ends k h) j = ⊎-elim (λ m. (e, head refl, inr (h, m))) later (cases j)
     go later l (away k m) j = later j
+
+pub edge-star : (q n : Point) (t : List Edge) (e : Edge) → List·Memᴰ e t → Neighbour q n e → List·Memᴰ n (star q t)
+unfolding star
+edge-star q n [] e i h = absurd (not-nil i)
+edge-star q n (f ∷ t) e i h = go (star q (f ∷ t)) (incidence q f t) (⊎-elim (λ p. inl p) (λ j. inr (edge-star q n t e j h)) (cases i))
+  where
+    go : (l : List Point) → Incidence q f t l → (e ≡ f) ⊎ List·Memᴰ n (star q t) → List·Memᴰ n l
+    go l (starts k) (inl p) =
+        head (⊎-elim (λ c. c .1 ∙ ap (λ (z : Edge). z .hi) p) (λ c. c .1 ∙ ap (λ (z : Edge). z .lo) p ∙ sym k ∙ c .0 ∙ ap (λ (z : Edge). z .hi) p) h)
+    go l (ends m k) (inl p) = head (⊎-elim (λ c. absurd (m (c .0 ∙ ap (λ (z : Edge). z .lo) p))) (λ c. c .1 ∙ ap (λ (z : Edge). z .lo) p) h)
+    go l (away m k) (inl p) =
+        absurd (⊎-elim (λ c. m (c .0 ∙ ap (λ (z : Edge). z .lo) p)) (λ c. k (c .0 ∙ ap (λ (z : Edge). z .hi) p)) h)
+    go l (starts k) (inr j) = tail j
+    go l (ends m k) (inr j) = tail j
+    go l (away m k) (inr j) = j
+
+-- All edges are at least as long as those at q.
+pub star-length : (q : Point) (t : List Edge) → sumDist q (star q t) ≤ lengthOf t
+unfolding star total
+star-length q [] = omega arith
+star-length q (e ∷ t) = go (star q (e ∷ t)) (incidence q e t) (star-length q t)
+  where
+    go : (l : List Point) → Incidence q e t l → sumDist q (star q t) ≤ lengthOf t → sumDist q l ≤ edgeLength e + lengthOf t
+    go l (starts h) r = omega (arith, ap (λ (z : Point). dist z (e .hi)) h)
+    go l (ends n h) r = omega (arith, dist-sym q (e .lo), ap (λ (z : Point). dist (e .lo) z) h)
+    go l (away n m) r = omega arith
 
 -- With no neighbour no edge is at q.
 pub star-none : (q : Point) (t : List Edge) → star q t ≡ [] → (e : Edge) → List·Memᴰ e t → ¬ (q ≡ e .lo) × ¬ (q ≡ e .hi)

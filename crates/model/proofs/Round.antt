@@ -1,18 +1,16 @@
 -- A round keeps a state valid; it is finished exactly if no whole point shortens the tree; one that adds a point shortens the
 -- tree by at least 1 and by at least the saving. So rounds alone end, and the run to the end is those rounds.
-use mathlib.Core.Path.{_≡_, refl, subst, subst⁻¹}
+use mathlib.Core.Path.{_≡_, refl, ap, _∙_, subst, subst⁻¹}
 use mathlib.Core.Logic.{_⊎_, inl, inr, ⊎-elim, _↔_}
 use mathlib.Core.Option.{Option, none, some}
-use mathlib.Core.List.{List, _∷_, List·Memᴰ, List·Memᴰ·head as head, List·Memᴰ·tail as tail, List·Memᴰ·cases-cons as cases}
+use mathlib.Core.List.{List, List·Memᴰ}
 use Prim.Native.Nat.{ℕ, zero, suc, _+_, _-_, _≤_, _<_}
 use native.Mathlib.Nat.{le-refl}
 use native.Mathlib.Omega.{arith}
 use lib.Dec.{T}
-use Rattle.spanning.specs.Graph.{Tree}
 use Rattle.arrays.specs.Order.{Sorted}
 use Rattle.arrays.proofs.Members.{sorted-ext}
 use Rattle.plane.specs.Point.{Point, coordinateInRange, inRange, lower, Lower}
-use Rattle.plane.specs.Edge.{planar}
 use Rattle.plane.proofs.Order.{lower-order}
 use Rattle.arrays.proofs.Test.{and-parts, and-both}
 use Rattle.arrays.specs.Set.{put}
@@ -22,10 +20,10 @@ use Rattle.model.specs.Round.{RoundAnswer, finished, tap, RoundResult, w
 use Rattle.model.specs.Choice.{Candidate}
 use Rattle.model.specs.Question.{lengthOfState}
 use Rattle.model.specs.Session.{RoundsTo, ended, added, NoShorter}
-use Rattle.arrays.proofs.Set.{put-in, put-sorted}
-use Rattle.model.proofs.Tree.{mst-run-tree, tree-members}
+use Rattle.arrays.proofs.Set.{put-in, put-sorted, put-or-free}
+use Rattle.model.proofs.Tree.{put-tree}
 use Rattle.model.proofs.Prune.{points-in, points-rise, prune-leaves, prune-valid}
-use Rattle.model.proofs.Choice.{Choice, none-saves, some-chosen, best-choice, saved-shorter, unsaved-longer}
+use Rattle.model.proofs.Choice.{Choice, none-saves, some-chosen, best-choice, saved-shorter, unsaved-longer, no-more-saved}
 use Rattle.model.proofs.Grid.{grid-theorem}
 
 -- The points with one more Steiner point.
@@ -127,24 +125,47 @@ round-finished s v = go (round-view s)
     rise : Sorted Lower (points s)
     rise = points-rise s (v .placed .steinerRise)
 
-    tree-with : (c : Point) → ¬ List·Memᴰ c (points s) → Tree planar (c ∷ points s) (mst (put lower c (points s)))
-    tree-with c far =
-        tree-members (put lower c (points s)) (c ∷ points s) (mst (put lower c (points s)))
-        (λ p. (
-          λ i. ⊎-elim (λ e. head e) (λ j. tail j) (put-in lower lower-order c p (points s) .0 i),
-          λ i. put-in lower lower-order c p (points s) .1 (cases i),
-        ))
-        (mst-run-tree (put lower c (points s)) (put-sorted lower lower-order c (points s) rise) .tree)
-
     go : {r : RoundResult} → Rounded s r → (r .answer ≡ finished) ↔ ((q : Point) → ¬ List·Memᴰ q (points s) → NoShorter s q)
     go (stays f) = (λ e q far t tree. grid-theorem (points s) rise f q far t tree, λ g. refl)
     go (adds c k h) = (
       λ e. absurd (let z : _≡_ {A = ℕ} 0 1 = cc in omega arith),
-      λ g. absurd (omega (arith, g c (k .free) (mst (put lower c (points s))) (tree-with c (k .free)), with-length)),
+      λ g. absurd (omega (arith, g c (k .free) (mst (put lower c (points s))) (put-tree (points s) rise c), with-length)),
     )
       where
         with-length : treeLength (put lower c (points s)) ≡ lengthOf (mst (put lower c (points s)))
         with-length = unfold treeLength in refl
+
+-- Where a round is finished, the tree of the points and one more, held already or not, is at least as long.
+pub finished-least : (s : State) → Valid s → round s .answer ≡ finished → (c : Point) → lengthOfState s ≤ treeLength (put lower c (points s))
+unfolding treeLength
+finished-least s v e c =
+    ⊎-elim (λ same. omega (arith, ap treeLength same)) (λ free. round-finished s v .0 e c free (mst (put lower c (points s))) (put-tree (points s) rise c))
+    (put-or-free lower lower-order c (points s) rise)
+  where
+    rise : Sorted Lower (points s)
+    rise = points-rise s (v .placed .steinerRise)
+
+-- After a round the tree is at most as long as that of the points before it and any one point d on the x of a held point and the y of a held
+-- point: no candidate saves more than the one chosen.
+pub round-best : (s : State) → Valid s → (d : Point) → (a : Point) × List·Memᴰ a (points s) × (d .x ≡ a .x)
+    → (b : Point) × List·Memᴰ b (points s) × (d .y ≡ b .y) → lengthOfState (round s .next) ≤ treeLength (put lower d (points s))
+unfolding round
+round-best s v d onX onY = go (best-choice (points s)) (put-or-free lower lower-order d (points s) (points-rise s (v .placed .steinerRise)))
+  where
+    candidate : ¬ List·Memᴰ d (points s) → Candidate (points s) d
+    candidate free = record { onX = onX; onY = onY; free = free }
+
+    go : {o : Option Point} → Choice (points s) o → (put lower d (points s) ≡ points s) ⊎ ¬ List·Memᴰ d (points s)
+        → lengthOfState (elim o as (λ _. RoundResult) [
+          | none ↦ record { next = s; answer = finished }
+          | some c ↦ record { next = prune (withSteiner c s); answer = tap c (treeLength (points s) - treeLength (points (prune (withSteiner c s)))) }
+        ] .next) ≤ treeLength (put lower d (points s))
+    go (none-saves f) (inl same) = omega (arith, ap treeLength same)
+    go (none-saves f) (inr free) = unsaved-longer (points s) d (f d (candidate free))
+    go (some-chosen c h) (inl same) =
+        omega (arith, ap treeLength same, prune-shorter s v c (h .candidate), saved-shorter (points s) c (h .saves))
+    go (some-chosen c h) (inr free) =
+        omega (arith, prune-shorter s v c (h .candidate), no-more-saved (points s) c d (h .most d (candidate free)))
 
 -- A tree of no length can't be shortened, so its round is finished.
 finished-at-zero : (s : State) → lengthOfState s ≤ 0 → round s .answer ≡ finished
@@ -188,3 +209,19 @@ finish-rounds s v = rounds-from (treeLength (points s)) s v (le-refl (treeLength
 pub rounds-valid : {s r : State} {k : ℕ} → RoundsTo s k r → Valid s → Valid r
 rounds-valid (ended e) v = v
 rounds-valid (added {s = s} e t) v = rounds-valid t (round-valid s v)
+
+-- Rounds alone keep the pins, and end where a round is finished.
+pub round-pins : (s : State) → Valid s → round s .next .pins ≡ s .pins
+round-pins s v = go (round-view s)
+  where
+    go : {r : RoundResult} → Rounded s r → r .next .pins ≡ s .pins
+    go (stays f) = refl
+    go (adds c k h) = let p = with-placed s (v .placed) c k in prune-leaves (withSteiner c s) (p .steinerRise) (p .apart) .pins
+
+pub rounds-pins : {s r : State} {k : ℕ} → RoundsTo s k r → Valid s → r .pins ≡ s .pins
+rounds-pins (ended e) v = refl
+rounds-pins (added {s = s} e t) v = rounds-pins t (round-valid s v) ∙ round-pins s v
+
+pub rounds-finished : {s r : State} {k : ℕ} → RoundsTo s k r → round r .answer ≡ finished
+rounds-finished (ended e) = e
+rounds-finished (added e t) = rounds-finished t

@@ -1,5 +1,5 @@
 -- Every call keeps a state valid, refused ones too.
-use mathlib.Core.Path.{_≡_, refl, subst, subst⁻¹}
+use mathlib.Core.Path.{_≡_, refl, subst⁻¹}
 use mathlib.Core.Logic.{_⊎_, ⊎-elim}
 use mathlib.Core.Option.{Option, none, some}
 use mathlib.Core.List.{List, [], _∷_, List·Memᴰ}
@@ -9,8 +9,8 @@ use lib.Dec.{T, ltb→lt}
 use lib.ListN.{length}
 use Rattle.plane.specs.Point.{Point, inRange, lower}
 use Rattle.plane.proofs.Order.{lower-order}
-use Rattle.arrays.specs.Set.{put, out}
-use Rattle.model.specs.State.{State, Valid, insert, remove, maxPins}
+use Rattle.arrays.specs.Set.{out}
+use Rattle.model.specs.State.{State, Placed, Valid, withPin, insert, remove, maxPins}
 use Rattle.model.specs.Call.{addChecks, withdrawChecks, insertRefusal, removeRefusal, Call, add, withdraw, oneRound, runToEnd, unless, step, stateAfter}
 use Rattle.arrays.proofs.Set.{put-in, put-sorted, put-length, out-in, out-sorted, out-length, has-in, has-not}
 use Rattle.model.proofs.Prune.{prune-valid}
@@ -29,19 +29,21 @@ pub remove-allowed : (p : Point) (s : State) → removeRefusal p s ≡ none → 
 unfolding removeRefusal
 remove-allowed p s e = has-in lower lower-order p (s .pins) .0 (all-passed (withdrawChecks p s) .0 e .0)
 
+pub with-pin-placed : (p : Point) (s : State) → Placed s → T (inRange p) → Placed (withPin p s)
+with-pin-placed p s h r =
+    record {
+      pinsRange = λ q i. ⊎-elim (λ e. subst⁻¹ (λ z. T (inRange z)) e r) (h .pinsRange q) (put-in lower lower-order p q (s .pins) .0 i);
+      steinerRange = λ q i. h .steinerRange q (out-in lower lower-order p q (s .steiner) .0 i .0);
+      pinsRise = put-sorted lower lower-order p (s .pins) (h .pinsRise);
+      steinerRise = out-sorted lower lower-order p (s .steiner) (h .steinerRise);
+      apart = λ q i j. let o = out-in lower lower-order p q (s .steiner) .0 j in
+          ⊎-elim (λ e. o .1 e) (λ k. h .apart q k (o .0)) (put-in lower lower-order p q (s .pins) .0 i);
+    }
+
 pub insert-valid : (p : Point) (s : State) → Valid s → T (inRange p) → (List·Memᴰ p (s .pins) → ⊥) → length (s .pins) < maxPins → Valid (insert p s)
 unfolding insert
 insert-valid p s v r n room =
-    prune-valid (record { pins = put lower p (s .pins); steiner = out lower p (s .steiner) })
-    (omega (arith, put-length lower lower-order p (s .pins) n))
-    (record {
-      pinsRange = λ q i. ⊎-elim (λ e. subst⁻¹ (λ z. T (inRange z)) e r) (v .placed .pinsRange q) (put-in lower lower-order p q (s .pins) .0 i);
-      steinerRange = λ q i. v .placed .steinerRange q (out-in lower lower-order p q (s .steiner) .0 i .0);
-      pinsRise = put-sorted lower lower-order p (s .pins) (v .placed .pinsRise);
-      steinerRise = out-sorted lower lower-order p (s .steiner) (v .placed .steinerRise);
-      apart = λ q i j. let o = out-in lower lower-order p q (s .steiner) .0 j in
-          ⊎-elim (λ e. o .1 e) (λ k. v .placed .apart q k (o .0)) (put-in lower lower-order p q (s .pins) .0 i);
-    })
+    prune-valid (withPin p s) (omega (arith, put-length lower lower-order p (s .pins) n)) (with-pin-placed p s (v .placed) r)
 
 pub remove-valid : (p : Point) (s : State) → Valid s → List·Memᴰ p (s .pins) → Valid (remove p s)
 unfolding remove

@@ -18,11 +18,12 @@ use Rattle.spanning.proofs.Tree.{Links, tree-spanning, spanning-tree, kruskal-t
 use Rattle.plane.specs.Point.{Point, lower, Lower}
 use Rattle.plane.specs.Edge.{Edge, Rising, edgeLength, before, Before, planar}
 use Rattle.plane.proofs.Order.{lower-order, before-order, before-length}
-use Rattle.arrays.specs.Set.{setOf}
+use Rattle.arrays.specs.Set.{put, setOf}
 use Rattle.model.specs.Tree.{pairs, edges, mst, RunTree, TheTree}
-use Rattle.arrays.proofs.Set.{set-of-in, set-of-sorted}
+use Rattle.arrays.proofs.Set.{put-in, put-sorted, set-of-in, set-of-sorted}
 
-abbrev edge : Point → Point → Edge
+-- The edge from p to q.
+abbrev pub edge : Point → Point → Edge
 edge p q = record { lo = p; hi = q }
 
 -- The edges from p to each point of a list.
@@ -134,6 +135,16 @@ tree-members ps qs t h r =
       spans = λ u v i j. r .spans u v (h u .1 i) (h v .1 j);
       forest = r .forest;
     }
+
+-- A tree over the points with one more, which may be one of them.
+pub put-tree : (ps : List Point) → Sorted Lower ps → (c : Point) → Tree planar (c ∷ ps) (mst (put lower c ps))
+put-tree ps rise c =
+    tree-members (put lower c ps) (c ∷ ps) (mst (put lower c ps))
+    (λ p. (
+      λ i. ⊎-elim (λ e. head e) (λ j. tail j) (put-in lower lower-order c p ps .0 i),
+      λ i. put-in lower lower-order c p ps .1 (cases i),
+    ))
+    (mst-run-tree (put lower c ps) (put-sorted lower lower-order c ps rise) .tree)
 
 run-tree-members : (ps qs : List Point) (t : List Edge) → ((p : Point) → List·Memᴰ p ps ↔ List·Memᴰ p qs) → RunTree ps t → RunTree qs t
 run-tree-members ps qs t h r = record { tree = tree-members ps qs t h (r .tree); rising = r .rising; sorted = r .sorted }

@@ -9,6 +9,7 @@ use Rattle.plane.specs.Point.{Point, lower, gap, dist, pointDec}
 use Rattle.plane.specs.Edge.{Edge, before, listedBefore, planar}
 use Rattle.plane.specs.Coordinate.{signed16, word16}
 use Rattle.plane.specs.OctantTable.{octants}
+use Rattle.plane.specs.Box.{extreme, spread, halfPerimeter}
 use Rattle.arrays.specs.Set.{put, out, has, union, rising, all}
 use Rattle.model.specs.Refusal.{firstFailed}
 use Rattle.model.specs.Tree.{pairs, edges, mst, treeLength}
@@ -42,6 +43,11 @@ unfoldable pub reads : List ℕ → Read
 unfolding play rising all placed valid signed16 word16 sectionOf numberOf runBytes sameList pointsOf readBy readFile
 reads b = readFile b
 
+-- The half perimeter of the box around points, worked out.
+unfoldable pub halfAround : List Point → ℕ
+unfolding gap extreme spread halfPerimeter
+halfAround ps = halfPerimeter ps
+
 -- A row of calls: pins to begin with, calls, and what they must show.
 pub record DeckRow : Type 0 where
   pub start : List Point
@@ -52,17 +58,20 @@ pub record DeckRow : Type 0 where
 abbrev pub firstState : DeckRow → State
 firstState r = record { pins = r .start; steiner = [] }
 
--- A row of the table: calls and what they show; differences and their octants; a file and what reading it gives.
+-- A row of the table: calls and what they show; differences and their octants; a file and what reading it gives; points and the half
+-- perimeter of the box around them.
 pub data TableRow : Type 0 where
   deckRow : DeckRow → TableRow
   octantRow : List Point → List ℕ → TableRow
   fileRow : List ℕ → Read → TableRow
+  boxRow : List Point → ℕ → TableRow
 
 -- The row holds.
 abbrev pub Holds : TableRow → Type 0
 Holds (deckRow r) = play (firstState r) (r .calls) ≡ r .shows
 Holds (octantRow differences numbers) = octants differences ≡ numbers
 Holds (fileRow b r) = reads b ≡ r
+Holds (boxRow ps n) = halfAround ps ≡ n
 
 -- What reading the file of a state gives.
 unfoldable pub filed : State → Read
@@ -74,11 +83,7 @@ abbrev pub Filed : TableRow → Type 0
 Filed (deckRow r) = filed (r .shows .last) ≡ deck (r .shows .last)
 Filed (octantRow differences numbers) = Unit {0}
 Filed (fileRow b r) = Unit {0}
-
--- Every row of a list.
-abbrev pub All : (TableRow → Type 0) → List TableRow → Type 0
-All P [] = Unit {0}
-All P (r ∷ l) = P r × All P l
+Filed (boxRow ps n) = Unit {0}
 
 -- An offset and a length, both below 65,536, as eight bytes of a file's header: `pair 30 755` is 30 0 0 0 243 2 0 0.
 abbrev pub pair : ℕ → ℕ → List ℕ

@@ -14,4 +14,5 @@ pub mod State
 pub mod Table
 pub mod TableFiles
 pub mod TableMore
+pub mod TableThreePins
 pub mod Tree

@@ -1,5 +1,5 @@
--- The table of decks: the rows of SPEC 11 by number, and those of specs/TableMore.antt and specs/TableFiles.antt. Each is proved in
--- proofs/Decks.antt.
+-- The table of decks: the rows of SPEC 11 by number, and those of specs/TableMore.antt, specs/TableThreePins.antt and specs/TableFiles.antt. Each
+-- is proved in proofs/Decks.antt.
 use mathlib.Core.List.{List, [], _∷_}
 use lib.IntN.{pos, negsuc}
 use Rattle.model.specs.Round.{finished, tap}
@@ -9,6 +9,8 @@ use Rattle.model.specs.TableFiles.{otherStart, otherCount, tooLong, sect
 use Rattle.model.specs.TableFiles.{beyondRange, tapOnPin, runTurned, tapOfTwoRuns, otherTree, fullFile, plainFile}
 use Rattle.model.specs.TableMore.{sweptByItsRound, sweepOrder, lineOfTap, secondRemoval, anotherRunJoins, orderOfEntry, equalSavings}
 use Rattle.model.specs.TableMore.{greatestSaving, lowerEndFirst, octantBorder, refusals}
+use Rattle.model.specs.TableThreePins.{threeOnALine, twoOnOneX, middleIsPin, tapOffMiddle}
+use Rattle.model.specs.TableThreePins.{boxOfLine, boxOfTwoOnOneX, boxOfMiddlePin, boxOfTapOffMiddle, boxAroundOrigin}
 
 -- Row 1: no pin.
 unfoldable pub deck1 : DeckRow
@@ -173,5 +175,7 @@ table =
     ∷ deckRow deck9 ∷ deckRow deck10 ∷ deck11 ∷ deckRow sweptByItsRound ∷ deckRow sweepOrder ∷ deckRow lineOfTap
     ∷ deckRow secondRemoval ∷ deckRow anotherRunJoins ∷ deckRow orderOfEntry ∷ deckRow equalSavings ∷ deckRow greatestSaving
     ∷ deckRow lowerEndFirst ∷ deckRow octantBorder ∷ deckRow refusals
+    ∷ deckRow threeOnALine ∷ deckRow twoOnOneX ∷ deckRow middleIsPin ∷ deckRow tapOffMiddle
+    ∷ boxOfLine ∷ boxOfTwoOnOneX ∷ boxOfMiddlePin ∷ boxOfTapOffMiddle ∷ boxAroundOrigin
     ∷ otherStart ∷ otherCount ∷ tooLong ∷ sectionsApart ∷ byteBehind ∷ unevenSection ∷ unevenRuns ∷ pinTooMany
     ∷ pinTwice ∷ beyondRange ∷ tapOnPin ∷ runTurned ∷ tapOfTwoRuns ∷ otherTree ∷ fullFile ∷ plainFile ∷ []

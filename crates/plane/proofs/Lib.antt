@@ -1,4 +1,6 @@
--- Laws of points, whole numbers, octants and the order of edges, for the proofs here and for other crates.
+-- Laws of points, whole numbers, octants, boxes, edges along an axis and the order of edges, for the proofs here and for other crates.
+pub mod Axis
+pub mod Box
 pub mod EdgeAtPoint
 pub mod Median
 pub mod Metric
@@ -11,4 +13,5 @@ pub mod SameOctant
 pub mod Sector
 pub mod Signed
 pub mod Stored
+pub mod Three
 pub mod Whole

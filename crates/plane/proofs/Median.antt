@@ -4,26 +4,19 @@
 use mathlib.Core.Path.{_≡_, refl, sym, subst}
 use mathlib.Core.Logic.{_⊎_, inl, inr, ⊎-elim}
 use mathlib.Core.List.{List, [], _∷_, List·Memᴰ, List·Memᴰ·head, List·Memᴰ·tail, List·Memᴰ·cases-cons, List·Memᴰ·not-nil}
-use Prim.Native.Nat.{ℕ, zero, suc, _+_, _*_, _-_, _≤_}
+use Prim.Native.Nat.{ℕ, zero, suc, _+_, _*_, _≤_}
 use native.Mathlib.Nat.{mul-le-mul-left, le-refl}
 use native.Mathlib.Omega.{arith}
 use native.Mathlib.Decide.{decLe}
 use lib.IntN.{ℤ}
 use Rattle.plane.specs.Point.{gap}
-use Rattle.plane.proofs.Whole.{plus, minus, gap-ge, gap-le}
-use Rattle.plane.proofs.Metric.{gap-sym, gap-zero}
+use Rattle.plane.proofs.Whole.{AtMost, at-most?}
+use Rattle.plane.proofs.Metric.{gap-zero, gap-up, gap-down}
 
 -- The sum of the distances from x.
 unfoldable pub sumGap : ℤ → List ℤ → ℕ
 sumGap x [] = 0
 sumGap x (y ∷ l) = gap x y + sumGap x l
-
--- a ≤ b on natural numbers.
-abbrev AtMost : ℤ → ℤ → Type 0
-AtMost a b = plus a + minus b ≤ plus b + minus a
-
-at-most? : (a b : ℤ) → Dec (AtMost a b)
-at-most? a b = decLe (plus a + minus b) (plus b + minus a)
 
 -- On one side of x, by a total order `le`: no member of the list, or the member nearest to x.
 module _ (le : ℤ → ℤ → Type 0) (le? : (a b : ℤ) → Dec (le a b)) (total : (a b : ℤ) → ¬ le a b → le b a)
@@ -68,13 +61,6 @@ unfolding sumGap
 linear a x b s t [] f = omega arith
 linear a x b s t (y ∷ l) f = omega (arith, f y (List·Memᴰ·head refl), linear a x b s t l (λ z i. f z (List·Memᴰ·tail i)))
 
--- A distance in one direction, exactly.
-exact : (a b : ℤ) → AtMost a b → gap a b + (plus a + minus b) ≡ plus b + minus a
-exact a b h = omega (arith, gap-ge a b, gap-le a b (plus b + minus a - (plus a + minus b)) (omega arith) (omega arith))
-
-exact′ : (a b : ℤ) → AtMost a b → gap b a + (plus a + minus b) ≡ plus b + minus a
-exact′ a b h = omega (arith, exact a b h, gap-sym a b)
-
 mix : (s t d : ℕ) → s * d + t * (d + t + s) ≡ (s + t) * (d + t)
 mix s t d = omega arith
 
@@ -99,12 +85,12 @@ between a x b l h k f = go (decLe (sumGap a l) (sumGap x l)) (gap-zero a x)
   where
     at : (y : ℤ) → AtMost y a ⊎ AtMost b y → gap x b * gap a y + gap a x * gap b y ≡ (gap x b + gap a x) * gap x y
     at y (inl u) =
-        let ex : gap x y ≡ gap a y + gap a x = omega (arith, exact′ y a u, exact a x h, exact′ y x (omega arith)) in
-        let eb : gap b y ≡ gap a y + gap a x + gap x b = omega (arith, exact′ y a u, exact a x h, exact x b k, exact′ y b (omega arith)) in
+        let ex : gap x y ≡ gap a y + gap a x = omega (arith, gap-down y a u, gap-up a x h, gap-down y x (omega arith)) in
+        let eb : gap b y ≡ gap a y + gap a x + gap x b = omega (arith, gap-down y a u, gap-up a x h, gap-up x b k, gap-down y b (omega arith)) in
         rw (ex, eb) (mix (gap x b) (gap a x) (gap a y))
     at y (inr u) =
-        let ex : gap x y ≡ gap b y + gap x b = omega (arith, exact b y u, exact x b k, exact x y (omega arith)) in
-        let ea : gap a y ≡ gap b y + gap x b + gap a x = omega (arith, exact b y u, exact a x h, exact x b k, exact a y (omega arith)) in
+        let ex : gap x y ≡ gap b y + gap x b = omega (arith, gap-up b y u, gap-up x b k, gap-up x y (omega arith)) in
+        let ea : gap a y ≡ gap b y + gap x b + gap a x = omega (arith, gap-up b y u, gap-up a x h, gap-up x b k, gap-up a y (omega arith)) in
         rw (ex, ea) (mix′ (gap x b) (gap a x) (gap b y))
 
     sums : gap x b * sumGap a l + gap a x * sumGap b l ≡ (gap x b + gap a x) * sumGap x l
@@ -140,9 +126,9 @@ median x y l i = go below above
         total-order : (z : ℤ) → ¬ AtMost z x → AtMost x z
         total-order z n = omega arith
     go (none-there f) (nearest b j h g) =
-        (b, j, toward x b l (λ z t. let n = f z t in let k : AtMost b z = g z t (omega arith) in omega (arith, exact b z k, exact x z (omega arith))))
+        (b, j, toward x b l (λ z t. let n = f z t in let k : AtMost b z = g z t (omega arith) in omega (arith, gap-up b z k, gap-up x z (omega arith))))
     go (nearest a j h f) (none-there g) =
-        (a, j, toward x a l (λ z t. let n = g z t in let k : AtMost z a = f z t (omega arith) in omega (arith, exact′ z a k, exact′ z x (omega arith))))
+        (a, j, toward x a l (λ z t. let n = g z t in let k : AtMost z a = f z t (omega arith) in omega (arith, gap-down z a k, gap-down z x (omega arith))))
     go (nearest a j h f) (nearest b j′ k g) =
         ⊎-elim (λ r. (a, j, r)) (λ r. (b, j′, r))
         (between a x b l h k (λ z t. where-is z (f z t) (g z t) (at-most? z x)))

@@ -7,7 +7,7 @@ use lib.Dec.{T}
 use lib.IntN.{ℤ}
 use lib.Signed.{leZ}
 use Rattle.plane.specs.Point.{Point, gap, dist, Lower}
-use Rattle.plane.proofs.Whole.{plus, minus, whole-ext, gap-ge, gap-le, atmost-value}
+use Rattle.plane.proofs.Whole.{plus, minus, whole-ext, AtMost, gap-ge, gap-le, atmost-value}
 use Rattle.plane.proofs.Order.{lower-order}
 
 pub gap-sym : (a b : ℤ) → gap a b ≡ gap b a
@@ -24,18 +24,19 @@ pub gap-triangle : (a b c : ℤ) → gap a c ≤ gap a b + gap b c
 gap-triangle a b c =
     gap-le a c (gap a b + gap b c) (omega (arith, gap-ge a b, gap-ge b c)) (omega (arith, gap-ge a b, gap-ge b c))
 
+-- The gap in one direction, exactly, and read from the other end.
+pub gap-up : (a b : ℤ) → AtMost a b → gap a b + (plus a + minus b) ≡ plus b + minus a
+gap-up a b h = omega (arith, gap-ge a b, gap-le a b (plus b + minus a - (plus a + minus b)) (omega arith) (omega arith))
+
+pub gap-down : (a b : ℤ) → AtMost a b → gap b a + (plus a + minus b) ≡ plus b + minus a
+gap-down a b h = omega (arith, gap-up a b h, gap-sym a b)
+
 -- Additivity between: a ≤ b ≤ c.
 pub gap-between : (a b c : ℤ) → T (leZ a b) → T (leZ b c) → gap a c ≡ gap a b + gap b c
 gap-between a b c h k =
-    le-antisymm (gap-triangle a b c)
-    (omega (
-      arith,
-      gap-ge a c,
-      gap-le a b (plus b + minus a - (plus a + minus b)) (omega (arith, atmost-value a b h)) (omega (arith, atmost-value a b h)),
-      gap-le b c (plus c + minus b - (plus b + minus c)) (omega (arith, atmost-value b c k)) (omega (arith, atmost-value b c k)),
-      atmost-value a b h,
-      atmost-value b c k,
-    ))
+    let m = atmost-value a b h in
+    let n = atmost-value b c k in
+    omega (arith, gap-up a b m, gap-up b c n, gap-up a c (omega arith))
 
 pub dist-sym : (p q : Point) → dist p q ≡ dist q p
 unfolding dist

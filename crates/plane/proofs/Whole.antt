@@ -5,6 +5,7 @@ use mathlib.Core.Logic.{_⊎_, inl, inr, ⊎-elim}
 use mathlib.Core.Bool.{Bool, true, false, not, cond}
 use Prim.Native.Nat.{ℕ, zero, suc, _+_, _-_, _≤_, _<_}
 use native.Mathlib.Omega.{arith}
+use native.Mathlib.Decide.{decLe}
 use lib.Dec.{T, ltb, ltb→lt, nltb→le, leb→le, lt→ltb, le→leb}
 use lib.IntN.{ℤ, pos, negsuc, negℤ, natAbs, subℕ, _+ℤ_, _-ℤ_}
 use lib.Signed.{ltZ, leZ}
@@ -59,7 +60,13 @@ whole-ext (pos a) (negsuc b) e = absurd (omega arith)
 whole-ext (negsuc a) (pos b) e = absurd (omega arith)
 whole-ext (negsuc a) (negsuc b) e = ap negsuc (omega arith)
 
--- The order.
+-- The order: a is at most b.
+abbrev pub AtMost : ℤ → ℤ → Type 0
+AtMost a b = plus a + minus b ≤ plus b + minus a
+
+pub at-most? : (a b : ℤ) → Dec (AtMost a b)
+at-most? a b = decLe (plus a + minus b) (plus b + minus a)
+
 pub less-value : (a b : ℤ) → T (ltZ a b) → plus a + minus b < plus b + minus a
 less-value (pos a) (pos b) t = omega (arith, ltb→lt a b t)
 less-value (pos a) (negsuc b) t = absurd t
@@ -72,13 +79,13 @@ value-less (pos a) (negsuc b) h = absurd (omega arith)
 value-less (negsuc a) (pos b) h = tt
 value-less (negsuc a) (negsuc b) h = lt→ltb b a (omega arith)
 
-pub atmost-value : (a b : ℤ) → T (leZ a b) → plus a + minus b ≤ plus b + minus a
+pub atmost-value : (a b : ℤ) → T (leZ a b) → AtMost a b
 atmost-value (pos a) (pos b) t = omega (arith, leb→le a b t)
 atmost-value (pos a) (negsuc b) t = absurd t
 atmost-value (negsuc a) (pos b) t = omega arith
 atmost-value (negsuc a) (negsuc b) t = omega (arith, leb→le b a t)
 
-pub value-atmost : (a b : ℤ) → plus a + minus b ≤ plus b + minus a → T (leZ a b)
+pub value-atmost : (a b : ℤ) → AtMost a b → T (leZ a b)
 value-atmost (pos a) (pos b) h = le→leb a b (omega arith)
 value-atmost (pos a) (negsuc b) h = absurd (omega arith)
 value-atmost (negsuc a) (pos b) h = tt

@@ -1,3 +1,4 @@
+pub mod Box
 pub mod Code
 pub mod Coordinate
 pub mod Edge

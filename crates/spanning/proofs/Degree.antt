@@ -103,6 +103,20 @@ module _ {P E : Type 0} (G : Graph P E) (p : P) where
       let k = edges-in F (r .0) .0 (r .1) in
       (r .0, k .0, k .1)
 
+  -- A vertex with as many edges as there are is an end of every edge.
+  degree-most : (F : List E) → degree G p F ≤ length F
+  unfolding degree
+  degree-most [] = omega arith
+  degree-most (e ∷ F) =
+      dite (touches? G p e) (λ h. omega (arith, degree-touch e F h, degree-most F)) (λ n. omega (arith, degree-away e F n, degree-most F))
+
+  pub degree-all : (F : List E) → length F ≤ degree G p F → (e : E) → In F e → Touches G p e
+  degree-all [] h e m = absurd (not-nil m)
+  degree-all (x ∷ F) h e m =
+      dite (touches? G p x)
+      (λ t. ⊎-elim (λ q. subst (Touches G p) (sym q) t) (degree-all F (omega (arith, degree-touch x F t)) e) (cases m))
+      (λ n. absurd (omega (arith, degree-away x F n, degree-most F)))
+
 -- The degrees of all ends add up to twice the number of edges.
 pub degree-sum :
     {P E : Type 0} (G : Graph P E) (ps : List P) (F : List E) → Distinct ps

@@ -1,13 +1,14 @@
 -- Sums over lists without repeats depend on the members alone: a member can be taken out first.
-use mathlib.Core.Path.{_≡_, refl, sym, _∙_, ap, ap₂}
+use mathlib.Core.Path.{_≡_, refl, sym, _∙_, ap, ap₂, subst}
 use mathlib.Core.Logic.{_↔_, _⊎_, inl, inr, ⊎-elim}
-use mathlib.Core.List.{List, [], _∷_, List·Memᴰ, List·Memᴰ·head as head, List·Memᴰ·tail as tail, List·Memᴰ·cases-cons as cases, List·Memᴰ·not-nil as not-nil}
+use mathlib.Core.List.{List, [], _∷_, _++_, List·Memᴰ, List·Memᴰ·head as head, List·Memᴰ·tail as tail, List·Memᴰ·cases-cons as cases}
+use mathlib.Core.List.{List·Memᴰ·not-nil as not-nil}
 use Prim.Native.Nat.{ℕ, _+_, _*_, _≤_}
 use native.Mathlib.Nat.{mul-zero, mul-suc}
 use native.Mathlib.Omega.{arith}
 use lib.ListN.{length}
 use Rattle.spanning.specs.Graph.{total}
-use Rattle.arrays.proofs.Members.{Distinct}
+use Rattle.arrays.proofs.Members.{Distinct, mem-split, mem-less}
 
 -- The list l without its member a.
 pub record Without {A : Type 0} (a : A) (l : List A) : Type 0 where
@@ -22,6 +23,16 @@ module _ {A : Type 0} where
   unfolding total
   total-same-terms f g [] h = refl
   total-same-terms f g (a ∷ l) h = ap₂ _+_ (h a (head refl)) (total-same-terms f g l (λ b m. h b (tail m)))
+
+  pub total-smaller-terms : (f g : A → ℕ) (l : List A) → ((a : A) → List·Memᴰ a l → f a ≤ g a) → total f l ≤ total g l
+  unfolding total
+  total-smaller-terms f g [] h = omega arith
+  total-smaller-terms f g (a ∷ l) h = omega (arith, h a (head refl), total-smaller-terms f g l (λ b m. h b (tail m)))
+
+  pub total-sum : (f g : A → ℕ) (l : List A) → total (λ a. f a + g a) l ≡ total f l + total g l
+  unfolding total
+  total-sum f g [] = refl
+  total-sum f g (a ∷ l) = omega (arith, total-sum f g l)
 
   pub total-least : (f : A → ℕ) (n : ℕ) (l : List A) → ((a : A) → List·Memᴰ a l → n ≤ f a) → n * length l ≤ total f l
   unfolding total
@@ -76,6 +87,31 @@ module _ {A : Type 0} where
         λ k. ⊎-elim (λ p. absurd (r .from b k .1 p)) (λ j. j) (cases (h b .1 (r .from b k .0))),
       )))
       ∙ sym (r .sum f)
+
+  pub same-members-length : (l m : List A) → Distinct l → Distinct m → ((a : A) → List·Memᴰ a l ↔ List·Memᴰ a m) → length l ≡ length m
+  same-members-length l m d e h = omega (arith, total-same-members (λ _. 1) l m d e h, total-const 1 l, total-const 1 m)
+
+  -- The sum over different members of a list is no greater than that over the list.
+  total-middle : (f : A → ℕ) (s : List A) (a : A) (t : List A) → total f (s ++ (a ∷ t)) ≡ f a + total f (s ++ t)
+  unfolding total
+  total-middle f [] a t = refl
+  total-middle f (b ∷ s) a t = omega (arith, total-middle f s a t)
+
+  pub total-some-members : (f : A → ℕ) (l m : List A) → Distinct l → ((a : A) → List·Memᴰ a l → List·Memᴰ a m) → total f l ≤ total f m
+  unfolding total
+  total-some-members f [] m d h = omega arith
+  total-some-members f (a ∷ l) m d h =
+      let c = mem-split (h a (head refl)) in
+      omega (
+        arith,
+        ap (total f) (c .2),
+        total-middle f (c .0) a (c .1),
+        total-some-members f l (c .0 ++ c .1) (d .1)
+            (λ b k. mem-less (c .0) a (c .1) (λ p. d .0 b k (sym p)) (subst (λ n. List·Memᴰ b n) (c .2) (h b (tail k)))),
+      )
+
+  pub some-members-length : (l m : List A) → Distinct l → ((a : A) → List·Memᴰ a l → List·Memᴰ a m) → length l ≤ length m
+  some-members-length l m d h = omega (arith, total-some-members (λ _. 1) l m d h, total-const 1 l, total-const 1 m)
 
   -- The sum over a union of two lists that share no member.
   pub total-union :

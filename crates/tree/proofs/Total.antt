@@ -23,7 +23,8 @@ use Rattle.plane.proofs.Order.{lower-order}
 use Rattle.plane.proofs.Metric.{dist-sym}
 use Rattle.model.specs.Tree.{mst, lengthOf, treeLength, RunTree}
 use Rattle.model.proofs.Tree.{mst-run-tree}
-use Rattle.model.proofs.Cover.{Ends, Connects, mst-cover}
+use Rattle.plane.proofs.Axis.{Connects}
+use Rattle.model.proofs.Cover.{Ends, mst-cover}
 use Rattle.model.proofs.Candidate.{map-in}
 use Rattle.tree.specs.Keys.{key, weight, high, keyGraph, edgeOf, allKeys, treeKeys}
 use Rattle.tree.proofs.keys.Parts.{key-weight, weight-le}

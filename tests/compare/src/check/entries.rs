@@ -4,7 +4,7 @@
 use crate::binding::entries::{plan, replay};
 use reference::buffers::lend;
 use reference::entry::entry;
-use reference::file::{HEADER, LONGEST};
+use reference::file::{read, HEADER, LONGEST};
 use reference::refusals::{Refusals, NO_ROOM};
 use reference::script::hex_of;
 use std::fmt;
@@ -31,6 +31,15 @@ pub fn is_plain(file: &[u8]) -> bool {
 /// The number of Steiner points of a file that is taken.
 pub fn steiner_of(file: &[u8]) -> usize {
     u32::from_le_bytes(file[18..22].try_into().unwrap()) as usize / 4
+}
+
+/// The length of the deck of a file that is taken and full: each run by the
+/// numbers of its ends in the bytes, added up.
+pub fn length_of(file: &[u8]) -> i64 {
+    let points = read(file).expect("a file that is taken").points();
+    let runs = file[HEADER + 4 * points.len()..].chunks_exact(2);
+    runs.map(|ends| points[ends[0] as usize].distance(points[ends[1] as usize]))
+        .sum()
 }
 
 /// What an entry is given: a file, and calls to make on its deck if it is not

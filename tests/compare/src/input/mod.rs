@@ -10,3 +10,4 @@ pub mod files;
 pub mod points;
 pub mod scripts;
 pub mod states;
+pub mod triples;
