@@ -116,26 +116,6 @@ tapOffMiddle-holds : Holds (deckRow tapOffMiddle)
 unfolding play tapOffMiddle
 tapOffMiddle-holds = refl
 
-boxOfLine-holds : Holds boxOfLine
-unfolding halfAround boxOfLine
-boxOfLine-holds = refl
-
-boxOfTwoOnOneX-holds : Holds boxOfTwoOnOneX
-unfolding halfAround boxOfTwoOnOneX
-boxOfTwoOnOneX-holds = refl
-
-boxOfMiddlePin-holds : Holds boxOfMiddlePin
-unfolding halfAround boxOfMiddlePin
-boxOfMiddlePin-holds = refl
-
-boxOfTapOffMiddle-holds : Holds boxOfTapOffMiddle
-unfolding halfAround boxOfTapOffMiddle
-boxOfTapOffMiddle-holds = refl
-
-boxAroundOrigin-holds : Holds boxAroundOrigin
-unfolding halfAround boxAroundOrigin
-boxAroundOrigin-holds = refl
-
 deck11-holds : Holds deck11
 unfolding octants deck11
 deck11-holds = refl
@@ -146,7 +126,7 @@ _and_ : {A B : Type 0} → A → B → A × B
 _and_ a b = (a, b)
 
 pub decks-hold : Each Holds table
-unfolding table deck11 otherStart otherCount tooLong sectionsApart byteBehind unevenSection unevenRuns pinTooMany pinTwice beyondRange tapOnPin
+unfolding table halfAround deck11 otherStart otherCount tooLong sectionsApart byteBehind unevenSection unevenRuns pinTooMany pinTwice beyondRange tapOnPin
     runTurned tapOfTwoRuns otherTree fullFile plainFile boxOfLine boxOfTwoOnOneX boxOfMiddlePin boxOfTapOffMiddle
     boxAroundOrigin
 decks-hold =
@@ -155,7 +135,7 @@ decks-hold =
     and secondRemoval-holds and anotherRunJoins-holds and orderOfEntry-holds and equalSavings-holds and greatestSaving-holds
     and lowerEndFirst-holds and octantBorder-holds and refusals-holds
     and threeOnALine-holds and twoOnOneX-holds and middleIsPin-holds and tapOffMiddle-holds
-    and boxOfLine-holds and boxOfTwoOnOneX-holds and boxOfMiddlePin-holds and boxOfTapOffMiddle-holds and boxAroundOrigin-holds
+    and refl and refl and refl and refl and refl
     and otherStart-holds and otherCount-holds and tooLong-holds
     and sectionsApart-holds and byteBehind-holds and unevenSection-holds and unevenRuns-holds and pinTooMany-holds
     and pinTwice-holds and beyondRange-holds and tapOnPin-holds and runTurned-holds and tapOfTwoRuns-holds and otherTree-holds

@@ -3,7 +3,7 @@
 use mathlib.Core.Path.{_≡_, sym, ap, subst}
 use mathlib.Core.Logic.{_⊎_, ⊎-elim, _↔_}
 use mathlib.Core.List.{List, [], _∷_, map, List·Memᴰ, List·Memᴰ·head as head, List·Memᴰ·tail as tail, List·Memᴰ·cases-cons as cases}
-use mathlib.Core.List.{List·Memᴰ·not-nil as not-nil, Memᴰ·append-left, Memᴰ·append-right, List·Memᴰ·append-cases}
+use mathlib.Core.List.{List·Memᴰ·not-nil as not-nil, Memᴰ·append-left, Memᴰ·append-right, List·Memᴰ·append-cases, Memᴰ·map, Memᴰ·of-map}
 use Prim.Native.Nat.{_-_}
 use native.Mathlib.Omega.{arith}
 use lib.ListN.{length}
@@ -29,13 +29,9 @@ edge p q = record { lo = p; hi = q }
 -- The edges from p to each point of a list.
 from-in : (p : Point) (l : List Point) (e : Edge)
     → List·Memᴰ e (map (λ (q : Point). edge p q) l) → (e .lo ≡ p) × List·Memᴰ (e .hi) l
-from-in p [] e i = absurd (not-nil i)
-from-in p (q ∷ l) e i =
-    ⊎-elim (λ m. ((λ j. m j .lo), head (λ j. m j .hi))) (λ j. let r = from-in p l e j in (r .0, tail (r .1))) (cases i)
-
-to-from : (p q : Point) (l : List Point) → List·Memᴰ q l → List·Memᴰ (edge p q) (map (λ (r : Point). edge p r) l)
-to-from p q [] i = absurd (not-nil i)
-to-from p q (r ∷ l) i = ⊎-elim (λ m. head (λ j. edge p (m j))) (λ j. tail (to-from p q l j)) (cases i)
+from-in p l e i =
+    let r = Memᴰ·of-map (λ (q : Point). edge p q) l i in
+    (ap (λ (f : Edge). f .lo) (sym (r .2)), subst (λ (f : Edge). List·Memᴰ (f .hi) l) (r .2) (r .1))
 
 -- An edge is among the pairs of a rising list exactly if it rises between two of its points.
 Between : List Point → Edge → Type 0
@@ -59,7 +55,7 @@ in-pairs (p ∷ l) s e b =
     (λ m. ⊎-elim
     (λ n. absurd (lower-order .irrefl p (subst (λ (z : Point). Lower z p) m (subst (λ (z : Point). Lower (e .lo) z) n (b .2)))))
     (λ j. Memᴰ·append-left (pairs l)
-    (subst (λ (z : Point). List·Memᴰ (edge z (e .hi)) (map (λ (q : Point). edge p q) l)) (sym m) (to-from p (e .hi) l j)))
+    (subst (λ (z : Point). List·Memᴰ (edge z (e .hi)) (map (λ (q : Point). edge p q) l)) (sym m) (Memᴰ·map (λ (q : Point). edge p q) j)))
     (cases (b .1)))
     (λ i. ⊎-elim
     (λ n. absurd (lower-order .irrefl p (lower-order .trans p (e .lo) p (s .0 (e .lo) i) (subst (λ (z : Point). Lower (e .lo) z) n (b .2)))))

@@ -9,18 +9,15 @@ use native.Mathlib.Omega.{arith}
 use lib.Dec.{T, T-not}
 use lib.IntN.{ℤ}
 use lib.Signed.{leZ}
-use Rattle.arrays.proofs.Test.{by-test}
+use Rattle.arrays.proofs.Test.{by-test, false-of}
 use Rattle.plane.specs.Point.{Point, point, gap, dist}
 use Rattle.plane.specs.Box.{extreme, least, greatest, spread, halfPerimeter, Reaches, BoxAround}
-use Rattle.plane.proofs.Whole.{AtMost, at-most?, whole-ext, atmost-value, value-atmost}
+use Rattle.plane.proofs.Whole.{whole-ext, atmost-value, value-atmost}
+use Rattle.plane.proofs.Signed.{most-no}
 
 -- One of two whole numbers is at most the other.
 atmost-other : (a b : ℤ) → ¬ T (leZ a b) → T (leZ b a)
-atmost-other a b n = value-atmost b a (go (at-most? b a))
-  where
-    go : Dec (AtMost b a) → AtMost b a
-    go (yes h) = h
-    go (no m) = absurd (n (value-atmost a b (omega arith)))
+atmost-other a b n = value-atmost b a (omega (arith, most-no a b (false-of (leZ a b) n)))
 
 atmost-trans : (a b c : ℤ) → T (leZ a b) → T (leZ b c) → T (leZ a c)
 atmost-trans a b c h k = value-atmost a c (omega (arith, atmost-value a b h, atmost-value b c k))
