@@ -1,6 +1,6 @@
 # What each target does: make help.
-.PHONY: help run test tests reference_tests compare_tests gate_tests bench table_1 reference programs entries library replay_library fuzz \
-	libfuzzer
+.PHONY: help run test tests reference_tests compare_tests gate_tests bench table_1 reference programs entries library replay_library \
+	display_library fuzz libfuzzer
 
 .DEFAULT_GOAL := run
 
@@ -14,7 +14,7 @@ run: programs ## the listing of a sample deck
 
 # The programs, proved and linked to target/bin.
 programs: ## the programs, proved and linked to target/bin
-	@rt check decklist deckplay >&2
+	@rt check decklist deckplay arrows >&2
 
 reference: ## the independent implementation
 	@cd tests/reference && cargo build --release --offline --quiet
@@ -27,12 +27,17 @@ library: ## the planner for C: target/staticlib/libplanner.a
 replay_library: ## lists of calls for C: target/staticlib/libreplay.a
 	rt staticlib replay
 
+# Arrows on displays for C.
+display_library: ## arrows on displays for C: target/staticlib/libdisplay.a
+	rt staticlib display
+
 # The proved functions as libraries for the tests in Rust. One after the other, since each looks through what is proved already.
 entries: ## the proved functions as libraries for the tests
 	rt staticlib test_tree
 	rt staticlib test_deck
 	rt staticlib planner
 	rt staticlib replay
+	rt staticlib display
 
 # The prover over every crate, then the tests on what it proved.
 test: ## the gate: the prover over every crate, then the tests; the last line is the verdict

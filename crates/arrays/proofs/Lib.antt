@@ -3,4 +3,5 @@ pub mod Order
 pub mod Set
 pub mod SetMap
 pub mod Signed
+pub mod Tab
 pub mod Test

@@ -4,5 +4,6 @@ pub mod Order
 pub mod Paste
 pub mod Same
 pub mod Set
+pub mod Tab
 pub mod Test
 pub mod Text

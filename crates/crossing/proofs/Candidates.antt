@@ -17,7 +17,7 @@ use Rattle.arrays.specs.Set.{union, setOf}
 use Rattle.model.specs.Round.{crossings, notHeld, candidates, bestAbove, best}
 use Rattle.arrays.proofs.SetMap.{union-map}
 use Rattle.tree.specs.Held.{held}
-use Rattle.tree.specs.Keys.{tab}
+use Rattle.arrays.specs.Tab.{tab}
 use Rattle.tree.proofs.Sorted.{ps-sorted}
 use Rattle.regions.specs.Rays.{far}
 use Rattle.crossing.specs.declared.found.Greatest.{Greatest}

@@ -14,7 +14,8 @@ use Rattle.plane.specs.Stored.{pointAt}
 use Rattle.arrays.specs.Set.{setOf}
 use Rattle.tree.specs.Build.{Rises}
 use Rattle.tree.specs.Held.{held}
-use Rattle.tree.specs.Keys.{tab, treeKeys}
+use Rattle.tree.specs.Keys.{treeKeys}
+use Rattle.arrays.specs.Tab.{tab}
 use Rattle.regions.specs.Rays.{places, tableSize, far}
 use Rattle.regions.specs.Nearest.{ColumnGiven}
 use Rattle.score.specs.Gain.{tableAt, gain, raysAt}

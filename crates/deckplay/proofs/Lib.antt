@@ -1,2 +1,3 @@
 -- Laws of the input as a whole.
+pub mod Examples
 pub mod Input

@@ -6,7 +6,8 @@ use lib.Dec.{leb, eqb}
 use lib.IntN.{ℤ}
 use lib.ListN.{length}
 use Rattle.io.specs.Counts as io
-use Rattle.arrays.specs.Test.{if}
+use Rattle.arrays.specs.Test.{if, ifNatural}
+use Rattle.arrays.specs.Text.{byte}
 use Rattle.plane.specs.Point.{point}
 use Rattle.plane.specs.Octant.{octantCount, octant}
 use Rattle.model.specs.Call as call
@@ -24,11 +25,14 @@ use Rattle.script.specs.declared.Change.{Change}
 use Rattle.script.specs.declared.Change.the-variants as change
 use Rattle.script.specs.declared.Query.{Query}
 use Rattle.script.specs.declared.Query.the-variants as query
+use Rattle.script.specs.declared.Direction.{Direction}
+use Rattle.script.specs.declared.Direction.the-variants as direction
 use Rattle.script.specs.declared.Command.{Command}
 use Rattle.script.specs.declared.Command.the-variants as command
 use Rattle.script.specs.Commands as script
 use Rattle.ascii.specs.Encoding.{fileText, joinedLines}
-use Rattle.replies.specs.Replies.{errorWord, octantWord, numberText, replyText, answerText}
+use Rattle.arrow.specs.Arrow.{arrow, glyph}
+use Rattle.replies.specs.Replies.{errorWord, octantWord, numberText, replyText, answerText, indicationText, glyphText}
 use Rattle.listing.specs.Whole.{deckText}
 use Rattle.deckplay.specs.declared.answer.Played.{Played}
 
@@ -60,6 +64,16 @@ writeText d n =
 abbrev pub octantText : ℤ → ℤ → List ℕ
 octantText x y = let k = octant x y in if (eqb k octantCount) (λ _. errorWord) (λ _. numberText octantWord k)
 
+-- `glyph N`: the glyph of any whole number; a negative one is no arrow.
+unfoldable pub glyphOf : ℤ → ℕ
+glyphOf = ifNatural glyph (byte "?")
+
+-- The answer to a question on directions: `octant DX DY`, `arrow DISPLAYX DISPLAYY BAYX BAYY PITCH`, `glyph N`.
+unfoldable pub directionText : Direction → List ℕ
+directionText (direction.Octant x y) = octantText x y
+directionText (direction.Arrow x y u v pitch) = indicationText (arrow (point x y) (point u v) pitch)
+directionText (direction.Glyph n) = glyphText (glyphOf n)
+
 -- The call and the question of a line.
 unfoldable pub callFor : Change → call.Call
 callFor (change.Add x y) = call.add (point x y)
@@ -81,7 +95,7 @@ lineOf d b command.Read = changes (reading (script.fileInLine b))
 lineOf d b (command.Write n) = stays d (writeText d (min n script.longestFile))
 lineOf d b (command.Call c) = changes (called d (callFor c))
 lineOf d b (command.Ask q) = stays d (answerText (asked d (questionFor q)))
-lineOf d b (command.Octant x y) = stays d (octantText x y)
+lineOf d b (command.Direct q) = stays d (directionText q)
 lineOf d b command.List = stays d (joinedLines (deckText d))
 
 -- What a line does.

@@ -9,10 +9,13 @@ use plane::octants::NO_OCTANT;
 use questions::Answer;
 use replies::answer_line;
 use replies::error_line;
+use replies::glyph_line;
+use replies::indication_line;
 use replies::octant_line;
 use replies::reply_line;
 use script::Change;
 use script::Command;
+use script::Direction;
 use script::LINE_LIMIT;
 use script::LONGEST_FILE;
 use script::Query;
@@ -25,9 +28,12 @@ ghost use Rattle.deckfile.specs.Reading.{reading};
 ghost use Rattle.script.specs.declared.Command.the-variants as command;
 ghost use Rattle.script.specs.Commands.{longestFile, commandOf, fileInLine};
 ghost use Rattle.ascii.specs.Encoding.{joinedLines};
-ghost use Rattle.replies.specs.Replies.{errorWord, answerText};
+ghost use Rattle.replies.specs.Replies.{errorWord, answerText, indicationText, glyphText};
+ghost use Rattle.plane.specs.Point.{point};
+ghost use Rattle.arrow.specs.Arrow as arrow;
 ghost use Rattle.listing.specs.Whole.{deckText};
-ghost use Rattle.deckplay.specs.Play.{answerRoom, stays, changes, writeText, octantText, callFor, questionFor, lineOf, played, Plays};
+ghost use Rattle.deckplay.specs.Play.{answerRoom, stays, changes, writeText, callFor, questionFor, lineOf, played, Plays};
+ghost use Rattle.deckplay.specs.Play.{octantText, glyphOf, directionText};
 
 // Room for any answer: the lines of a listing joined take three times as many bytes at most.
 pub const ANSWER_ROOM: usize = 3 * LISTING_ROOM;
@@ -139,6 +145,50 @@ fn octant(d: Deck, x: i32, y: i32, out: &mut [u8]) -> Played
     }
 }
 
+// The arrow from a display to a bay.
+fn arrow(d: Deck, x: i16, y: i16, u: i16, v: i16, pitch: i32, out: &mut [u8]) -> Played
+    requires { ⌜ answerRoom ≤ length (now out) ⌝ }
+    ensures { λ r. ⌜ Plays (stays d (indicationText (arrow.arrow (point x y) (point u v) pitch))) (now (out .entry)) (now (out .exit)) r ⌝ }
+{
+    Played {
+        next: d,
+        size: indication_line(arrow::arrow(x, y, u, v, pitch), out),
+    }
+}
+
+// The glyph of any number of 32 bits.
+fn glyph_of(n: i32) -> u8
+    ensures { λ r. ⌜ r ≡ glyphOf n ⌝ }
+{
+    if n < 0 {
+        return b'?';
+    }
+    arrow::glyph(n as u32)
+}
+
+// The glyph of a number.
+fn glyph(d: Deck, n: i32, out: &mut [u8]) -> Played
+    requires { ⌜ answerRoom ≤ length (now out) ⌝ }
+    ensures { λ r. ⌜ Plays (stays d (glyphText (glyphOf n))) (now (out .entry)) (now (out .exit)) r ⌝ }
+{
+    Played {
+        next: d,
+        size: glyph_line(glyph_of(n), out),
+    }
+}
+
+// Answers a question on directions.
+fn direct(d: Deck, q: Direction, out: &mut [u8]) -> Played
+    requires { ⌜ answerRoom ≤ length (now out) ⌝ }
+    ensures { λ r. ⌜ Plays (stays d (directionText q)) (now (out .entry)) (now (out .exit)) r ⌝ }
+{
+    match q {
+        Direction::Octant(x, y) => octant(d, x, y, out),
+        Direction::Arrow(x, y, u, v, pitch) => arrow(d, x, y, u, v, pitch, out),
+        Direction::Glyph(n) => glyph(d, n, out),
+    }
+}
+
 // The listing of the deck as it is, on one line.
 fn list(d: Deck, out: &mut [u8]) -> Played
     requires { ⌜ answerRoom ≤ length (now out) ⌝ }
@@ -191,7 +241,7 @@ fn obey(d: Deck, line: &[u8], c: Command, out: &mut [u8]) -> Played
         Command::Write(n) => write(d, n, out),
         Command::Call(k) => call(d, k, out),
         Command::Ask(q) => ask(d, q, out),
-        Command::Octant(x, y) => octant(d, x, y, out),
+        Command::Direct(q) => direct(d, q, out),
         Command::List => list(d, out),
     }
 }

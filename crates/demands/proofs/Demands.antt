@@ -13,11 +13,12 @@ use Rattle.model.specs.Call as call
 use Rattle.model.specs.Session as model
 use Rattle.model.specs.File.{Read, deck, refusal as refusing-file, readFile}
 use Rattle.model.proofs.FileAnswer.{Possible, taken, refused, read-possible}
+use Rattle.arrow.proofs.Claim.{arrow-refused, arrow-answered, arrows}
 use Rattle.deck.specs.declared.Deck.{Deck}
 use Rattle.calls.specs.declared.Reply.the-variants as reply
 use Rattle.deck.specs.Form.{deckOf, stateOf, Sound, sound}
 use Rattle.calls.specs.Changes.{replyOf}
-use Rattle.deck.specs.Calls.{deckOutcome, called}
+use Rattle.deck.specs.Calls.{called}
 use Rattle.deck.proofs.Form.{sound-is}
 use Rattle.deck.proofs.Calls.{called-unsound}
 use Rattle.deck.proofs.Questions.{asked-unsound}
@@ -29,6 +30,7 @@ use Rattle.deckfile.proofs.Stored.{write-unsound, write-short, write-fits}
 use Rattle.deckfile.proofs.RoundTrip.{written-then-read, full-back, plain-full}
 use Rattle.deckfile.proofs.answer.Entry.{entered}
 use Rattle.planner.specs.Entry.{toEnd}
+use Rattle.display.proofs.Entry.{numbered}
 use Rattle.replay.proofs.Claim.{replayed}
 use Rattle.deck.specs.Session.{deckAfter, replies, reckoned}
 use Rattle.deck.specs.SessionDeck.{SessionDeck}
@@ -89,6 +91,7 @@ demand1 =
       refusedCall = refused-call;
       shortBuffer = λ d l s h. let w = write-short d l (passes d s) h in (sym (w .0), sym (w .1));
       longBuffer = write-fits;
+      arrow = λ display bay pitch. record { answered = arrow-answered display bay pitch; refused = arrow-refused display bay pitch };
     }
 
 pub demand2 : Demand2
@@ -113,6 +116,8 @@ demand2 =
         taken = λ s e. sym (text-deck b s e);
         whole = λ out h. ap (λ (t : Bool). if t (λ _. listingOfFile b) (λ _. [])) (le-leb listingRoom (length out) h);
       };
+      arrows = arrows;
+      displayed = numbered;
     }
 
 -- Every start is one of the claim on decks.

@@ -1,11 +1,13 @@
 -- The three demands, as claims on what the program's functions answer and leave by their contracts: `reading` (deckfile::read),
 -- `written` and `bufferAfter` (deckfile::write), `called` (each call on a deck), `asked` (each question), `answerNumber` and `answerBuffer`
--- (planner_plan and replay_calls). That every function ends, and touches nothing else, is part of what is proved of each.
+-- (planner_plan and replay_calls), `arrow`, `glyph` and `arrowTable` (the functions of crate arrow), `indicationNumber` (display_arrow). That every
+-- function ends, and touches nothing else, is part of what is proved of each.
 use mathlib.Core.Path.{_≡_}
 use mathlib.Core.Logic.{_⊎_, _↔_}
 use mathlib.Core.Option.{some}
 use mathlib.Core.List.{List, _++_, List·Memᴰ}
 use Prim.Native.Nat.{ℕ, _-_, _≤_, _<_}
+use lib.IntN.{ℤ}
 use lib.ListN.{length, drop}
 use Rattle.plane.specs.Point.{Point}
 use Rattle.plane.specs.Edge.{Edge}
@@ -14,6 +16,10 @@ use Rattle.model.specs.Round.{finish}
 use Rattle.model.specs.Call as call
 use Rattle.model.specs.Listing.{listing, refusedLine, listingOfFile}
 use Rattle.model.specs.File.{deck, refusal, readFile, fileOf}
+use Rattle.model.specs.Refusal.{FirstFailed}
+use Rattle.arrow.specs.declared.Indication.the-variants as indication
+use Rattle.arrow.specs.Arrow.{arrowChecks, arrow}
+use Rattle.arrow.specs.Claim.{Arrows}
 use Rattle.deck.specs.declared.Deck.{Deck}
 use Rattle.deck.specs.declared.Outcome.{Outcome}
 use Rattle.calls.specs.declared.Reply.the-variants as reply
@@ -33,6 +39,7 @@ use Rattle.demands.specs.Method.{RunsAreTree, RoundOf, SweepsOf, EndOf}
 use Rattle.ascii.specs.Text.{fitting}
 use Rattle.listing.specs.Whole.{listingRoom}
 use Rattle.planner.specs.Entry.{toEnd}
+use Rattle.display.specs.Entry.{Numbered}
 use Rattle.replay.specs.Claim.{Replayed}
 
 -- The calls that a number can refuse (SPEC 8.3): 7, 8 and 10 adding, 9 withdrawing, none a round or a run to the end.
@@ -45,6 +52,12 @@ InCase s call.runToEnd n = ⊥
 -- What reading a file can answer (SPEC 8.1, 8.2): the deck of a valid state, or a number from 1 to 6 and an empty deck.
 abbrev pub FileAnswer : Outcome → Type 0
 FileAnswer o = ((s : State) × Valid s × (o ≡ acceptedDeck (deckOf s))) ⊎ ((n : ℕ) × (1 ≤ n) × (n ≤ 6) × (o ≡ refusedFile n))
+
+-- What is shown for a bay (SPEC 3.4, 8.5): an arrow from 0 to 8, or 13 or 14, and each of these exactly if its test is the first that fails.
+pub record ArrowAnswer (display bay : Point) (pitch : ℤ) : Type 0 where
+  pub answered : ((k : ℕ) × (k ≤ 8) × (arrow display bay pitch ≡ indication.Arrow k))
+      ⊎ ((n : ℕ) × ((n ≡ 13) ⊎ (n ≡ 14)) × (arrow display bay pitch ≡ indication.Refused n))
+  pub refused : (n : ℕ) → (arrow display bay pitch ≡ indication.Refused n) ↔ FirstFailed n (arrowChecks display bay pitch)
 
 -- Demand 1: every file and every call is taken, or refused by a number of SPEC 8, and then the deck and the buffer are as SPEC 8.1 and 8.4
 -- say.
@@ -63,6 +76,8 @@ pub record Demand1 : Type 0 where
   pub shortBuffer : (d : Deck) (l : List ℕ) → Sound d → length l < length (fileOf (stateOf d)) → (written d l ≡ writing.Refused 12) × (bufferAfter d l ≡ l)
   pub longBuffer : (d : Deck) (l : List ℕ) → Sound d → length (fileOf (stateOf d)) ≤ length l
       → (written d l ≡ writing.Length (length (fileOf (stateOf d)))) × (bufferAfter d l ≡ fileOf (stateOf d) ++ drop (length (fileOf (stateOf d))) l)
+  -- any display, any bay and any pitch
+  pub arrow : (display bay : Point) (pitch : ℤ) → ArrowAnswer display bay pitch
 
 -- What the listing program writes for a list of bytes (SPEC 9; `listingOfFile`, by the contract of decklist's `list_file`).
 pub record ListingOf (b : List ℕ) : Type 0 where
@@ -93,6 +108,10 @@ pub record Demand2 : Type 0 where
   pub planned : (b l : List ℕ) → Entered (readFile b) toEnd l
   -- the listing program, for every list of bytes
   pub listed : (b : List ℕ) → ListingOf b
+  -- the table of arrows, the arrow from a display to a bay and the glyphs (SPEC 3.3 to 3.5)
+  pub arrows : Arrows
+  -- the C entry for arrows (SPEC 10.4): its number says what is indicated
+  pub displayed : (display bay : Point) (pitch : ℤ) → Numbered display bay pitch
 
 -- What a list of calls starts from (SPEC 6.1): an empty deck or an accepted file, with its points.
 pub data StartDeck : Deck → State → Type 0 where

@@ -1,4 +1,4 @@
--- Signed numbers of 32 bits: what a test of them says, when a sum fits, and the stored form of one in range. By natural numbers:
+-- Signed numbers of 32 bits: what a test of them says, when a sum fits, and what a bound on one says. By natural numbers:
 -- a test of two whole numbers and a bound on one are linear facts on their parts `plus` and `minus`.
 use mathlib.Core.Path.{_≡_, sym, _∙_, subst}
 use mathlib.Core.Logic.{⊎-elim}
@@ -6,20 +6,18 @@ use mathlib.Core.Bool.{Bool, true, false, _&&_, cond}
 use Prim.Native.Nat.{ℕ, suc, _+_, _-_, _≤_, _<_}
 use native.Mathlib.Omega.{arith}
 use native.Mathlib.Decide.{decLt, decLe}
-use lib.Dec.{T, ltb}
-use lib.IntN.{ℤ, pos, negsuc, subℕ, _+ℤ_, _-ℤ_}
+use lib.Dec.{T, ltb, leb, leb→le, le→leb}
+use lib.IntN.{ℤ, pos, negsuc, natAbs, subℕ, _+ℤ_, _-ℤ_}
 use lib.Signed.{ltZ, leZ}
-use mir.Syntax.{w32}
+use mir.Syntax.{w16, w32}
 use mir.Val.{SFits}
-use Rattle.plane.specs.Point.{limit, coordinateInRange}
-use Rattle.plane.specs.Coordinate.{base, storedOf}
+use Rattle.plane.specs.Coordinate.{base}
 use Rattle.plane.specs.Octant.{octant}
 use Rattle.arrays.proofs.Signed.{read, read-two}
 use Rattle.arrays.proofs.Test.{and-parts, and-both, same-test}
-use Rattle.plane.proofs.Whole.{plus, minus, one-sided, sub-value, add-value, difference-value, whole-ext, less-value, value-less, atmost-value}
-use Rattle.plane.proofs.Whole.{value-atmost}
-use Rattle.plane.proofs.Range.{range-values}
-use Rattle.plane.proofs.Stored.{value-range, stored-value}
+use Rattle.plane.proofs.Whole.{plus, minus, one-sided, abs-value, sub-value, add-value, difference-value, whole-ext}
+use Rattle.plane.proofs.Whole.{less-value, value-less, atmost-value, value-atmost}
+use Rattle.plane.proofs.Stored.{moved}
 use Rattle.plane.proofs.Sector.{SectorOf}
 use Rattle.plane.proofs.octants.Between.{sector-octant, octant-none}
 
@@ -47,7 +45,11 @@ most-no a b e = go (decLe (plus a + minus b) (plus b + minus a))
 -- These four, for `omega` to take a test from where it stands.
 pub ruleset tests = (less-yes, less-no, most-yes, most-no)
 
--- The numbers that 32 bits hold.
+-- The numbers that 16 bits hold, and 32.
+pub short-bounds : (z : ℤ) → SFits w16 z → (plus z < 32768) × (minus z ≤ 32768)
+short-bounds (pos n) f = (f .sfits, omega arith)
+short-bounds (negsuc n) f = (omega arith, omega (arith, f .sfits))
+
 pub bounds : (z : ℤ) → SFits w32 z → (plus z < 2147483648) × (minus z ≤ 2147483648)
 bounds (pos n) f = (f .sfits, omega arith)
 bounds (negsuc n) f = (omega arith, omega (arith, f .sfits))
@@ -70,19 +72,23 @@ read-octant k dx dy f g s = sym (sector-octant k (read dx) (read dy) s) ∙ read
 pub read-none : (dx dy : ℤ) → SFits w32 dx → SFits w32 dy → plus (read dx) ≡ minus (read dx) → plus (read dy) ≡ minus (read dy) → 8 ≡ octant dx dy
 read-none dx dy f g e h = sym (octant-none (read dx) (read dy) e h) ∙ read-two octant dx dy f g
 
--- A coordinate in range lies between two bounds; raised by 30,000 it is its stored form.
-pub between-limits : (z : ℤ) → leZ (negsuc 29999) z && leZ z (pos limit) ≡ coordinateInRange z
-between-limits z =
-    same-test (leZ (negsuc 29999) z && leZ z (pos limit)) (coordinateInRange z)
-    (λ t. let h = and-parts (leZ (negsuc 29999) z) (leZ z (pos limit)) t in
-    value-range z (omega (arith, atmost-value (negsuc 29999) z (h .0))) (omega (arith, atmost-value z (pos limit) (h .1))))
-    (λ t. let h = range-values z t in
-    and-both (leZ (negsuc 29999) z) (leZ z (pos limit)) (value-atmost (negsuc 29999) z (omega arith)) (value-atmost z (pos limit) (omega arith)))
+-- A number that is at most so large without its sign lies between two bounds.
+pub between : (k : ℕ) (z : ℤ) → leZ (negsuc k) z && leZ z (pos (suc k)) ≡ leb (natAbs z) (suc k)
+between k z =
+    same-test (leZ (negsuc k) z && leZ z (pos (suc k))) (leb (natAbs z) (suc k))
+    (λ t. let h = and-parts (leZ (negsuc k) z) (leZ z (pos (suc k))) t in
+    let a = atmost-value (negsuc k) z (h .0) in
+    let b = atmost-value z (pos (suc k)) (h .1) in
+    le→leb (natAbs z) (suc k) (⊎-elim (λ e. omega (arith, abs-value z)) (λ e. omega (arith, abs-value z)) (one-sided z)))
+    (λ t. let h = leb→le (natAbs z) (suc k) t in
+    and-both (leZ (negsuc k) z) (leZ z (pos (suc k))) (value-atmost (negsuc k) z (omega (arith, abs-value z)))
+    (value-atmost z (pos (suc k)) (omega (arith, abs-value z))))
 
-pub raised : (z : ℤ) → T (coordinateInRange z) → z +ℤ pos limit ≡ pos (storedOf z)
-raised z t =
-    let h = range-values z t in
-    whole-ext (z +ℤ pos limit) (pos (storedOf z)) (omega (arith, add-value z (pos limit), stored-value z (omega arith)))
+-- Raised by that bound it is not negative, and at most twice the bound.
+pub raised : (k : ℕ) (z : ℤ) → natAbs z ≤ k → (z +ℤ pos k ≡ pos (natAbs (z +ℤ pos k))) × (natAbs (z +ℤ pos k) ≤ k + k)
+raised k z h =
+    let m = moved z k (omega (arith, abs-value z)) in
+    (whole-ext (z +ℤ pos k) (pos (natAbs (z +ℤ pos k))) (omega (arith, add-value z (pos k), m)), omega (arith, m, abs-value z))
 
 -- The difference of two numbers of 16 bits.
 pub lowered : (a b : ℕ) → pos a -ℤ pos b ≡ subℕ a b

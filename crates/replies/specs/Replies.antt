@@ -1,15 +1,18 @@
--- The lines for replies and answers of a deck's calls and questions (SPEC 9.3, 9.4), without the line feed.
-use mathlib.Core.List.{List, _++_}
+-- The lines for replies and answers of a deck's calls and questions, and for directions (SPEC 9.3, 9.4), without the line feed.
+use mathlib.Core.List.{List, [], _∷_, _++_}
 use Prim.Native.Nat.{ℕ}
 use lib.IntN.{ℤ}
 use Rattle.arrays.specs.Text.{bytes}
 use Rattle.model.specs.Listing.{field, decimal, signedDecimal, refusedWord, tapWord, runWord}
+use Rattle.arrow.specs.declared.Indication.{Indication}
+use Rattle.arrow.specs.declared.Indication.the-variants as indication
+use Rattle.arrow.specs.Arrow.{glyph}
 use Rattle.calls.specs.declared.Reply.{Reply}
 use Rattle.calls.specs.declared.Reply.the-variants as reply
 use Rattle.questions.specs.declared.Answer.{Answer}
 use Rattle.questions.specs.declared.Answer.the-variants as answer
 
--- The words ok, error, finished, fall, rounds, length, counts, no, degree, octant.
+-- The words ok, error, finished, fall, rounds, length, counts, no, degree, octant, arrow, glyph.
 abbrev pub okWord : List ℕ
 okWord = bytes "ok"
 
@@ -40,7 +43,13 @@ degreeWord = bytes "degree"
 abbrev pub octantWord : List ℕ
 octantWord = bytes "octant"
 
--- Room for the parts of a line: a fall in length, three counts, the ends of an edge, an edge; and for any line.
+abbrev pub arrowWord : List ℕ
+arrowWord = bytes "arrow"
+
+abbrev pub glyphWord : List ℕ
+glyphWord = bytes "glyph"
+
+-- Room for the parts of a line: a fall in length, three counts, the ends of an edge, an edge, an arrow; and for any line.
 abbrev pub fallRoom : ℕ
 fallRoom = 73
 
@@ -52,6 +61,9 @@ endsRoom = 88
 
 abbrev pub edgeRoom : ℕ
 edgeRoom = 112
+
+abbrev pub arrowRoom : ℕ
+arrowRoom = 28
 
 abbrev pub lineRoom : ℕ
 lineRoom = 128
@@ -92,3 +104,16 @@ answerText (answer.Counts p t r) = countsText p t r
 answerText (answer.Edge x y u v n) = edgeText x y u v n
 answerText answer.NoEdge = noWord ++ field runWord
 answerText (answer.Degree n) = numberText degreeWord n
+
+-- An arrow and its glyph: `arrow N GLYPH`.
+abbrev pub arrowText : ℕ → List ℕ
+arrowText n = arrowWord ++ (field (decimal n) ++ field (glyph n ∷ []))
+
+-- The line of what a display shows.
+unfoldable pub indicationText : Indication → List ℕ
+indicationText (indication.Refused n) = numberText refusedWord n
+indicationText (indication.Arrow n) = arrowText n
+
+-- A glyph: `glyph G`.
+abbrev pub glyphText : ℕ → List ℕ
+glyphText g = glyphWord ++ field (g ∷ [])

@@ -17,7 +17,8 @@ use Rattle.plane.proofs.Stored.{gap-rising, gap-falling}
 use Rattle.arrays.specs.Set.{put}
 use Rattle.model.specs.Tree.{treeLength}
 use Rattle.tree.specs.Held.{held}
-use Rattle.tree.specs.Keys.{weight, keyGraph, tab, allKeys, treeKeys}
+use Rattle.tree.specs.Keys.{weight, keyGraph, allKeys, treeKeys}
+use Rattle.arrays.specs.Tab.{tab}
 use Rattle.tree.proofs.keys.All.{all-keys-sorted}
 use Rattle.tree.proofs.Size.{near-words}
 use Rattle.regions.specs.Rays.{places, ray, rayLength, rayPoint, far, farRay}

@@ -12,7 +12,8 @@ use Rattle.plane.specs.Point.{Point, dist}
 use Rattle.model.specs.Tree.{treeLength}
 use Rattle.tree.specs.Build.{Rises}
 use Rattle.tree.specs.Held.{held}
-use Rattle.tree.specs.Keys.{weight, keyGraph, tab, allKeys, treeKeys}
+use Rattle.tree.specs.Keys.{weight, keyGraph, allKeys, treeKeys}
+use Rattle.arrays.specs.Tab.{tab}
 use Rattle.tree.proofs.keys.Parts.{key-weight}
 use Rattle.tree.proofs.keys.All.{all-keys-in, all-keys-sorted, all-keys-join}
 use Rattle.tree.proofs.Lengths.{rising-total}

@@ -6,7 +6,8 @@ use lib.ListN.{length}
 use Rattle.model.specs.Tree.{treeLength}
 use Rattle.tree.specs.Build.{Rises}
 use Rattle.tree.specs.Held.{held}
-use Rattle.tree.specs.Keys.{tab, treeKeys}
+use Rattle.tree.specs.Keys.{treeKeys}
+use Rattle.arrays.specs.Tab.{tab}
 use Rattle.bottleneck.specs.Table.{Bottlenecks}
 use Rattle.regions.specs.Rays.{places, tableSize}
 

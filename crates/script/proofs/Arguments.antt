@@ -1,55 +1,49 @@
--- A command by its name and its arguments: by what each argument is.
-use mathlib.Core.Path.{_≡_, refl, sym, _∙_}
-use mathlib.Core.Bool.{true, false}
+-- A command by its arguments: the file of `read`, numbers of 16 bits, and the numbers behind a name as they are told.
+use mathlib.Core.Path.{_≡_, refl, sym, ap}
+use mathlib.Core.Bool.{true, false, _&&_}
 use mathlib.Core.List.{List}
 use Prim.Native.Nat.{ℕ}
-use lib.IntN.{ℤ}
-use mir.Syntax.{w32}
+use native.Mathlib.Omega.{arith}
+use lib.Dec.{T, leb→le}
+use lib.IntN.{ℤ, pos, negsuc}
+use lib.Signed.{leZ}
+use mir.Syntax.{w16}
 use mir.Val.{SFits}
-use Rattle.script.specs.declared.Command.{Command}
 use Rattle.script.specs.declared.Command.the-variants.{Error, Read}
-use Rattle.words.specs.declared.numbers.Number.{Number}
-use Rattle.words.specs.declared.numbers.Number.the-variants.{NoNumber, Is}
-use Rattle.words.specs.declared.numbers.Size.{Size}
-use Rattle.words.specs.declared.numbers.Size.the-variants.{NoSize, Of}
+use Rattle.words.specs.declared.arguments.Arguments.{Arguments}
 use Rattle.arrays.specs.Text.{bytes}
 use Rattle.arrays.specs.Same.{sameList}
-use Rattle.words.specs.Numbers.{numberOf, sizeOf}
+use Rattle.arrays.proofs.Test.{and-parts, of-true}
 use Rattle.words.specs.Hex.{isHex}
-use Rattle.script.specs.Commands.{withSize, withOne, withPair, withTwo}
-use Rattle.arrays.proofs.Signed.{read, read-two}
+use Rattle.script.specs.Commands.{isShort, areShort, ofNumbers, ofFile}
 
-module _ (w x : List ℕ) where
-  pub one-dash : sameList w (bytes "read") ≡ true → sameList x (bytes "-") ≡ true → Read ≡ withOne w x
-  unfolding withOne
-  one-dash a b = rw (a, b) refl
+module _ (x : List ℕ) where
+  pub file-dash : sameList x (bytes "-") ≡ true → Read ≡ ofFile x
+  unfolding ofFile
+  file-dash a = rw a refl
 
-  pub one-hex : sameList w (bytes "read") ≡ true → sameList x (bytes "-") ≡ false → isHex x ≡ true → Read ≡ withOne w x
-  unfolding withOne
-  one-hex a b c = rw (a, b, c) refl
+  pub file-hex : sameList x (bytes "-") ≡ false → isHex x ≡ true → Read ≡ ofFile x
+  unfolding ofFile
+  file-hex a b = rw (a, b) refl
 
-  pub one-other : sameList w (bytes "read") ≡ true → sameList x (bytes "-") ≡ false → isHex x ≡ false → Error ≡ withOne w x
-  unfolding withOne
-  one-other a b c = rw (a, b, c) refl
+  pub file-other : sameList x (bytes "-") ≡ false → isHex x ≡ false → Error ≡ ofFile x
+  unfolding ofFile
+  file-other a b = rw (a, b) refl
 
-  pub one-none : sameList w (bytes "read") ≡ false → (r : Size) → r ≡ sizeOf x → r ≡ NoSize → Error ≡ withOne w x
-  unfolding withOne
-  one-none a r e f = rw (a, sym e ∙ f) refl
+-- A number that 16 bits hold fits them.
+is-short-fits : (z : ℤ) → T (isShort z) → SFits w16 z
+unfolding isShort
+is-short-fits (pos n) t = record { sfits = omega (arith, leb→le n 32767 (and-parts (leZ (negsuc 32767) (pos n)) (leZ (pos n) (pos 32767)) t .1)) }
+is-short-fits (negsuc n) t = record { sfits = omega (arith, leb→le n 32767 (and-parts (leZ (negsuc 32767) (negsuc n)) (leZ (negsuc n) (pos 32767)) t .0)) }
 
-  pub one-size : sameList w (bytes "read") ≡ false → (r : Size) (n : ℕ) (y : Command) → r ≡ sizeOf x → r ≡ Of n → y ≡ withSize w n → y ≡ withOne w x
-  unfolding withOne
-  one-size a r n y e f g = rw (a, sym e ∙ f) g
+pub all-fit : (x y u v : ℤ) → areShort x y u v ≡ true → SFits w16 x × SFits w16 y × SFits w16 u × SFits w16 v
+unfolding areShort
+all-fit x y u v e =
+    let r = and-parts (isShort x && isShort y) (isShort u && isShort v) (of-true e) in
+    let a = and-parts (isShort x) (isShort y) (r .0) in
+    let b = and-parts (isShort u) (isShort v) (r .1) in
+    (is-short-fits x (a .0), is-short-fits y (a .1), is-short-fits u (b .0), is-short-fits v (b .1))
 
-module _ (w x y : List ℕ) (r : Number) (e : r ≡ numberOf x) where
-  pub two-none : r ≡ NoNumber → Error ≡ withTwo w x y
-  unfolding withTwo
-  two-none f = rw (sym e ∙ f) refl
-
-  pub two-half : (i : ℤ) (s : Number) → r ≡ Is i → s ≡ numberOf y → s ≡ NoNumber → Error ≡ withTwo w x y
-  unfolding withTwo
-  two-half i s f g h = rw (sym e ∙ f, sym g ∙ h) refl
-
-  pub two-both : (i j : ℤ) (s : Number) (a : Command) → r ≡ Is i → s ≡ numberOf y → s ≡ Is j → SFits w32 i → SFits w32 j
-      → a ≡ withPair w (read i) (read j) → a ≡ withTwo w x y
-  unfolding withTwo
-  two-both i j s a f g h p q k = rw (sym e ∙ f, sym g ∙ h) (k ∙ read-two (withPair w) i j p q)
+-- Equal arguments have one command.
+pub same-command : (w : List ℕ) {a b : Arguments} → a ≡ b → ofNumbers w b ≡ ofNumbers w a
+same-command w e = sym (ap (ofNumbers w) e)

@@ -1,4 +1,5 @@
 pub mod Arguments
+pub mod Claim
 pub mod Examples
 pub mod FileSize
 pub mod Lines

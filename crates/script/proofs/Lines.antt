@@ -15,36 +15,46 @@ use Rattle.words.specs.Words.{split, wordsOf, Next}
 use Rattle.arrays.specs.Paste.{Pasted}
 use Rattle.arrays.proofs.paste.Parts.{front-same}
 use Rattle.words.specs.Hex.{isHex, pairs}
-use Rattle.script.specs.Commands.{ofOneWord, withOne, withTwo, ofWords, isBlank, commandOf, second, fileInLine}
+use Rattle.script.specs.Commands.{ofNumbers, ofFile, withFile, ofWords, isBlank, commandOf, second, fileInLine}
+use Rattle.arrays.specs.Text.{bytes}
+use Rattle.arrays.specs.Same.{sameList}
+use Rattle.words.specs.declared.arguments.Arguments.{Arguments}
+use Rattle.words.specs.Arguments.{argumentsOf}
 
 -- The bytes from place a up to place b.
 abbrev part : ℕ → ℕ → List ℕ → List ℕ
 part a b line = take (b - a) (drop a line)
 
--- The words stand from a to b, from c to d and from e to f, and from g to h what may follow.
+-- The name stands from a to b.
 module _ (line : List ℕ) (a b : ℕ) (n : Next line 0 a b) where
   pub words-none : a ≡ b → Error ≡ ofWords (wordsOf line)
   unfolding ofWords
   words-none e = rw (n .none e) refl
 
-  module _ (s : ¬ (a ≡ b)) (c d : ℕ) (m : Next line b c d) (r : Command) where
-    pub words-one : c ≡ d → r ≡ ofOneWord (part a b line) → r ≡ ofWords (wordsOf line)
+  module _ (s : ¬ (a ≡ b)) (r : Command) where
+    pub words-read : sameList (part a b line) (bytes "read") ≡ true → r ≡ withFile (wordsOf (drop b line)) → r ≡ ofWords (wordsOf line)
     unfolding ofWords
-    words-one e f = rw (n .some s, m .none e) f
+    words-read e f = rw (n .some s, e) f
 
-    module _ (t : ¬ (c ≡ d)) (e f : ℕ) (l : Next line d e f) where
-      pub words-two : e ≡ f → r ≡ withOne (part a b line) (part c d line) → r ≡ ofWords (wordsOf line)
-      unfolding ofWords
-      words-two q k = rw (n .some s, m .some t, l .none q) k
+    pub words-named : sameList (part a b line) (bytes "read") ≡ false → (l : Arguments) → l ≡ argumentsOf (wordsOf (drop b line))
+        → r ≡ ofNumbers (part a b line) l → r ≡ ofWords (wordsOf line)
+    unfolding ofWords
+    words-named e l g f = rw (n .some s, e) (f ∙ ap (ofNumbers (part a b line)) g)
 
-      module _ (u : ¬ (e ≡ f)) (g h : ℕ) (o : Next line f g h) where
-        pub words-three : g ≡ h → r ≡ withTwo (part a b line) (part c d line) (part e f line) → r ≡ ofWords (wordsOf line)
-        unfolding ofWords
-        words-three q k = rw (n .some s, m .some t, l .some u, o .none q) k
+-- The file of `read` stands from a to b, and from c to d what may follow.
+module _ (line : List ℕ) (from a b : ℕ) (n : Next line from a b) where
+  pub word-missing : a ≡ b → Error ≡ withFile (wordsOf (drop from line))
+  unfolding withFile
+  word-missing e = rw (n .none e) refl
 
-        pub words-more : ¬ (g ≡ h) → r ≡ Error → r ≡ ofWords (wordsOf line)
-        unfolding ofWords
-        words-more v k = rw (n .some s, m .some t, l .some u, o .some v) k
+  module _ (s : ¬ (a ≡ b)) (c d : ℕ) (m : Next line b c d) where
+    pub word-more : ¬ (c ≡ d) → Error ≡ withFile (wordsOf (drop from line))
+    unfolding withFile
+    word-more t = rw (n .some s, m .some t) refl
+
+    pub word-alone : c ≡ d → (r : Command) → r ≡ ofFile (part a b line) → r ≡ withFile (wordsOf (drop from line))
+    unfolding withFile
+    word-alone e r f = rw (n .some s, m .none e) f
 
 -- The second word, which is empty where there is none.
 module _ (line : List ℕ) (a b c d : ℕ) (n : Next line 0 a b) (m : Next line b c d) where

@@ -3,14 +3,17 @@ use mathlib.Core.Path.{_≡_, refl}
 use mathlib.Core.Bool.{true, false}
 use mathlib.Core.List.{List}
 use Prim.Native.Nat.{ℕ}
-use lib.IntN.{ℤ}
-use Rattle.script.specs.declared.Command.the-variants.{Error, Write, Call, Ask, Octant}
+use lib.IntN.{ℤ, pos, natAbs}
+use lib.Signed.{ltZ}
+use Rattle.arrays.proofs.Signed.{if-negative, if-natural}
+use Rattle.script.specs.declared.Command.the-variants.{Error, Write, Call, Ask, Direct}
 use Rattle.script.specs.declared.Change.the-variants.{Add, Withdraw, Round, Finish}
 use Rattle.script.specs.declared.Query.the-variants.{Length, Counts, Run, Degree}
+use Rattle.script.specs.declared.Direction.the-variants.{Octant, Arrow, Glyph}
 use Rattle.script.specs.declared.Command.the-variants as command
 use Rattle.arrays.specs.Text.{bytes}
 use Rattle.arrays.specs.Same.{sameList}
-use Rattle.script.specs.Commands.{ofOneWord, withSize, withPair}
+use Rattle.script.specs.Commands.{ofOneWord, withSize, withNumber, withPair, areShort, withFive}
 
 -- The names of one word.
 module _ (w : List ℕ) where
@@ -62,6 +65,21 @@ module _ (w : List ℕ) (n : ℕ) where
     unfolding withSize
     sized-none b = rw (a, b) refl
 
+-- Those with a number: `glyph` with any, the others with a size.
+module _ (w : List ℕ) (i : ℤ) where
+  pub number-glyph : sameList w (bytes "glyph") ≡ true → Direct (Glyph i) ≡ withNumber w i
+  unfolding withNumber
+  number-glyph a = rw a refl
+
+  module _ (a : sameList w (bytes "glyph") ≡ false) where
+    pub number-negative : ltZ i (pos 0) ≡ true → Error ≡ withNumber w i
+    unfolding withNumber
+    number-negative e = rw a (if-negative (withSize w) Error i e)
+
+    pub number-size : ltZ i (pos 0) ≡ false → withSize w (natAbs i) ≡ withNumber w i
+    unfolding withNumber
+    number-size e = rw a (if-natural (withSize w) Error i e)
+
 -- Those with two numbers.
 module _ (w : List ℕ) (i j : ℤ) where
   pub pair-add : sameList w (bytes "add") ≡ true → Call (Add i j) ≡ withPair w i j
@@ -79,10 +97,25 @@ module _ (w : List ℕ) (i j : ℤ) where
       pair-degree c = rw (a, b, c) refl
 
       module _ (c : sameList w (bytes "degree") ≡ false) where
-        pub pair-octant : sameList w (bytes "octant") ≡ true → Octant i j ≡ withPair w i j
+        pub pair-octant : sameList w (bytes "octant") ≡ true → Direct (Octant i j) ≡ withPair w i j
         unfolding withPair
         pair-octant d = rw (a, b, c, d) refl
 
         pub pair-none : sameList w (bytes "octant") ≡ false → Error ≡ withPair w i j
         unfolding withPair
         pair-none d = rw (a, b, c, d) refl
+
+-- Those with five numbers.
+module _ (w : List ℕ) (x y u v pitch : ℤ) where
+  pub five-none : sameList w (bytes "arrow") ≡ false → Error ≡ withFive w x y u v pitch
+  unfolding withFive
+  five-none a = rw a refl
+
+  module _ (a : sameList w (bytes "arrow") ≡ true) where
+    pub five-long : areShort x y u v ≡ false → Error ≡ withFive w x y u v pitch
+    unfolding withFive
+    five-long b = rw (a, b) refl
+
+    pub five-arrow : areShort x y u v ≡ true → Direct (Arrow x y u v pitch) ≡ withFive w x y u v pitch
+    unfolding withFive
+    five-arrow b = rw (a, b) refl

@@ -1,24 +1,24 @@
 -- The command of a line (SPEC 9.3, 9.5).
-use mathlib.Core.Bool.{Bool, true, _||_}
+use mathlib.Core.Bool.{Bool, true, _&&_, _||_}
 use mathlib.Core.List.{List, [], _∷_}
 use Prim.Native.Nat.{ℕ}
 use lib.Dec.{ltb, eqb}
 use lib.ListN.{length}
-use lib.IntN.{ℤ}
-use Rattle.arrays.specs.Test.{if}
+use lib.IntN.{ℤ, pos, negsuc}
+use lib.Signed.{leZ}
+use Rattle.arrays.specs.Test.{if, ifNatural}
 use Rattle.script.specs.declared.Command.{Command}
-use Rattle.script.specs.declared.Command.the-variants.{Blank, Error, Read, Write, Call, Ask, Octant}
+use Rattle.script.specs.declared.Command.the-variants.{Blank, Error, Read, Write, Call, Ask, Direct}
 use Rattle.script.specs.declared.Change.the-variants.{Add, Withdraw, Round, Finish}
 use Rattle.script.specs.declared.Query.the-variants.{Length, Counts, Run, Degree}
+use Rattle.script.specs.declared.Direction.the-variants.{Octant, Arrow, Glyph}
 use Rattle.script.specs.declared.Command.the-variants as command
-use Rattle.words.specs.declared.numbers.Number.{Number}
-use Rattle.words.specs.declared.numbers.Number.the-variants.{NoNumber, Is}
-use Rattle.words.specs.declared.numbers.Size.{Size}
-use Rattle.words.specs.declared.numbers.Size.the-variants.{NoSize, Of}
+use Rattle.words.specs.declared.arguments.Arguments.{Arguments}
+use Rattle.words.specs.declared.arguments.Arguments.the-variants.{Zero, One, Two, Three, Four, Five, Invalid}
 use Rattle.arrays.specs.Text.{bytes, byte}
 use Rattle.arrays.specs.Same.{sameList}
 use Rattle.words.specs.Words.{wordsOf}
-use Rattle.words.specs.Numbers.{numberOf, sizeOf}
+use Rattle.words.specs.Arguments.{argumentsOf}
 use Rattle.words.specs.Hex.{isHex, pairs}
 
 -- The most bytes of a line, and of a deck file.
@@ -44,17 +44,9 @@ withSize w n =
     if (sameList w (bytes "write")) (λ _. Write n)
     (λ _. if (sameList w (bytes "run")) (λ _. Ask (Run n)) (λ _. Error))
 
--- What is said of a size, an error where there is none.
-abbrev pub ofSize : (ℕ → Command) → Size → Command
-ofSize f NoSize = Error
-ofSize f (Of n) = f n
-
--- A word and an argument: `read HEX`, where `-` stands for no bytes, and the commands with a size.
-unfoldable pub withOne : List ℕ → List ℕ → Command
-withOne w x =
-    if (sameList w (bytes "read"))
-    (λ _. if (sameList x (bytes "-") || isHex x) (λ _. Read) (λ _. Error))
-    (λ _. ofSize (withSize w) (sizeOf x))
+-- A word and a number: `glyph N`, and the commands with a size, which is not negative.
+unfoldable pub withNumber : List ℕ → ℤ → Command
+withNumber w i = if (sameList w (bytes "glyph")) (λ _. Direct (Glyph i)) (λ _. ifNatural (withSize w) Error i)
 
 -- A word and two numbers: `add X Y`, `withdraw X Y`, `degree X Y`, `octant DX DY`.
 unfoldable pub withPair : List ℕ → ℤ → ℤ → Command
@@ -62,25 +54,45 @@ withPair w i j =
     if (sameList w (bytes "add")) (λ _. Call (Add i j))
     (λ _. if (sameList w (bytes "withdraw")) (λ _. Call (Withdraw i j))
     (λ _. if (sameList w (bytes "degree")) (λ _. Ask (Degree i j))
-    (λ _. if (sameList w (bytes "octant")) (λ _. Octant i j) (λ _. Error))))
+    (λ _. if (sameList w (bytes "octant")) (λ _. Direct (Octant i j)) (λ _. Error))))
 
--- What is said of two numbers, an error where one is missing.
-abbrev pub ofNumbers : (ℤ → ℤ → Command) → Number → Number → Command
-ofNumbers f NoNumber y = Error
-ofNumbers f (Is i) NoNumber = Error
-ofNumbers f (Is i) (Is j) = f i j
+-- A number that 16 bits hold, and four of them.
+unfoldable pub isShort : ℤ → Bool
+isShort z = leZ (negsuc 32767) z && leZ z (pos 32767)
 
--- A word and two arguments.
-unfoldable pub withTwo : List ℕ → List ℕ → List ℕ → Command
-withTwo w x y = ofNumbers (withPair w) (numberOf x) (numberOf y)
+unfoldable pub areShort : ℤ → ℤ → ℤ → ℤ → Bool
+areShort x y u v = (isShort x && isShort y) && (isShort u && isShort v)
 
--- The command of a line's words; no command has more than three.
+-- A word and five numbers: `arrow DISPLAYX DISPLAYY BAYX BAYY PITCH`, of which the first four are of 16 bits.
+unfoldable pub withFive : List ℕ → ℤ → ℤ → ℤ → ℤ → ℤ → Command
+withFive w x y u v pitch =
+    if (sameList w (bytes "arrow"))
+    (λ _. if (areShort x y u v) (λ _. Direct (Arrow x y u v pitch)) (λ _. Error))
+    (λ _. Error)
+
+-- A name and the numbers behind it; no name has three or four.
+unfoldable pub ofNumbers : List ℕ → Arguments → Command
+ofNumbers w Zero = ofOneWord w
+ofNumbers w (One i) = withNumber w i
+ofNumbers w (Two i j) = withPair w i j
+ofNumbers w (Three i j k) = Error
+ofNumbers w (Four i j k l) = Error
+ofNumbers w (Five i j k l m) = withFive w i j k l m
+ofNumbers w Invalid = Error
+
+-- `read HEX`: one word of hexadecimal digits in pairs, or `-` for no bytes.
+unfoldable pub ofFile : List ℕ → Command
+ofFile x = if (sameList x (bytes "-") || isHex x) (λ _. Read) (λ _. Error)
+
+unfoldable pub withFile : List (List ℕ) → Command
+withFile [] = Error
+withFile (x ∷ []) = ofFile x
+withFile (x ∷ y ∷ l) = Error
+
+-- The command of a line's words: `read` and its file, or a name and numbers.
 unfoldable pub ofWords : List (List ℕ) → Command
 ofWords [] = Error
-ofWords (w ∷ []) = ofOneWord w
-ofWords (w ∷ x ∷ []) = withOne w x
-ofWords (w ∷ x ∷ y ∷ []) = withTwo w x y
-ofWords (w ∷ x ∷ y ∷ z ∷ l) = Error
+ofWords (w ∷ l) = if (sameList w (bytes "read")) (λ _. withFile l) (λ _. ofNumbers w (argumentsOf l))
 
 -- Whether a line is empty or a comment, which begins with `#`.
 abbrev pub isBlank : List ℕ → Bool

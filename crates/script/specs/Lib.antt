@@ -1,2 +1,3 @@
+pub mod Claim
 pub mod Commands
 pub mod Examples

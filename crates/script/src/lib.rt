@@ -1,16 +1,16 @@
 // One line of a script of calls: the command that it asks for, and the bytes of a file in it. A line that asks for nothing and a
 // line that is no command have their own variants, so every line has an answer.
 use arrays::same::same_bytes;
+use words::arguments::Arguments;
+use words::arguments::arguments_of;
 use words::hex::decode;
 use words::hex::is_hex;
 use words::next;
-use words::numbers::Number;
-use words::numbers::Size;
-use words::numbers::number_of;
-use words::numbers::size_of;
 ghost use mathlib.Core.Path.{_≡_};
-ghost use lib.ListN.{length, take};
-ghost use Rattle.script.specs.Commands.{commandOf, ofWords, ofOneWord, withOne, withTwo, withSize, withPair, fileInLine};
+ghost use Prim.Native.Nat.{_≤_};
+ghost use lib.ListN.{length, take, drop};
+ghost use Rattle.script.specs.Commands.{commandOf, ofWords, withFile, ofFile, ofNumbers, ofOneWord, withNumber, withSize, withPair, withFive};
+ghost use Rattle.script.specs.Commands.{isShort, areShort, fileInLine};
 ghost use Rattle.arrays.specs.Paste.{Pasted};
 ghost use Rattle.words.specs.Words.{wordsOf};
 
@@ -30,8 +30,16 @@ pub enum Query {
     Degree(i32, i32),
 }
 
+// A question on directions, for which no deck is needed: the octant of a difference, the arrow from a display to a bay at a pitch, the glyph of
+// a number.
+pub enum Direction {
+    Octant(i32, i32),
+    Arrow(i16, i16, i16, i16, i32),
+    Glyph(i32),
+}
+
 // What a line asks for: nothing, as it is empty or a comment; no command; a file to read, which `bytes_of` gives; a file to write,
-// into so many bytes; a call; a question; the octant of a difference; the listing.
+// into so many bytes; a call; a question on the deck; a question on directions; the listing.
 pub enum Command {
     Blank,
     Error,
@@ -39,7 +47,7 @@ pub enum Command {
     Write(u32),
     Call(Change),
     Ask(Query),
-    Octant(i32, i32),
+    Direct(Direction),
     List,
 }
 
@@ -48,6 +56,11 @@ pub const LINE_LIMIT: usize = 4000;
 
 // The most bytes of a deck file, the capacity of `write` where none is given.
 pub const LONGEST_FILE: u32 = 784;
+
+// The smallest and the largest number of 16 bits.
+const SMALLEST_SHORT: i32 = -32768;
+
+const LARGEST_SHORT: i32 = 32767;
 
 // Returns the command of a line, which is given without its line feed.
 pub fn parse(line: &[u8]) -> Command
@@ -65,7 +78,7 @@ pub fn parse(line: &[u8]) -> Command
     by_words(line)
 }
 
-// The command of a line's words. The name stands from a to b, two arguments from c to d and from e to f, and from g to h a word too many.
+// The command of a line's words: its name, which stands from a to b, and what is behind it.
 fn by_words(line: &[u8]) -> Command
     ensures { λ r. ⌜ r ≡ ofWords (wordsOf (now (line .entry))) ⌝ }
 {
@@ -76,27 +89,58 @@ fn by_words(line: &[u8]) -> Command
         return Command::Error;
     }
     let name = &line[a..b];
+    if same_bytes(name, b"read") {
+        return with_file(line, b);
+    }
+    of_numbers(name, arguments_of(line, b))
+}
+
+// The command `read` with the words from `from` on: one word, which is the file.
+fn with_file(line: &[u8], from: usize) -> Command
+    requires { ⌜ from ≤ length (now line) ⌝ }
+    ensures { λ r. ⌜ r ≡ withFile (wordsOf (drop from (now (line .entry)))) ⌝ }
+{
+    let w = next(line, from);
+    let a = w.start;
+    let b = w.end;
+    if a == b {
+        return Command::Error;
+    }
     let x = next(line, b);
     let c = x.start;
     let d = x.end;
-    if c == d {
-        return by_name(name);
+    if c != d {
+        return Command::Error;
     }
-    let first = &line[c..d];
-    let y = next(line, d);
-    let e = y.start;
-    let f = y.end;
-    if e == f {
-        return with_one(name, first);
+    of_file(&line[a..b])
+}
+
+// The command `read` of a file in hexadecimal digits, `-` for no bytes.
+fn of_file(word: &[u8]) -> Command
+    ensures { λ r. ⌜ r ≡ ofFile (now (word .entry)) ⌝ }
+{
+    if same_bytes(word, b"-") {
+        return Command::Read;
     }
-    let second = &line[e..f];
-    let z = next(line, f);
-    let g = z.start;
-    let h = z.end;
-    if g == h {
-        return with_two(name, first, second);
+    if is_hex(word) {
+        return Command::Read;
     }
     Command::Error
+}
+
+// The command of a name and the numbers behind it.
+fn of_numbers(name: &[u8], a: Arguments) -> Command
+    ensures { λ r. ⌜ r ≡ ofNumbers (now (name .entry)) a ⌝ }
+{
+    match a {
+        Arguments::Zero => by_name(name),
+        Arguments::One(i) => with_number(name, i),
+        Arguments::Two(i, j) => with_pair(name, i, j),
+        Arguments::Three(i, j, k) => Command::Error,
+        Arguments::Four(i, j, k, l) => Command::Error,
+        Arguments::Five(i, j, k, l, m) => with_five(name, i, j, k, l, m),
+        Arguments::Invalid => Command::Error,
+    }
 }
 
 // The command of one word.
@@ -124,23 +168,17 @@ fn by_name(name: &[u8]) -> Command
     Command::Error
 }
 
-// The command of a word and one argument.
-fn with_one(name: &[u8], x: &[u8]) -> Command
-    ensures { λ r. ⌜ r ≡ withOne (now (name .entry)) (now (x .entry)) ⌝ }
+// The command of a word and one number.
+fn with_number(name: &[u8], i: i32) -> Command
+    ensures { λ r. ⌜ r ≡ withNumber (now (name .entry)) i ⌝ }
 {
-    if same_bytes(name, b"read") {
-        if same_bytes(x, b"-") {
-            return Command::Read;
-        }
-        if is_hex(x) {
-            return Command::Read;
-        }
+    if same_bytes(name, b"glyph") {
+        return Command::Direct(Direction::Glyph(i));
+    }
+    if i < 0 {
         return Command::Error;
     }
-    match size_of(x) {
-        Size::NoSize => Command::Error,
-        Size::Of(n) => with_size(name, n),
-    }
+    with_size(name, i as u32)
 }
 
 // The command of a word and a size.
@@ -154,19 +192,6 @@ fn with_size(name: &[u8], n: u32) -> Command
         return Command::Ask(Query::Run(n));
     }
     Command::Error
-}
-
-// The command of a word and two arguments.
-fn with_two(name: &[u8], x: &[u8], y: &[u8]) -> Command
-    ensures { λ r. ⌜ r ≡ withTwo (now (name .entry)) (now (x .entry)) (now (y .entry)) ⌝ }
-{
-    match number_of(x) {
-        Number::NoNumber => Command::Error,
-        Number::Is(i) => match number_of(y) {
-            Number::NoNumber => Command::Error,
-            Number::Is(j) => with_pair(name, i, j),
-        },
-    }
 }
 
 // The command of a word and two numbers.
@@ -183,9 +208,36 @@ fn with_pair(name: &[u8], i: i32, j: i32) -> Command
         return Command::Ask(Query::Degree(i, j));
     }
     if same_bytes(name, b"octant") {
-        return Command::Octant(i, j);
+        return Command::Direct(Direction::Octant(i, j));
     }
     Command::Error
+}
+
+// Whether 16 bits hold a number.
+fn is_short(z: i32) -> bool
+    ensures { λ r. ⌜ r ≡ isShort z ⌝ }
+{
+    (SMALLEST_SHORT <= z) & (z <= LARGEST_SHORT)
+}
+
+// Whether 16 bits hold each of four numbers.
+fn are_short(x: i32, y: i32, u: i32, v: i32) -> bool
+    ensures { λ r. ⌜ r ≡ areShort x y u v ⌝ }
+{
+    (is_short(x) & is_short(y)) & (is_short(u) & is_short(v))
+}
+
+// The command of a word and five numbers.
+fn with_five(name: &[u8], x: i32, y: i32, u: i32, v: i32, pitch: i32) -> Command
+    ensures { λ r. ⌜ r ≡ withFive (now (name .entry)) x y u v pitch ⌝ }
+{
+    if !same_bytes(name, b"arrow") {
+        return Command::Error;
+    }
+    if !are_short(x, y, u, v) {
+        return Command::Error;
+    }
+    Command::Direct(Direction::Arrow(x as i16, y as i16, u as i16, v as i16, pitch))
 }
 
 // Writes the bytes that the second word of a line stands for to the front of `out`, as many as it holds, and returns how many. A

@@ -7,11 +7,12 @@ use lib.Dec.{ltb}
 use lib.ListN.{length, take, drop}
 use lib.Seq.{take-length}
 use Rattle.arrays.specs.Set.{setOf}
-use Rattle.tree.specs.Keys.{tab, endsOf}
+use Rattle.tree.specs.Keys.{endsOf}
+use Rattle.arrays.specs.Tab.{tab}
 use Rattle.tree.specs.Build.{BuildRequires}
 use Rattle.arrays.specs.Paste.{Pasted}
 use Rattle.arrays.proofs.paste.Parts.{front-of}
-use Rattle.tree.proofs.Tab.{tab-length}
+use Rattle.arrays.proofs.Tab.{tab-length}
 use Rattle.test_tree.specs.Answers.{Points, Answer}
 
 pub answer-taken : {P : Type 0} {l before after : List ℕ} {r : ℕ} → P → Pasted l before after 0 r → Answer P l before after r

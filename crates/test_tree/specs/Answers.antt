@@ -8,7 +8,8 @@ use lib.Dec.{ltb}
 use lib.ListN.{length, getD}
 use Rattle.arrays.specs.Set.{setOf}
 use Rattle.tree.specs.Held.{held}
-use Rattle.tree.specs.Keys.{tab, treeKeys, endsOf}
+use Rattle.tree.specs.Keys.{treeKeys, endsOf}
+use Rattle.arrays.specs.Tab.{tab}
 use Rattle.tree.specs.Build.{Rises, lengthWith}
 use Rattle.arrays.specs.Paste.{Pasted}
 

@@ -2,5 +2,4 @@ pub mod Lengths
 pub mod Numbers
 pub mod Size
 pub mod Sorted
-pub mod Tab
 pub mod Total

@@ -8,7 +8,8 @@ use Rattle.plane.specs.Stored.{pointAt}
 use Rattle.arrays.specs.Set.{put}
 use Rattle.model.specs.Tree.{treeLength}
 use Rattle.tree.specs.Held.{held}
-use Rattle.tree.specs.Keys.{places, octantCount, tab, treeKeys}
+use Rattle.tree.specs.Keys.{places, octantCount, treeKeys}
+use Rattle.arrays.specs.Tab.{tab}
 
 -- The first n points rise with their numbers.
 abbrev pub Rises : (ℕ → Point) → ℕ → Type 0

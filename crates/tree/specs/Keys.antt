@@ -1,5 +1,5 @@
 -- Edges between numbered points as single numbers, and the trees of the first n points by them. `at` gives the point of a number.
-use mathlib.Core.List.{List, [], _∷_, _++_}
+use mathlib.Core.List.{List, [], _∷_}
 use Prim.Native.Nat.{ℕ, zero, suc, _+_, _*_, _/_, _%_, min}
 use native.Mathlib.Decide.{ℕ-discrete}
 use lib.Dec.{ltb}
@@ -12,6 +12,7 @@ pub use Rattle.plane.specs.Places.{places}
 use Rattle.plane.specs.Edge.{Edge}
 use Rattle.plane.specs.Nearest.{inOctantOf}
 use Rattle.arrays.specs.Set.{union}
+use Rattle.arrays.specs.Tab.{tab}
 use Rattle.model.specs.File.{numberOf}
 
 -- The longest edge: each of two coordinates of 16 bits differs by at most 65,535.
@@ -39,11 +40,6 @@ keyGraph = record { lo = low; hi = high; dec = ℕ-discrete }
 -- The edge between the points of a key.
 abbrev pub edgeOf : (ℕ → Point) → ℕ → Edge
 edgeOf at k = record { lo = at (low k); hi = at (high k) }
-
--- The first n points.
-unfoldable pub tab : {A : Type 0} → (ℕ → A) → ℕ → List A
-tab f zero = []
-tab f (suc n) = tab f n ++ (f n ∷ [])
 
 -- The keys from the first j points to the point c, whose number is n.
 unfoldable pub rays : (ℕ → Point) → Point → ℕ → ℕ → List ℕ

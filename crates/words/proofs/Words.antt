@@ -129,6 +129,7 @@ module _ (line : List ℕ) (from start end : ℕ) (a : start ≡ from + spaces (
   pub next-word : Next line from start end
   unfolding split
   next-word = record {
+    follows = omega arith;
     rises = omega arith;
     fits = fits;
     none = λ e. words-here ∙ ap wordsOf (over e);

@@ -1,3 +1,4 @@
+pub mod Arguments
 pub mod Hex
 pub mod Numbers
 pub mod Words

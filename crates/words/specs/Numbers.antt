@@ -3,13 +3,11 @@ use mathlib.Core.Bool.{Bool, true, false, _&&_}
 use mathlib.Core.List.{List, [], _∷_}
 use Prim.Native.Nat.{ℕ, _+_, _*_, _-_}
 use lib.Dec.{leb, eqb}
-use lib.IntN.{pos, negsuc, negℤ}
+use lib.IntN.{pos, negℤ}
 use Rattle.arrays.specs.Test.{if}
 use Rattle.arrays.specs.Text.{byte}
 use Rattle.words.specs.declared.numbers.Number.{Number}
 use Rattle.words.specs.declared.numbers.Number.the-variants.{NoNumber, Is}
-use Rattle.words.specs.declared.numbers.Size.{Size}
-use Rattle.words.specs.declared.numbers.Size.the-variants.{NoSize, Of}
 
 -- Whether every byte is a digit, 0 to 9.
 unfoldable pub areDigits : List ℕ → Bool
@@ -44,13 +42,3 @@ numberOf (b ∷ l) =
     if (eqb b (byte "-"))
     (λ _. if (isMagnitude smallest l) (λ _. Is (negℤ (pos (valueFrom 0 l)))) (λ _. NoNumber))
     (λ _. if (isMagnitude largest (b ∷ l)) (λ _. Is (pos (valueFrom 0 (b ∷ l)))) (λ _. NoNumber))
-
--- A number as a size, which is not negative.
-abbrev pub natural : Number → Size
-natural NoNumber = NoSize
-natural (Is (pos n)) = Of n
-natural (Is (negsuc n)) = NoSize
-
--- The size of a word.
-unfoldable pub sizeOf : List ℕ → Size
-sizeOf w = natural (numberOf w)

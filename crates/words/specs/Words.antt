@@ -39,6 +39,7 @@ letters (b ∷ l) = if (isSpace b) (λ _. 0) (λ _. suc (letters l))
 -- The first word of a line from the place `from` on stands from `start` up to `end`. These are the same where there is none, and
 -- are then the end of the line.
 pub record Next (line : List ℕ) (from start end : ℕ) : Type 0 where
+  pub follows : from ≤ start
   pub rises : start ≤ end
   pub fits : end ≤ length line
   pub none : start ≡ end → wordsOf (drop from line) ≡ []

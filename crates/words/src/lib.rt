@@ -1,4 +1,5 @@
-// The words of a line, one after the other; numbers in base ten and bytes in hexadecimal.
+// The words of a line, one after the other; numbers in base ten, up to five as arguments, and bytes in hexadecimal.
+pub mod arguments;
 pub mod hex;
 pub mod numbers;
 

@@ -2,7 +2,7 @@
 ghost use mathlib.Core.Path.{_≡_};
 ghost use Prim.Native.Nat.{_≤_};
 ghost use lib.IntN.{pos, negℤ};
-ghost use Rattle.words.specs.Numbers.{largest, smallest, magnitudeOf, numberOf, sizeOf};
+ghost use Rattle.words.specs.Numbers.{largest, smallest, magnitudeOf, numberOf};
 
 // The largest number of 32 bits with a sign, and the smallest without its sign.
 const LARGEST: u64 = 2147483647;
@@ -13,12 +13,6 @@ const SMALLEST: u64 = LARGEST + 1;
 pub enum Number {
     NoNumber,
     Is(i32),
-}
-
-// A word as a number that is not negative.
-pub enum Size {
-    NoSize,
-    Of(u32),
 }
 
 // The value of one or more digits, or `most` + 1 where there are none, or others beside them, or the value is more than `most`.
@@ -84,19 +78,4 @@ pub fn number_of(word: &[u8]) -> Number
         return Number::NoNumber;
     }
     Number::Is(positive(m))
-}
-
-// Returns the number that a word stands for, or that it stands for none or is negative.
-pub fn size_of(word: &[u8]) -> Size
-    ensures { λ r. ⌜ r ≡ sizeOf (now (word .entry)) ⌝ }
-{
-    match number_of(word) {
-        Number::NoNumber => Size::NoSize,
-        Number::Is(z) => {
-            if z < 0 {
-                return Size::NoSize;
-            }
-            Size::Of(z as u32)
-        }
-    }
 }

@@ -20,9 +20,10 @@ use Rattle.model.proofs.Candidate.{map-in}
 use Rattle.arrays.specs.Paste.{Pasted}
 use Rattle.arrays.proofs.sorted.Rise.{get-in, get-rises}
 use Rattle.tree.specs.Held.{held}
-use Rattle.tree.specs.Keys.{tab, treeKeys}
+use Rattle.tree.specs.Keys.{treeKeys}
+use Rattle.arrays.specs.Tab.{tab}
 use Rattle.tree.specs.Build.{Rises, BuildRequires}
-use Rattle.tree.proofs.Tab.{tab-length, tab-get, tab-same}
+use Rattle.arrays.proofs.Tab.{tab-length, tab-get, tab-same}
 use Rattle.arrays.proofs.paste.Parts.{front-take, front-count}
 use Rattle.tree.proofs.Size.{keys-most}
 use Rattle.plane.specs.Code.{code, pointOf, isCode}

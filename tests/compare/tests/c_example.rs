@@ -1,48 +1,46 @@
-//! The headers compile by themselves. The example in C builds with no warning,
-//! plans the samples as the reference does, and passes on the number of a
-//! refusal.
+//! The headers compile by themselves. The examples in C build with no warning,
+//! plan the samples and show arrows as the reference does, and pass on the number
+//! of a refusal.
 
-use compare::binding::programs::in_repository as at;
+use compare::binding::programs::{build, in_repository as at};
 use compare::check::entries::{planned, Expected};
+use reference::arrows::{arrow, glyph};
 use reference::damage::damaged;
 use reference::examples::comb;
 use reference::file::write;
 use reference::generate::{good_file, Random, KINDS};
-use reference::refusals::{Refusals, OF_FILE};
+use reference::refusals::{Refusals, OF_ARROW, OF_FILE};
+use reference::script::arrow_line;
+use reference::sights::sights;
+use std::collections::BTreeSet;
 use std::fs::{self, File};
 use std::path::{Path, PathBuf};
-use std::process::{Command, Stdio};
+use std::process::{Command, Output, Stdio};
 
 /// A path in the folder for what tests write.
 fn scratch(name: &str) -> PathBuf {
     Path::new(env!("CARGO_TARGET_TMPDIR")).join(name)
 }
 
-/// Builds a program of this name from a source and a library of the repository.
-fn build(name: &str, source: &str, library: &str, flags: &[&str]) -> PathBuf {
-    let program = scratch(name);
-    let built = Command::new("gcc")
-        .args(["-std=c11", "-Wall", "-Wextra", "-Werror"])
-        .args(flags)
-        .arg("-I")
-        .args([at("include"), at(source)])
-        .arg(at("target/staticlib").join(library))
-        .arg("-o")
-        .arg(&program)
-        .status();
-    assert!(built.expect("gcc").success());
-    program
+/// Builds the example that plans a file, to a program of this name.
+fn build_plan(name: &str) -> PathBuf {
+    build(scratch(name), "examples/plan_file.c", "libplanner.a", &[])
 }
 
-/// Builds the example to a program of this name.
-fn build_example(name: &str) -> PathBuf {
-    build(name, "examples/plan_file.c", "libplanner.a", &[])
+/// Builds the example that shows an arrow, to a program of this name.
+fn build_display(name: &str) -> PathBuf {
+    let source = "examples/display_arrow.c";
+    build(scratch(name), source, "libdisplay.a", &[])
 }
 
 /// What the program writes for a file, or the number with which it refuses it.
 fn run(program: &Path, file: &Path) -> Expected {
     let input = File::open(file).expect("the file");
-    let output = Command::new(program).stdin(input).output().expect("a run");
+    written(Command::new(program).stdin(input).output().expect("a run"))
+}
+
+/// What a program has written, or the number with which it has refused.
+fn written(output: Output) -> Expected {
     let message = String::from_utf8(output.stderr).expect("text");
     match output.status.code() {
         Some(0) => {
@@ -58,9 +56,15 @@ fn run(program: &Path, file: &Path) -> Expected {
     }
 }
 
+/// A device that nothing can be written to.
+fn full_device() -> File {
+    let opened = File::options().write(true).open("/dev/full");
+    opened.expect("a full device")
+}
+
 #[test]
 fn the_headers() {
-    for name in ["include/planner.h", "include/replay.h"] {
+    for name in ["include/planner.h", "include/replay.h", "include/display.h"] {
         for (standard, language) in [("-std=c11", "c"), ("-std=c++11", "c++")] {
             let compiled = Command::new("gcc")
                 .args([standard, "-Wall", "-Wextra", "-Werror"])
@@ -75,9 +79,10 @@ fn the_headers() {
 #[test]
 fn the_stack_stated() {
     let source = "tests/compare/c/stack.c";
-    let plan = build("plan_stack", source, "libplanner.a", &["-pthread"]);
-    let flags = ["-pthread", "-DREPLAY"];
-    let replay = build("replay_stack", source, "libreplay.a", &flags);
+    let plan = scratch("plan_stack");
+    let plan = build(plan, source, "libplanner.a", &["-pthread"]);
+    let replay = scratch("replay_stack");
+    let replay = build(replay, source, "libreplay.a", &["-pthread", "-DREPLAY"]);
     let path = scratch("stack.deck");
     let mut random = Random::new(83);
     let mut files = vec![write(&comb(62))];
@@ -94,15 +99,11 @@ fn the_stack_stated() {
 
 #[test]
 fn what_cannot_be_read_or_written() {
-    let program = build_example("plan_broken");
-    let full = File::options()
-        .write(true)
-        .open("/dev/full")
-        .expect("a full device");
+    let program = build_plan("plan_broken");
     let input = File::open(at("samples/example.deck")).expect("a sample");
     let status = Command::new(&program)
         .stdin(input)
-        .stdout(full)
+        .stdout(full_device())
         .stderr(Stdio::null())
         .status();
     assert_eq!(status.expect("a run").code(), Some(101));
@@ -116,7 +117,7 @@ fn what_cannot_be_read_or_written() {
 
 #[test]
 fn the_samples() {
-    let program = build_example("plan_samples");
+    let program = build_plan("plan_samples");
     let mut planned_decks = 0;
     for file in fs::read_dir(at("samples")).expect("the samples") {
         let path = file.expect("a sample").path();
@@ -133,7 +134,7 @@ fn the_samples() {
 
 #[test]
 fn files_taken_and_refused() {
-    let program = build_example("plan_files");
+    let program = build_plan("plan_files");
     let mut random = Random::new(79);
     let longest = write(&comb(62));
     let mut files = vec![vec![], longest.clone(), [&longest[..], &[0]].concat()];
@@ -155,4 +156,76 @@ fn files_taken_and_refused() {
     // With the longest file and one of each kind, 8 are taken.
     assert_eq!(files.len() - seen.total(), 8);
     seen.are_exactly(&OF_FILE, 1);
+}
+
+/// The example's arguments are the numbers of the line that asks for an arrow.
+#[test]
+fn arrows_shown_and_refused() {
+    let program = build_display("display_sights");
+    let (mut seen, mut shown) = (Refusals::default(), BTreeSet::new());
+    for sight in sights(&mut Random::new(124), 16) {
+        let line = arrow_line(&sight);
+        let words: Vec<&str> = line.split(' ').skip(1).collect();
+        let output = Command::new(&program).args(&words).output();
+        let right = arrow(&sight).map(|number| format!("{}\n", glyph(number.into())));
+        let expected = right.clone().map(String::into_bytes);
+        assert_eq!(written(output.expect("a run")), expected, "{line}");
+        match right {
+            Ok(text) => _ = shown.insert(text),
+            Err(number) => seen.see(number),
+        }
+    }
+    seen.are_exactly(&OF_ARROW, 20);
+    let glyphs: BTreeSet<String> = "ENnWwSse.".chars().map(|c| format!("{c}\n")).collect();
+    assert_eq!(shown, glyphs);
+}
+
+/// Words that are no number at all, or one that no place holds.
+const NO_NUMBERS: [&str; 10] = [
+    "",
+    "-",
+    "x",
+    "1x",
+    "1 ",
+    " 1",
+    "+1",
+    "1-",
+    "0x1",
+    "99999999999999999999",
+];
+
+/// Too few arguments and too many, and arguments of which one is no such number.
+#[test]
+fn no_arguments_of_an_arrow() {
+    let program = build_display("display_arguments");
+    let mut lines: Vec<Vec<&str>> = (0..8).map(|count| vec!["1"; count]).collect();
+    lines.remove(5);
+    for place in 0..5 {
+        let beyond = match place {
+            4 => ["2147483648", "-2147483649"],
+            _ => ["32768", "-32769"],
+        };
+        for word in beyond.into_iter().chain(NO_NUMBERS) {
+            let mut words = vec!["1"; 5];
+            words[place] = word;
+            lines.push(words);
+        }
+    }
+    for words in &lines {
+        let output = Command::new(&program).args(words).output().expect("a run");
+        assert_eq!(output.status.code(), Some(100), "{words:?}");
+        assert!(output.stdout.is_empty() && !output.stderr.is_empty());
+    }
+    assert_eq!(lines.len(), 7 + 5 * 12);
+}
+
+#[test]
+fn an_arrow_that_cannot_be_written() {
+    let program = build_display("display_broken");
+    let status = Command::new(&program)
+        .args(["1"; 5])
+        .stdout(full_device())
+        .stderr(Stdio::null())
+        .status();
+    assert_eq!(status.expect("a run").code(), Some(101));
 }

@@ -9,15 +9,15 @@ use compare::input::scripts::session;
 use compare::input::states::nearly_full;
 use reference::damage::damaged;
 use reference::generate::{good_file, Place, Random, KINDS};
-use reference::refusals::{Refusals, NO_ROOM, OF_CALL, OF_FILE};
+use reference::refusals::{Refusals, NO_ROOM, OF_ARROW, OF_CALL, OF_FILE};
 use reference::script::hex_of;
 use reference::session::State;
 
 /// The beginnings of the answers that sessions have to bring about, beside the
 /// refusals.
-const WORDS: [&str; 13] = [
+const WORDS: [&str; 15] = [
     "ok", "tap", "finished", "rounds", "length", "counts", "run", "no run", "degree", "octant",
-    "error", "deck", "file",
+    "arrow", "glyph", "error", "deck", "file",
 ];
 
 /// The refusals among the answers.
@@ -39,7 +39,7 @@ fn count(answers: &str, word: &str) -> usize {
 }
 
 /// Sessions from the empty deck and, once in ten times, from one that is nearly
-/// full: every answer and every refusal of a call and of writing.
+/// full: every answer and every refusal of a call, of writing and of an arrow.
 #[test]
 fn sessions() {
     let mut random = Random::new(91);
@@ -60,7 +60,7 @@ fn sessions() {
         let found = count(&answers, word);
         assert!(found >= 10, "{found} answers {word}");
     }
-    let numbers = [&OF_CALL[..], &[NO_ROOM]].concat();
+    let numbers = [&OF_CALL[..], &[NO_ROOM], &OF_ARROW].concat();
     refusals(&answers).are_exactly(&numbers, 20);
 }
 
@@ -85,7 +85,7 @@ fn files() {
 }
 
 /// Lines that are empty, a comment, no call, or a call with odd spaces.
-const OTHER_LINES: [&str; 21] = [
+const OTHER_LINES: [&str; 25] = [
     "",
     " ",
     "add",
@@ -106,6 +106,10 @@ const OTHER_LINES: [&str; 21] = [
     "write 784 ",
     "  length",
     "octant 0 0",
+    "arrow 0 0 0 0",
+    "\tarrow 0  0\t1 -0 001\r",
+    "glyph x",
+    " glyph\t8 ",
     "# x",
 ];
 

@@ -2,6 +2,7 @@
 //! what was handed in is left as it was, and what was lent too.
 
 use compare::binding::deck::{Deck, STEINER_COUNT, WORDS};
+use compare::binding::display;
 use compare::binding::programs::{decklist, deckplay};
 use compare::check::entries::Seen;
 use compare::check::questions;
@@ -13,8 +14,8 @@ use reference::damage::damaged;
 use reference::examples::{comb, cross, points, EXAMPLE};
 use reference::file::{write, write_plain};
 use reference::generate::Random;
-use reference::refusals::{refused_calls, refused_scripts, Refusals, NOT_SOUND};
-use reference::refusals::{OF_ANY_DECK, OF_CALL, OF_ENTRY, OF_FILE, OF_SCRIPT};
+use reference::refusals::{refused_arrows, refused_calls, refused_scripts, Refusals, NOT_SOUND};
+use reference::refusals::{OF_ANY_DECK, OF_ARROW, OF_CALL, OF_ENTRY, OF_FILE, OF_SCRIPT};
 use reference::session::{Call, State};
 
 /// The planner for C: 1 to 6 and 12, and the buffer keeps every byte.
@@ -100,6 +101,17 @@ fn of_a_deck() {
         }
     }
     seen.are_exactly(&OF_ANY_DECK, 19);
+}
+
+/// Arrows for C: 13 and 14, and 13 where the bay would be too far too.
+#[test]
+fn of_the_arrows_for_c() {
+    let mut seen = Refusals::default();
+    for (sight, number) in refused_arrows() {
+        assert_eq!(display::arrow(&sight), number.into(), "{sight:?}");
+        seen.see(number);
+    }
+    seen.are_exactly(&OF_ARROW, 80);
 }
 
 /// The listing program: 1 to 6, in one line that says nothing else.

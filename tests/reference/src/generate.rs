@@ -2,8 +2,9 @@
 
 use crate::file::{point_bytes, write, write_plain};
 use crate::plane::{Point, LIMIT};
-use crate::script::{call_line, hex_of};
+use crate::script::{arrow_line, call_line, hex_of};
 use crate::session::{call, prune, Call, State, MOST_PINS};
+use crate::sights::sight;
 
 /// A splitmix64 generator: the same seed gives the same numbers.
 pub struct Random {
@@ -254,11 +255,11 @@ pub fn script(random: &mut Random, kind: Kind, calls: usize) -> String {
     text + "write\n"
 }
 
-/// The line of a question about a state, or of one that writes it with a buffer
-/// that is exact or one byte short.
+/// The line of a question, most often about a state, or of one that writes it with
+/// a buffer that is exact or one byte short.
 pub fn question(random: &mut Random, state: &State) -> String {
     let points = state.points();
-    match random.range(0, 7) {
+    match random.range(0, 9) {
         0 => "length\n".to_string(),
         1 => "counts\n".to_string(),
         2 => format!("run {}\n", random.range(0, points.len() as i64)),
@@ -269,6 +270,8 @@ pub fn question(random: &mut Random, state: &State) -> String {
         4 => format!("write {}\n", write(state).len() as i64 - random.range(0, 1)),
         5 => "write\n".to_string(),
         6 => "list\n".to_string(),
+        7 => arrow_line(&sight(random)) + "\n",
+        8 => format!("glyph {}\n", random.range(-1, 9)),
         _ => format!("octant {} {}\n", random.range(-2, 2), random.range(-2, 2)),
     }
 }

@@ -3,6 +3,7 @@
 //! held: all pairs sorted, Kruskal, each candidate tried with a whole new tree.
 
 // The implementation.
+pub mod arrows;
 pub mod entry;
 pub mod file;
 pub mod listing;
@@ -19,4 +20,5 @@ pub mod differences;
 pub mod examples;
 pub mod generate;
 pub mod refusals;
+pub mod sights;
 pub mod variants;

@@ -1,13 +1,15 @@
-//! Refusals for tests: calls and scripts that are refused, decks that are not
-//! sound, and which numbers a test has seen.
+//! Refusals for tests: calls, arrows and scripts that are refused, decks that are
+//! not sound, and which numbers a test has seen.
 
+use crate::arrows::{Sight, BAD_PITCH, FARTHEST, TOO_FAR};
 use crate::damage::damaged;
 use crate::examples::{comb, cross, deck, points, square_of_64};
 use crate::file::write;
 use crate::generate::Random;
 use crate::plane::Point;
-use crate::script::{call_line, hex_of};
+use crate::script::{arrow_line, call_line, hex_of};
 use crate::session::{Call, State};
+use crate::sights::{across, LEAST, MOST, NO_PITCHES, PITCHES};
 
 /// The numbers by which a file is refused.
 pub const OF_FILE: [u8; 6] = [1, 2, 3, 4, 5, 6];
@@ -24,7 +26,10 @@ pub const OF_ENTRY: [u8; 7] = [1, 2, 3, 4, 5, 6, 12];
 pub const OF_ANY_DECK: [u8; 5] = [7, 8, 9, 10, 11];
 
 /// The numbers that a script can cause: all but 11, since its decks are sound.
-pub const OF_SCRIPT: [u8; 11] = [1, 2, 3, 4, 5, 6, 7, 8, 9, 10, 12];
+pub const OF_SCRIPT: [u8; 13] = [1, 2, 3, 4, 5, 6, 7, 8, 9, 10, 12, 13, 14];
+
+/// The numbers by which an arrow is refused.
+pub const OF_ARROW: [u8; 2] = [BAD_PITCH, TOO_FAR];
 
 /// The number for a deck that is not sound.
 pub const NOT_SOUND: u8 = 11;
@@ -32,16 +37,19 @@ pub const NOT_SOUND: u8 = 11;
 /// The number for a buffer that is shorter than the file.
 pub const NO_ROOM: u8 = 12;
 
+/// The last number of a refusal; the first is 1.
+const LAST: u8 = 14;
+
 /// How many refusals of each number a test has seen.
 #[derive(Clone, Debug, Default, PartialEq, Eq)]
 pub struct Refusals {
-    counts: [usize; 13],
+    counts: [usize; LAST as usize + 1],
 }
 
 impl Refusals {
-    /// Counts one refusal; there are the numbers from 1 to 12 only.
+    /// Counts one refusal; there are the numbers from 1 to 14 only.
     pub fn see(&mut self, number: u8) {
-        assert!((1..=12).contains(&number), "no refusal has {number}");
+        assert!((1..=LAST).contains(&number), "no refusal has {number}");
         self.counts[number as usize] += 1;
     }
 
@@ -60,7 +68,7 @@ impl Refusals {
     #[track_caller]
     pub fn are_exactly(&self, numbers: &[u8], least: usize) {
         assert!(least > 0);
-        for number in 1..=12 {
+        for number in 1..=LAST {
             let right = match numbers.contains(&number) {
                 true => self.by(number) >= least,
                 false => self.by(number) == 0,
@@ -103,6 +111,27 @@ pub fn refused_calls() -> Vec<(State, Call, u8)> {
     for (x, y) in [(5, 5), (-30_000, 30_000), (70, 71)] {
         cases.push((full.clone(), Call::Add(x, y), 10));
         cases.push((comb(62), Call::Add(x, y), 10));
+    }
+    cases
+}
+
+/// Bays that a display is refused an arrow for, and by which number: each pitch
+/// that is refused, with bays that are near and with bays that would be too far,
+/// and each pitch that is taken, with bays too far in x, in y and in both.
+pub fn refused_arrows() -> Vec<(Sight, u8)> {
+    let directions = |z: i64| [(z, 0), (-z, 0), (0, z), (0, -z), (z, -z), (-z, z)];
+    let greatest = MOST - LEAST;
+    let mut cases = Vec::new();
+    for pitch in NO_PITCHES {
+        cases.push((across((0, 0), pitch), BAD_PITCH));
+        for z in [1, greatest] {
+            cases.extend(directions(z).map(|to| (across(to, pitch), BAD_PITCH)));
+        }
+    }
+    for pitch in PITCHES {
+        for z in [(FARTHEST + 1) * pitch, greatest] {
+            cases.extend(directions(z).map(|to| (across(to, pitch), TOO_FAR)));
+        }
     }
     cases
 }
@@ -161,6 +190,9 @@ pub fn refused_scripts(random: &mut Random) -> Vec<(String, String, u8)> {
             let line = format!("write {short}");
             scripts.push(script(&state, line, &state, NO_ROOM));
         }
+    }
+    for (sight, number) in refused_arrows() {
+        scripts.push(script(&cross(), arrow_line(&sight), &cross(), number));
     }
     scripts
 }

@@ -1,6 +1,7 @@
 //! Scripts of calls: one call a line, one answer line for each
 //! (SPEC 9.3). They carry the same calls to several planners.
 
+use crate::arrows::{arrow, glyph, Sight};
 use crate::file::{read, write_into, LONGEST};
 use crate::listing::listing;
 use crate::plane::{octant, Point};
@@ -121,6 +122,8 @@ fn answer_question(state: &State, words: &[&str]) -> Option<String> {
             degree_at(state, point).map(|degree| format!("degree {degree}"))
         }
         ["octant", dx, dy] => Ok(format!("octant {}", octant(number(dx)?, number(dy)?)?)),
+        ["arrow", ..] => answer_arrow(&sight_of(words)?),
+        ["glyph", n] => Ok(format!("glyph {}", glyph(number(n)?))),
         ["list"] => Ok(listing(state).trim_end().replace('\n', " / ")),
         _ => return None,
     };
@@ -137,6 +140,32 @@ fn answer_run(state: &State, place: usize) -> Result<String, u8> {
     })
 }
 
+/// What a display is asked, if the words ask for an arrow.
+fn sight_of(words: &[&str]) -> Option<Sight> {
+    let ["arrow", x, y, bay_x, bay_y, pitch] = words else {
+        return None;
+    };
+    Some(Sight {
+        display: Point::new(short(x)?, short(y)?),
+        bay: Point::new(short(bay_x)?, short(bay_y)?),
+        pitch: number(pitch)?,
+    })
+}
+
+fn answer_arrow(sight: &Sight) -> Result<String, u8> {
+    let number = arrow(sight)?;
+    Ok(format!("arrow {number} {}", glyph(number.into())))
+}
+
+/// The line of a script that asks for an arrow.
+pub fn arrow_line(sight: &Sight) -> String {
+    let (display, bay) = (sight.display, sight.bay);
+    format!(
+        "arrow {} {} {} {} {}",
+        display.x, display.y, bay.x, bay.y, sight.pitch
+    )
+}
+
 fn refused(number: u8) -> String {
     format!("refused {number}")
 }
@@ -148,6 +177,11 @@ fn number(word: &str) -> Option<i64> {
         return None;
     }
     word.parse::<i32>().ok().map(i64::from)
+}
+
+/// A number of 16 bits, signed.
+fn short(word: &str) -> Option<i64> {
+    i16::try_from(number(word)?).ok().map(i64::from)
 }
 
 /// A number that is not negative.

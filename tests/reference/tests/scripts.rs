@@ -130,6 +130,57 @@ fn octants_and_errors() {
 }
 
 #[test]
+fn arrows_and_glyphs() {
+    answers(&[
+        ("arrow 0 0 1000 0 1000", "arrow 0 E"),
+        ("arrow -3 4 -2 5 1", "arrow 1 N"),
+        ("arrow 0 0 -999 15999 1000", "arrow 2 n"),
+        ("arrow 5 5 3 7 1", "arrow 3 W"),
+        ("arrow 32767 0 32752 0 1", "arrow 4 w"),
+        ("arrow 0 0 -5 -5 2", "arrow 5 S"),
+        ("arrow 0 32767 0 16768 1000", "arrow 6 s"),
+        ("arrow -32768 0 -32753 -15 1", "arrow 7 e"),
+        ("arrow\t-0 007 -999 1006\r1000", "arrow 8 ."),
+        ("arrow 0 0 16000 0 1000", "refused 14"),
+        ("arrow -32768 0 32767 0 1000", "refused 14"),
+        ("arrow 0 0 0 0 0", "refused 13"),
+        ("arrow 0 0 0 0 -2147483648", "refused 13"),
+        ("arrow -32768 0 32767 0 1001", "refused 13"),
+        ("glyph 0", "glyph E"),
+        ("glyph 008", "glyph ."),
+        ("glyph 9", "glyph ?"),
+        ("glyph -1", "glyph ?"),
+        ("glyph -2147483648", "glyph ?"),
+        ("glyph 2147483647", "glyph ?"),
+        ("counts", "counts 0 0 0"),
+    ]);
+}
+
+#[test]
+fn no_arrows_and_no_glyphs() {
+    answers(&[
+        ("arrow 32768 0 0 0 1", "error"),
+        ("arrow 0 -32769 0 0 1", "error"),
+        ("arrow 0 0 32768 0 1", "error"),
+        ("arrow 0 0 0 -32769 1", "error"),
+        ("arrow 32768 0 0 0 0", "error"),
+        ("arrow 0 0 0 0 2147483648", "error"),
+        ("arrow 0 0 0 0 x", "error"),
+        ("arrow 0 0 +1 0 1", "error"),
+        ("arrow 0 0 0 0", "error"),
+        ("arrow 0 0 0 0 1 1", "error"),
+        ("arrow", "error"),
+        ("Arrow 0 0 0 0 1", "error"),
+        ("glyph", "error"),
+        ("glyph E", "error"),
+        ("glyph 1 2", "error"),
+        ("glyph 2147483648", "error"),
+        ("glyph -2147483649", "error"),
+        ("counts", "counts 0 0 0"),
+    ]);
+}
+
+#[test]
 fn lines() {
     assert_eq!(play(b""), "");
     assert_eq!(play(b"\n\n# add 1 1\n#\ncounts"), "counts 0 0 0\n");
@@ -158,12 +209,14 @@ fn hexadecimal_digits() {
 }
 
 /// The beginnings of the answers that a random script has to bring about.
-const WORDS: [&str; 16] = [
+const WORDS: [&str; 20] = [
     "ok",
     "refused 7",
     "refused 8",
     "refused 9",
     "refused 12",
+    "refused 13",
+    "refused 14",
     "tap",
     "finished",
     "rounds",
@@ -173,6 +226,8 @@ const WORDS: [&str; 16] = [
     "no run",
     "degree",
     "octant",
+    "arrow",
+    "glyph",
     "deck",
     "file",
 ];

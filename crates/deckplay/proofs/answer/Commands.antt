@@ -17,9 +17,10 @@ use Rattle.questions.specs.declared.Answer.{Answer}
 use Rattle.questions.specs.Answers.{Question}
 use Rattle.script.specs.declared.Change.{Change}
 use Rattle.script.specs.declared.Query.{Query}
+use Rattle.script.specs.declared.Direction.{Direction}
 use Rattle.replies.specs.Replies.{answerText}
 use Rattle.deckplay.specs.declared.answer.Played.{Played}
-use Rattle.deckplay.specs.Play.{Line, stays, changes, octantText, callFor, questionFor, Plays}
+use Rattle.deckplay.specs.Play.{Line, stays, changes, octantText, directionText, callFor, questionFor, Plays}
 
 -- What was asked for (a command, a call or a question) is k, and what was played is the line that it asks for.
 pub obeys : {A : Type 0} (lineFor : A → Line) {c k : A} {a : Line} {before after : List ℕ} {p : Played} → c ≡ k → a ≡ lineFor k
@@ -33,6 +34,10 @@ makes d = obeys (λ (k : Change). changes (called d (callFor k)))
 pub answers : (d : Deck) {q k : Query} {a : Line} {before after : List ℕ} {p : Played} → q ≡ k → a ≡ stays d (answerText (asked d (questionFor k)))
     → Plays a before after p → Plays (stays d (answerText (asked d (questionFor q)))) before after p
 answers d = obeys (λ (k : Query). stays d (answerText (asked d (questionFor k))))
+
+pub directs : (d : Deck) {q k : Direction} {a : Line} {before after : List ℕ} {p : Played} → q ≡ k → a ≡ stays d (directionText k)
+    → Plays a before after p → Plays (stays d (directionText q)) before after p
+directs d = obeys (λ (k : Direction). stays d (directionText k))
 
 -- Equal answers are one line.
 pub same-answer : {d : Deck} {a b : Answer} → a ≡ b → stays d (answerText a) ≡ stays d (answerText b)

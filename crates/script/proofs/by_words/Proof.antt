@@ -1,7 +1,7 @@
--- `script::by_words` meets its contract: by how many words the line has, up to the fourth.
-use mathlib.Core.Path.{refl}
+-- `script::by_words` meets its contract: by the name, and by the words behind it.
+use mathlib.Core.Path.{sym, _∙_}
 use borrow.Author.Needs.{needs}
-use Rattle.script.proofs.Lines.{words-none, words-one, words-two, words-three, words-more}
+use Rattle.script.proofs.Lines.{words-none, words-read, words-named}
 use Rattle.script.proofs.by_words.Statement.{statement}
 use Rattle.script.proofs.by_words.Tie as tie
 
@@ -10,58 +10,20 @@ returns c = words-none _ _ _ (c .before .next .ensures) (c .if1 .taken)
 
 returns-2 : tie.Need-returns-2
 returns-2 c =
-    let at-next2 = c .before .before in
-    let at-name-test = at-next2 .before .before in
-    words-one _ _ _ (at-name-test .before .next .ensures) (at-name-test .if1 .left) _ _ (at-next2 .next2 .ensures) _ (c .before .if2 .taken)
-    (c .by-name .ensures)
+    let at-read-test = c .before in
+    let at-name-test = at-read-test .before .before .before .before in
+    words-read _ _ _ (at-name-test .before .next .ensures) (at-name-test .if1 .left) _
+    (sym (at-read-test .before .same-bytes .ensures) ∙ at-read-test .if2 .taken) (c .with-file .ensures)
 
 returns-3 : tie.Need-returns-3
 returns-3 c =
-    let at-next3 = c .before .before in
-    let at-first-test = at-next3 .before .before in
-    let at-name-test = at-first-test .before .before .before in
-    words-two _ _ _ (at-name-test .before .next .ensures) (at-name-test .if1 .left) _ _ (at-first-test .before .next2 .ensures) _ (at-first-test .if2 .left)
-    _ _ (at-next3 .next3 .ensures) (c .before .if3 .taken) (c .with-one .ensures)
-
-returns-4 : tie.Need-returns-4
-returns-4 c =
-    let at-next4 = c .before .before in
-    let at-second-test = at-next4 .before .before in
-    let at-first-test = at-second-test .before .before .before in
-    let at-name-test = at-first-test .before .before .before in
-    words-three _ _ _ (at-name-test .before .next .ensures) (at-name-test .if1 .left) _ _ (at-first-test .before .next2 .ensures) _ (at-first-test .if2 .left)
-    _ _ (at-second-test .before .next3 .ensures) (at-second-test .if3 .left) _ _ (at-next4 .next4 .ensures) (c .before .if4 .taken) (c .with-two .ensures)
-
-returns-5 : tie.Need-returns-5
-returns-5 c =
-    let at-second-test = c .before .before .before in
-    let at-first-test = at-second-test .before .before .before in
-    let at-name-test = at-first-test .before .before .before in
-    words-more _ _ _ (at-name-test .before .next .ensures) (at-name-test .if1 .left) _ _ (at-first-test .before .next2 .ensures) _ (at-first-test .if2 .left)
-    _ _ (at-second-test .before .next3 .ensures) (at-second-test .if3 .left) _ _ (c .before .next4 .ensures) (c .if4 .left) refl
+    let at-read-test = c .before .before in
+    let at-name-test = at-read-test .before .before .before .before in
+    words-named _ _ _ (at-name-test .before .next .ensures) (at-name-test .if1 .left) _
+    (sym (at-read-test .before .same-bytes .ensures) ∙ at-read-test .if2 .left) _ (c .before .arguments-of .ensures) (c .of-numbers .ensures)
 
 pub by-words-spec : {M : Type 1} → statement M
 by-words-spec =
     tie.close
-    (tie.spec
-    (λ c κs. search needs)
-    returns
-    (λ c. search needs)
-    (λ c. search needs)
-    (λ c. search needs)
-    (λ c κs. search needs)
-    (λ c κs. search needs)
-    returns-2
-    (λ c. search needs)
-    (λ c. search needs)
-    (λ c. search needs)
-    (λ c κs. search needs)
-    (λ c κs. search needs)
-    returns-3
-    (λ c. search needs)
-    (λ c. search needs)
-    (λ c. search needs)
-    (λ c κs. search needs)
-    (λ c κs. search needs)
-    returns-4
-    returns-5)
+    (tie.spec (λ c κs. search needs) returns (λ c. search needs) (λ c. search needs) (λ c. search needs) (λ c. search needs) (λ c κs. search needs)
+    (λ c κs. search needs) returns-2 (λ c κs. search needs) (λ c κs. search needs) returns-3)

@@ -2,9 +2,10 @@
 use mathlib.Core.Path.{sym, _∙_}
 use lib.IntN.{ℤ}
 use borrow.Author.Needs.{needs}
-use Rattle.script.specs.declared.Command.the-variants.{Call, Ask, Octant}
+use Rattle.script.specs.declared.Command.the-variants.{Call, Ask, Direct}
 use Rattle.script.specs.declared.Change.the-variants.{Add, Withdraw}
 use Rattle.script.specs.declared.Query.the-variants.{Degree}
+use Rattle.script.specs.declared.Direction.the-variants.{Octant}
 use Rattle.script.proofs.Names.{pair-add, pair-withdraw, pair-degree, pair-octant, pair-none}
 use Rattle.arrays.proofs.Signed.{read-two}
 use Rattle.script.proofs.with_pair.Statement.{statement}
@@ -43,7 +44,7 @@ returns-4 c =
     let at-add-test = at-withdraw-test .before .before .before in
     let at-same-bytes = at-add-test .before in
     let entry = at-same-bytes .before .before .before in
-    read-two Octant _ _ (entry .fits .i) (entry .fits .j)
+    read-two (λ (i j : ℤ). Direct (Octant i j)) _ _ (entry .fits .i) (entry .fits .j)
     ∙ pair-octant _ _ _ (sym (at-same-bytes .same-bytes .ensures) ∙ at-add-test .if1 .left)
     (sym (at-withdraw-test .before .same-bytes2 .ensures) ∙ at-withdraw-test .if2 .left)
     (sym (at-degree-test .before .same-bytes3 .ensures) ∙ at-degree-test .if3 .left) (sym (c .before .same-bytes4 .ensures) ∙ c .if4 .taken)

@@ -11,10 +11,11 @@ use Rattle.spanning.specs.Kruskal.{kruskal}
 use Rattle.arrays.specs.Set.{put, union}
 use Rattle.model.specs.Tree.{pairs, edges, mst, treeLength}
 use Rattle.tree.specs.Held.{held}
-use Rattle.tree.specs.Keys.{weight, tab, treeKeys}
+use Rattle.tree.specs.Keys.{weight, treeKeys}
+use Rattle.arrays.specs.Tab.{tab}
 use Rattle.tree.specs.Build.{lengthWith}
 use Rattle.arrays.specs.Paste.{Pasted}
-use Rattle.tree.proofs.Tab.{tab-length}
+use Rattle.arrays.proofs.Tab.{tab-length}
 use Rattle.tree.proofs.Lengths.{rising-total}
 use Rattle.arrays.proofs.paste.Parts.{front-take, front-count}
 use Rattle.tree.proofs.Size.{keys-most}

@@ -13,8 +13,9 @@ use Rattle.plane.specs.Octant.{conditions, inOctant, firstTrue, octant}
 use Rattle.plane.specs.Nearest.{inOctantOf}
 use Rattle.arrays.proofs.Test.{by-test}
 use Rattle.plane.proofs.Octant.{octant-is}
-use Rattle.tree.specs.Keys.{key, tab, leastKey}
-use Rattle.tree.proofs.Tab.{tab-get, tab-same, tab-set}
+use Rattle.tree.specs.Keys.{key, leastKey}
+use Rattle.arrays.specs.Tab.{tab}
+use Rattle.arrays.proofs.Tab.{tab-get, tab-same, tab-set}
 
 -- The first condition that holds, holds.
 first-holds : (l : List Bool) → firstTrue l < length l → T (getD l (firstTrue l) false)

@@ -6,20 +6,16 @@ use mathlib.Core.List.{List, [], _∷_}
 use Prim.Native.Nat.{ℕ, zero, suc, _+_, _*_, _-_, _≤_, _<_}
 use native.Mathlib.Omega.{arith}
 use native.Mathlib.Decide.{decLe}
-use lib.Dec.{T, leb, eqb}
+use lib.Dec.{leb, eqb}
 use lib.ListN.{length, take, drop, getD, drop-of-length-le}
 use lib.Seq.{take-all}
-use lib.IntN.{ℤ, pos, negsuc, negℤ, natAbs, _-ℤ_, +ℤ-idl}
-use lib.Signed.{ltZ, nonNeg}
+use lib.IntN.{pos, negℤ, _-ℤ_, +ℤ-idl}
 use mir.Syntax.{w32, w64}
-use mir.Val.{Fits, SFits}
-use borrow.Author.Tests.{le-leb, lt-leb, leb-true, ltb-true, eq-eqb, ne-eqb}
+use mir.Val.{SFits}
+use borrow.Author.Tests.{le-leb, lt-leb, leb-true, eq-eqb, ne-eqb}
 use Rattle.arrays.specs.Test.{if}
-use Rattle.arrays.proofs.Signed as signed
-use Rattle.words.specs.declared.numbers.Number.{Number}
 use Rattle.words.specs.declared.numbers.Number.the-variants.{NoNumber, Is}
-use Rattle.words.specs.declared.numbers.Size.the-variants.{NoSize, Of}
-use Rattle.words.specs.Numbers.{areDigits, valueFrom, isMagnitude, magnitudeOf, numberOf, natural, sizeOf}
+use Rattle.words.specs.Numbers.{areDigits, valueFrom, isMagnitude, magnitudeOf, numberOf}
 use Rattle.words.proofs.Words.{here}
 
 -- What the loop answers for the digits l that follow digits of the value v.
@@ -161,32 +157,3 @@ module _ (w : List ℕ) (some : length w ≡ 0 → ⊥) (m : ℕ) where
   plus-some n f h =
       let s = small 2147483647 w (omega arith) in
       sym (numbered w some ∙ rw (ne-eqb (getD w 0 0) 45 n, s .0) (ap (λ (n : ℕ). Is (pos n)) (sym (f ∙ s .1))))
-
--- A number that is not negative, by the test on what is read back.
-pub size-none : (w : List ℕ) (r : Number) → r ≡ numberOf w → r ≡ NoNumber → NoSize ≡ sizeOf w
-unfolding sizeOf
-size-none w r e f = sym (ap natural (sym e ∙ f))
-
-module _ (w : List ℕ) (r : Number) (z : ℤ) (e : r ≡ numberOf w) (f : r ≡ Is z) (fits : SFits w32 z) where
-  same-test : ltZ (signed.read z) (pos 0) ≡ ltZ z (pos 0)
-  same-test = signed.read-one (λ (y : ℤ). ltZ y (pos 0)) fits
-
-  pub size-negative : ltZ (signed.read z) (pos 0) ≡ true → NoSize ≡ sizeOf w
-  unfolding sizeOf
-  size-negative t = sym (ap natural (sym e ∙ f) ∙ go z (sym same-test ∙ t))
-    where
-      go : (z : ℤ) → ltZ z (pos 0) ≡ true → natural (Is z) ≡ NoSize
-      go (pos n) g = absurd (omega (arith, ltb-true n 0 g))
-      go (negsuc n) g = refl
-
-  pub size-some : ltZ (signed.read z) (pos 0) ≡ false → Of (natAbs (signed.read z)) ≡ sizeOf w
-  unfolding sizeOf
-  size-some t = signed.read-one (λ (y : ℤ). Of (natAbs y)) fits ∙ sym (ap natural (sym e ∙ f) ∙ go z (sym same-test ∙ t))
-    where
-      go : (z : ℤ) → ltZ z (pos 0) ≡ false → natural (Is z) ≡ Of (natAbs z)
-      go (pos n) g = refl
-      go (negsuc n) g = let h : _≡_ {A = ℕ} 0 1 = cc in absurd (omega arith)
-
-pub size-cast : (z : ℤ) → SFits w32 z → ltZ (signed.read z) (pos 0) ≡ false
-    → T (nonNeg (signed.read z)) × Fits w32 (natAbs (signed.read z))
-size-cast z fits t = let r = signed.not-negative (signed.read z) (signed.read-fits z fits) t in (r .0, record { fits = omega (arith, r .1) })

@@ -28,7 +28,7 @@ use Rattle.model.proofs.Prune.{prune-step, prune-stop}
 use Rattle.tree.specs.Held.{held}
 use Rattle.tree.specs.Keys.{keyGraph}
 use Rattle.tree.proofs.Sorted.{tree-keys-degree}
-use Rattle.tree.proofs.Tab.{tab-get}
+use Rattle.arrays.proofs.Tab.{tab-get}
 use Rattle.points.specs.declared.Points.{Points}
 use Rattle.points.specs.Coded as coded
 use Rattle.points.specs.Coded.{Codes, places}

@@ -4,6 +4,7 @@
 
 pub mod calls;
 pub mod deck;
+pub mod display;
 pub mod entries;
 pub mod parts;
 pub mod programs;

@@ -1,4 +1,5 @@
-//! The proved programs, run as processes.
+//! The proved programs, run as processes, and programs in C that are built with
+//! the proved libraries.
 
 use std::io::{self, Write};
 use std::path::{Path, PathBuf};
@@ -34,9 +35,30 @@ pub fn decklist(file: &[u8]) -> String {
     run("decklist", file).0
 }
 
+/// What the program for the table of arrows prints.
+pub fn arrows() -> String {
+    run("arrows", &[]).0
+}
+
 /// What the script program answers to a script, which it takes to the end.
 pub fn deckplay(script: &[u8]) -> String {
     let (answers, taken) = run("deckplay", script);
     taken.expect("a script taken to the end");
     answers
+}
+
+/// Builds a program at this path, with no warning, from a source in C and a
+/// library of the repository.
+pub fn build(program: PathBuf, source: &str, library: &str, flags: &[&str]) -> PathBuf {
+    let built = Command::new("gcc")
+        .args(["-std=c11", "-Wall", "-Wextra", "-Werror"])
+        .args(flags)
+        .arg("-I")
+        .args([in_repository("include"), in_repository(source)])
+        .arg(in_repository("target/staticlib").join(library))
+        .arg("-o")
+        .arg(&program)
+        .status();
+    assert!(built.expect("gcc").success());
+    program
 }

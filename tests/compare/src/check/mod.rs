@@ -2,6 +2,7 @@
 //! panics where they differ; what was seen on the way is counted, so that a test
 //! can ask for enough of it.
 
+pub mod arrows;
 pub mod entries;
 pub mod programs;
 pub mod questions;

@@ -1,7 +1,7 @@
 -- `deckplay::answer::obey` meets its contract: in each arm the command is told, and the function called answers what `lineOf` says of it.
 use mathlib.Core.Path.{refl, sym, _∙_}
 use Rattle.deckplay.specs.Play.{lineOf}
-use Rattle.deckplay.proofs.answer.Commands.{obeys, octant-at}
+use Rattle.deckplay.proofs.answer.Commands.{obeys}
 use Rattle.deckplay.proofs.answer.Texts.{plays-nothing}
 use borrow.Author.Needs.{needs}
 use Rattle.deckplay.proofs.answer.obey.Statement.{statement}
@@ -47,14 +47,11 @@ asks c =
     let at-done = c .before .before in
     obeys (lineOf _ _) (at-done .before .before .before .c3 .given .1) refl (at-done .ask .ensures)
 
-octants : tie.Need-returns-7
+directions : tie.Need-returns-7
 unfolding lineOf
-octants c =
+directions c =
     let at-done = c .before .before in
-    let at-told = at-done .before .before in
-    let fits = at-told .known-told4 .given in
-    obeys (lineOf _ _) (at-told .before .c4 .given .1)
-    (octant-at (record { sfits = fits .0 .1 }) (record { sfits = fits .1 .0 .1 }) _) (at-done .octant .ensures)
+    obeys (lineOf _ _) (at-done .before .before .before .c4 .given .1) refl (at-done .direct .ensures)
 
 lists : tie.Need-returns-8
 unfolding lineOf
@@ -69,4 +66,4 @@ obey-spec =
     (λ c. search needs) (λ c κs. search needs) (λ c. search needs) (λ c κs. search needs) (λ c. search needs) (λ c κs. search needs)
     (λ c. search needs) (λ c κs. search needs)
     blank (λ c. search needs) error (λ c. search needs) reads (λ c. search needs) writes (λ c. search needs) calls
-    (λ c. search needs) asks (λ c. search needs) octants (λ c. search needs) lists)
+    (λ c. search needs) asks (λ c. search needs) directions (λ c. search needs) lists)

@@ -4,7 +4,7 @@ use native.Mathlib.Omega.{arith}
 use lib.IntN.{ℤ, pos, natAbs, _+ℤ_}
 use mir.Syntax.{w16, w32}
 use mir.Val.{Fits, SFits}
-use lib.Dec.{T}
+use lib.Dec.{T, leb→le}
 use lib.Signed.{nonNeg}
 use Rattle.arrays.proofs.Signed.{read, read-is, read-one}
 use Rattle.plane.specs.Point.{limit}
@@ -16,7 +16,8 @@ use Rattle.plane.proofs.codes.stored.Tie as tie
 
 -- The sum, of what is read back from the bits of z.
 sum : (s : tie.Start) → read (s .args .z) +ℤ pos limit ≡ pos (storedOf (s .args .z))
-sum s = read-one (λ (z : ℤ). z +ℤ pos limit) (s .fits .z) ∙ raised (s .args .z) (s .pre)
+unfolding storedOf
+sum s = read-one (λ (z : ℤ). z +ℤ pos limit) (s .fits .z) ∙ raised limit (s .args .z) (leb→le (natAbs (s .args .z)) limit (s .pre)) .0
 
 add-result : tie.Need-add-result
 add-result c = subst (SFits w32) (sym (sum c)) (record { sfits = omega (arith, stored-bound (c .args .z) (c .pre)) })

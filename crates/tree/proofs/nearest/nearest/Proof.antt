@@ -6,7 +6,8 @@ use native.Mathlib.Omega.{arith}
 use borrow.Author.Needs.{needs}
 use Rattle.plane.specs.Stored.{pointAt}
 use Rattle.tree.specs.Held.{held}
-use Rattle.tree.specs.Keys.{key, tab, leastKey, octantKeys}
+use Rattle.tree.specs.Keys.{key, leastKey, octantKeys}
+use Rattle.arrays.specs.Tab.{tab}
 use Rattle.tree.proofs.nearest.OctantKeys.{point-in-octant, point-in-none}
 use Rattle.tree.proofs.nearest.nearest.Statement.{statement}
 use Rattle.tree.proofs.nearest.nearest.Tie as tie

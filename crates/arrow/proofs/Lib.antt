@@ -1,0 +1,5 @@
+pub mod Answers
+pub mod Claim
+pub mod Entries
+pub mod Pitch
+pub mod Quotient

@@ -1,0 +1,58 @@
+-- Which names a line can have with which numbers (SPEC 9.3), and no others (SPEC 9.5): apart from the definitions, which try the names one after
+-- the other.
+use mathlib.Core.Path.{_≡_}
+use mathlib.Core.Logic.{_↔_, _⊎_}
+use mathlib.Core.List.{List, [], _∷_, List·Memᴰ}
+use Prim.Native.Nat.{ℕ}
+use lib.Dec.{T}
+use lib.IntN.{ℤ, pos, negsuc}
+use Rattle.arrays.specs.Text.{bytes}
+use Rattle.words.specs.declared.arguments.Arguments.{Arguments}
+use Rattle.words.specs.declared.arguments.Arguments.the-variants.{Zero, One, Two, Three, Four, Five, Invalid}
+use Rattle.words.specs.Hex.{isHex}
+use Rattle.words.specs.Arguments.{argumentsOf}
+use Rattle.script.specs.declared.Command.the-variants.{Error, Read, Write, Call, Ask, Direct}
+use Rattle.script.specs.declared.Command.the-variants as command
+use Rattle.script.specs.declared.Change.the-variants.{Add, Withdraw, Round, Finish}
+use Rattle.script.specs.declared.Query.the-variants.{Length, Counts, Run, Degree}
+use Rattle.script.specs.declared.Direction.the-variants.{Octant, Arrow, Glyph}
+use Rattle.script.specs.Commands.{areShort, ofNumbers, ofWords}
+
+-- With these arguments no name but those listed is one.
+abbrev pub OnlyNames : List (List ℕ) → Arguments → Type 0
+OnlyNames names a = (w : List ℕ) → ¬ List·Memᴰ w names → ofNumbers w a ≡ Error
+
+pub record Names : Type 0 where
+  -- no number
+  pub write : ofNumbers (bytes "write") Zero ≡ Write 784
+  pub round : ofNumbers (bytes "round") Zero ≡ Call Round
+  pub finish : ofNumbers (bytes "finish") Zero ≡ Call Finish
+  pub length : ofNumbers (bytes "length") Zero ≡ Ask Length
+  pub counts : ofNumbers (bytes "counts") Zero ≡ Ask Counts
+  pub list : ofNumbers (bytes "list") Zero ≡ command.List
+  pub noNumber : OnlyNames (bytes "write" ∷ bytes "round" ∷ bytes "finish" ∷ bytes "length" ∷ bytes "counts" ∷ bytes "list" ∷ []) Zero
+  -- one: `write` and `run` with one that is not negative
+  pub writeInto : (n : ℕ) → ofNumbers (bytes "write") (One (pos n)) ≡ Write n
+  pub run : (n : ℕ) → ofNumbers (bytes "run") (One (pos n)) ≡ Ask (Run n)
+  pub glyph : (z : ℤ) → ofNumbers (bytes "glyph") (One z) ≡ Direct (Glyph z)
+  pub oneNumber : (z : ℤ) → OnlyNames (bytes "write" ∷ bytes "run" ∷ bytes "glyph" ∷ []) (One z)
+  pub oneNegative : (n : ℕ) → OnlyNames (bytes "glyph" ∷ []) (One (negsuc n))
+  -- two
+  pub add : (x y : ℤ) → ofNumbers (bytes "add") (Two x y) ≡ Call (Add x y)
+  pub withdraw : (x y : ℤ) → ofNumbers (bytes "withdraw") (Two x y) ≡ Call (Withdraw x y)
+  pub degree : (x y : ℤ) → ofNumbers (bytes "degree") (Two x y) ≡ Ask (Degree x y)
+  pub octant : (x y : ℤ) → ofNumbers (bytes "octant") (Two x y) ≡ Direct (Octant x y)
+  pub twoNumbers : (x y : ℤ) → OnlyNames (bytes "add" ∷ bytes "withdraw" ∷ bytes "degree" ∷ bytes "octant" ∷ []) (Two x y)
+  -- three and four
+  pub threeNumbers : (x y z : ℤ) → OnlyNames [] (Three x y z)
+  pub fourNumbers : (x y u v : ℤ) → OnlyNames [] (Four x y u v)
+  -- five: `arrow`, the first four of 16 bits
+  pub arrow : (x y u v pitch : ℤ) → T (areShort x y u v) → ofNumbers (bytes "arrow") (Five x y u v pitch) ≡ Direct (Arrow x y u v pitch)
+  pub arrowBeyond : (x y u v pitch : ℤ) → ¬ T (areShort x y u v) → OnlyNames [] (Five x y u v pitch)
+  pub fiveNumbers : (x y u v pitch : ℤ) → OnlyNames (bytes "arrow" ∷ []) (Five x y u v pitch)
+  -- a word that is no number, or a sixth word
+  pub invalid : OnlyNames [] Invalid
+  -- a line's words: `read` with one word that is a file, or another name with the numbers behind it
+  pub nothing : ofWords [] ≡ Error
+  pub read : (x : List ℕ) → (ofWords (bytes "read" ∷ x ∷ []) ≡ Read) ↔ ((x ≡ bytes "-") ⊎ T (isHex x))
+  pub named : (w : List ℕ) (l : List (List ℕ)) → ¬ (w ≡ bytes "read") → ofWords (w ∷ l) ≡ ofNumbers w (argumentsOf l)

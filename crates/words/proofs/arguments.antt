@@ -1,0 +1,2 @@
+-- What the proofs of the arguments of a call use.
+pub mod Numbers
