@@ -30,6 +30,9 @@ module _ {A : Type 0} where
   pub read-two : (f : ℤ → ℤ → A) (x y : ℤ) → SFits w32 x → SFits w32 y → f (read x) (read y) ≡ f x y
   read-two f x y h k i = f (toZ-ofZ w32 x h i) (toZ-ofZ w32 y k i)
 
+  pub read-three : (f : ℤ → ℤ → ℤ → A) (x y u : ℤ) → SFits w32 x → SFits w32 y → SFits w32 u → f (read x) (read y) (read u) ≡ f x y u
+  read-three f x y u h k l i = f (toZ-ofZ w32 x h i) (toZ-ofZ w32 y k i) (toZ-ofZ w32 u l i)
+
   pub read-four : (f : ℤ → ℤ → ℤ → ℤ → A) (x y u v : ℤ) → SFits w32 x → SFits w32 y → SFits w32 u → SFits w32 v
       → f (read x) (read y) (read u) (read v) ≡ f x y u v
   read-four f x y u v h k l m i = f (toZ-ofZ w32 x h i) (toZ-ofZ w32 y k i) (toZ-ofZ w32 u l i) (toZ-ofZ w32 v m i)

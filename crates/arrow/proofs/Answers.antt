@@ -1,6 +1,8 @@
 -- What is indicated, by the tests in their order.
 use mathlib.Core.Path.{_≡_, refl}
 use mathlib.Core.Bool.{true, false, _&&_}
+use Prim.Native.Nat.{ℕ}
+use native.Mathlib.Omega.{arith}
 use lib.IntN.{ℤ}
 use mir.Syntax.{w16, w32}
 use mir.Val.{SFits}
@@ -11,6 +13,16 @@ use Rattle.model.specs.Refusal.{firstFailed}
 use Rattle.arrow.specs.declared.Indication.the-variants as indication
 use Rattle.arrow.specs.Table.{inTable, entry}
 use Rattle.arrow.specs.Arrow.{isPitch, pitches, arrowChecks, arrow}
+
+-- An arrow is no refusal, and each has one number.
+pub same-arrow : {i j : ℕ} → indication.Arrow i ≡ indication.Arrow j → i ≡ j
+same-arrow e = cc
+
+pub same-refusal : {i j : ℕ} → indication.Refused i ≡ indication.Refused j → i ≡ j
+same-refusal e = cc
+
+pub arrow-no-refusal : {i j : ℕ} → indication.Arrow i ≡ indication.Refused j → ⊥
+arrow-no-refusal e = let z : _≡_ {A = ℕ} 0 1 = cc in omega arith
 
 -- The pitches in x and in y from one point to another.
 abbrev pub x-pitches : Point → Point → ℤ → ℤ

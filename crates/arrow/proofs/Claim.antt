@@ -27,7 +27,7 @@ use Rattle.arrow.specs.Arrow.{isPitch, arrowChecks, unless, arrow, glyph
 use Rattle.arrow.specs.Claim.{TableOfOctants, TowardZero, ArrowFor, Arrows}
 use Rattle.arrow.proofs.Quotient.{toward-zero, only-quotient}
 use Rattle.arrow.proofs.Entries.{offset-small}
-use Rattle.arrow.proofs.Answers.{x-pitches, y-pitches, bad-pitch, far, near}
+use Rattle.arrow.proofs.Answers.{same-arrow, arrow-no-refusal, x-pitches, y-pitches, bad-pitch, far, near}
 
 -- The entry at row j and place i.
 at-place : (i j : ℕ) → i < 31 → j < 31 → getD arrowTable (31 * j + i) 0 ≡ octant (subℕ i 15) (subℕ j 15)
@@ -156,22 +156,16 @@ module _ (display bay : Point) (n : ℕ) (h : 1 ≤ n) (k : n ≤ 1000) (qx qy :
   pub arrow-for : ArrowFor display bay (pos n) qx qy
   arrow-for =
       record {
-        tooFar = (λ e s. apart e (within (s .0) (s .1)), beyond);
+        tooFar = (λ e s. arrow-no-refusal (sym (within (s .0) (s .1)) ∙ e), beyond);
         here = λ z. within (small (z .0)) (small (z .1)) ∙ ap indication.Arrow (ap₂ octant (z .0) (z .1) ∙ no-difference);
         points = λ a b z j. (
-          λ e. subst (λ (m : ℕ). T (inOctant m qx qy)) (same (sym (within a b) ∙ e)) (one-octant qx qy z .1),
+          λ e. subst (λ (m : ℕ). T (inOctant m qx qy)) (same-arrow (sym (within a b) ∙ e)) (one-octant qx qy z .1),
           λ t. within a b ∙ ap indication.Arrow (octant-is j qx qy t),
         );
       }
     where
-      apart : {a : Indication} {j : ℕ} → a ≡ indication.Refused 14 → a ≡ indication.Arrow j → ⊥
-      apart e f = let z : _≡_ {A = ℕ} 0 1 = cc in omega arith
-
       small : {q : ℤ} → q ≡ pos 0 → natAbs q ≤ 15
       small e = subst (λ (q : ℤ). natAbs q ≤ 15) (sym e) (omega arith)
-
-      same : {i j : ℕ} → indication.Arrow i ≡ indication.Arrow j → i ≡ j
-      same e = cc
 
 pub no-arrow : (n : ℕ) → 9 ≤ n → glyph n ≡ byte "?"
 unfolding glyph

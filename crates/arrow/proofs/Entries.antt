@@ -4,7 +4,7 @@ use mathlib.Core.List.{List}
 use Prim.Native.Nat.{ℕ, _+_, _*_, _/_, _%_, _<_}
 use native.Mathlib.Omega.{arith}
 use lib.Dec.{T, leb→le}
-use lib.IntN.{ℤ, pos, natAbs, _+ℤ_, _-ℤ_}
+use lib.IntN.{ℤ, pos, natAbs, _-ℤ_}
 use lib.ListN.{getD}
 use mir.Syntax.{w32}
 use mir.Val.{SFits}
@@ -13,13 +13,9 @@ use Rattle.plane.specs.Octant.{octant}
 use Rattle.plane.proofs.Signed.{raised, lowered, lowered-fits}
 use Rattle.arrow.specs.Table.{tableLimit, rowLength, inTable, differenceAt, offset, entryAt, arrowTable, entry}
 
--- A difference in the table, raised by the largest, is where it stands in its row.
-module _ (d : ℤ) (t : T (inTable d)) where
-  pub offset-raised : d +ℤ pos tableLimit ≡ pos (offset d)
-  offset-raised = raised tableLimit d (leb→le (natAbs d) tableLimit t) .0
-
-  pub offset-small : offset d < rowLength
-  offset-small = omega (arith, raised tableLimit d (leb→le (natAbs d) tableLimit t) .1)
+-- Where a difference in the table stands is in its row.
+pub offset-small : (d : ℤ) → T (inTable d) → offset d < rowLength
+offset-small d t = omega (arith, raised tableLimit d (leb→le (natAbs d) tableLimit t) .1)
 
 -- An entry of a list that is the table.
 pub entry-is : (l : List ℕ) → l ≡ arrowTable → (dx dy : ℤ) (r c : ℕ) → r ≡ offset dy → c ≡ offset dx → getD l (rowLength * r + c) 0 ≡ entry dx dy

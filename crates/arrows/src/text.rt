@@ -8,6 +8,7 @@ ghost use lib.ListN.{length};
 ghost use Rattle.io.specs.Counts.{Counts};
 ghost use Rattle.arrays.specs.Paste.{Pasted, each};
 ghost use Rattle.arrow.specs.Table.{arrowTable};
+ghost use Rattle.ascii.specs.Text.{fitting};
 ghost use Rattle.arrows.specs.Text.{lineRoom, textRoom, numberLine};
 
 // Room for a number of 64 bits and a line feed.
@@ -40,12 +41,15 @@ fn number_lines(numbers: &[u8], out: &mut [u8]) -> usize
     next
 }
 
-// Puts the numbers of the table at the front of `out`, one to a line. Returns how many bytes they take.
+// Puts the numbers of the table at the front of `out`, one to a line, which has to have room for TEXT_ROOM bytes. Returns how many bytes they take;
+// 0 where there is no room.
 pub fn list_arrows(out: &mut [u8]) -> usize
-    requires { ⌜ textRoom ≤ length (now out) ⌝ }
-    ensures { λ r. ⌜ Pasted (each numberLine arrowTable) (now (out .entry)) (now (out .exit)) 0 r ⌝ }
+    ensures { λ r. ⌜ Pasted (fitting textRoom (now (out .entry)) (each numberLine arrowTable)) (now (out .entry)) (now (out .exit)) 0 r ⌝ }
     ensures { λ r. ⌜ Counts r (now (out .exit)) ⌝ }
 {
+    if out.len() < TEXT_ROOM {
+        return 0;
+    }
     let numbers = worked_out();
     number_lines(&numbers, out)
 }

@@ -8,17 +8,9 @@ use Rattle.plane.specs.Point.{Point}
 use Rattle.arrow.specs.declared.Indication.{Indication}
 use Rattle.arrow.specs.declared.Indication.the-variants as indication
 use Rattle.arrow.specs.Arrow.{arrow}
+use Rattle.arrow.proofs.Answers.{same-arrow, same-refusal, arrow-no-refusal}
 use Rattle.arrow.proofs.Claim.{arrow-answered}
 use Rattle.display.specs.Entry.{indicationNumber, Numbered}
-
-same-arrow : {i j : ℕ} → indication.Arrow i ≡ indication.Arrow j → i ≡ j
-same-arrow e = cc
-
-same-refusal : {i j : ℕ} → indication.Refused i ≡ indication.Refused j → i ≡ j
-same-refusal e = cc
-
-apart : {i j : ℕ} → indication.Arrow i ≡ indication.Refused j → ⊥
-apart e = let z : _≡_ {A = ℕ} 0 1 = cc in omega arith
 
 -- The three clauses of any answer.
 abbrev Says : Indication → Type 0
@@ -35,7 +27,7 @@ says-arrow a k h e =
         λ f. let z = same-arrow (sym e ∙ f) in (number ∙ z, omega (arith, z, h)),
         λ r. e ∙ ap indication.Arrow (sym number ∙ r .0),
       ),
-      λ n. (λ f. absurd (apart (sym e ∙ f)), λ r. absurd (omega (arith, h, number, r .0, r .1))),
+      λ n. (λ f. absurd (arrow-no-refusal (sym e ∙ f)), λ r. absurd (omega (arith, h, number, r .0, r .1))),
       inl (omega (arith, h, number)),
     )
 
@@ -43,7 +35,7 @@ says-refusal : (a : Indication) (n : ℕ) → 13 ≤ n → a ≡ indication.Refu
 unfolding indicationNumber
 says-refusal a n h e =
     let number : indicationNumber a ≡ n = ap indicationNumber e in (
-      λ k. (λ f. absurd (apart (sym f ∙ e)), λ r. absurd (omega (arith, h, number, r .0, r .1))),
+      λ k. (λ f. absurd (arrow-no-refusal (sym f ∙ e)), λ r. absurd (omega (arith, h, number, r .0, r .1))),
       λ j. (
         λ f. let z = same-refusal (sym e ∙ f) in (number ∙ z, omega (arith, z, h)),
         λ r. e ∙ ap indication.Refused (sym number ∙ r .0),

@@ -8,12 +8,12 @@ use native.Mathlib.Omega.{arith}
 use native.Mathlib.Decide.{decLt, decLe}
 use lib.Dec.{T, ltb, leb, leb→le, le→leb}
 use lib.IntN.{ℤ, pos, negsuc, natAbs, subℕ, _+ℤ_, _-ℤ_}
-use lib.Signed.{ltZ, leZ}
-use mir.Syntax.{w16, w32}
-use mir.Val.{SFits}
+use lib.Signed.{nonNeg, ltZ, leZ}
+use mir.Syntax.{Width, w16, w32}
+use mir.Val.{Fits, SFits}
 use Rattle.plane.specs.Coordinate.{base}
 use Rattle.plane.specs.Octant.{octant}
-use Rattle.arrays.proofs.Signed.{read, read-two}
+use Rattle.arrays.proofs.Signed.{read, read-is, read-one, read-two}
 use Rattle.arrays.proofs.Test.{and-parts, and-both, same-test}
 use Rattle.plane.proofs.Whole.{plus, minus, one-sided, abs-value, sub-value, add-value, difference-value, whole-ext}
 use Rattle.plane.proofs.Whole.{less-value, value-less, atmost-value, value-atmost}
@@ -89,6 +89,23 @@ pub raised : (k : ℕ) (z : ℤ) → natAbs z ≤ k → (z +ℤ pos k ≡ pos (n
 raised k z h =
     let m = moved z k (omega (arith, abs-value z)) in
     (whole-ext (z +ℤ pos k) (pos (natAbs (z +ℤ pos k))) (omega (arith, add-value z (pos k), m)), omega (arith, m, abs-value z))
+
+-- The program raises what is read back from 32 bits: the sum fits, is read back as it is, and fits where a natural number so large does.
+module _ (k : ℕ) (z : ℤ) (f : SFits w32 z) (t : T (leb (natAbs z) k)) (small : k ≤ 1000000) where
+  raised-sum : read z +ℤ pos k ≡ pos (natAbs (z +ℤ pos k))
+  raised-sum = read-one (λ (y : ℤ). y +ℤ pos k) f ∙ raised k z (leb→le (natAbs z) k t) .0
+
+  pub raised-most : natAbs (z +ℤ pos k) ≤ k + k
+  raised-most = raised k z (leb→le (natAbs z) k t) .1
+
+  pub raised-fits : SFits w32 (read z +ℤ pos k)
+  raised-fits = subst (SFits w32) (sym raised-sum) (record { sfits = omega (arith, raised-most, small) })
+
+  pub raised-read : read (read z +ℤ pos k) ≡ pos (natAbs (z +ℤ pos k))
+  raised-read = read-is raised-fits raised-sum
+
+  pub raised-cast : (w : Width) → Fits w (natAbs (z +ℤ pos k)) → T (nonNeg (read (read z +ℤ pos k))) × Fits w (natAbs (read (read z +ℤ pos k)))
+  raised-cast w h = subst (λ (y : ℤ). T (nonNeg y) × Fits w (natAbs y)) (sym raised-read) (tt, h)
 
 -- The difference of two numbers of 16 bits.
 pub lowered : (a b : ℕ) → pos a -ℤ pos b ≡ subℕ a b

@@ -3,8 +3,7 @@ use super::next;
 use super::numbers::Number;
 use super::numbers::number_of;
 ghost use mathlib.Core.Path.{_≡_};
-ghost use Prim.Native.Nat.{_≤_};
-ghost use lib.ListN.{length, drop};
+ghost use lib.ListN.{drop};
 ghost use Rattle.words.specs.Words.{wordsOf};
 ghost use Rattle.words.specs.Arguments.{appended, withWord, argumentsOf};
 
@@ -44,9 +43,8 @@ fn with_word(a: Arguments, word: &[u8]) -> Arguments
     }
 }
 
-// Returns the numbers of the words from `from` on.
+// Returns the numbers of the words from `from` on, none where the line ends before it.
 pub fn arguments_of(line: &[u8], from: usize) -> Arguments
-    requires { ⌜ from ≤ length (now line) ⌝ }
     ensures { λ r. ⌜ r ≡ argumentsOf (wordsOf (drop from (now (line .entry)))) ⌝ }
 {
     let mut a = Arguments::Zero;

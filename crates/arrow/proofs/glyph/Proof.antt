@@ -8,42 +8,6 @@ use Rattle.arrow.proofs.Claim.{no-arrow}
 use Rattle.arrow.proofs.glyph.Statement.{statement}
 use Rattle.arrow.proofs.glyph.Tie as tie
 
-returns : tie.Need-returns
-unfolding glyph
-returns c = search needs
-
-returns-2 : tie.Need-returns-2
-unfolding glyph
-returns-2 c = search needs
-
-returns-3 : tie.Need-returns-3
-unfolding glyph
-returns-3 c = search needs
-
-returns-4 : tie.Need-returns-4
-unfolding glyph
-returns-4 c = search needs
-
-returns-5 : tie.Need-returns-5
-unfolding glyph
-returns-5 c = search needs
-
-returns-6 : tie.Need-returns-6
-unfolding glyph
-returns-6 c = search needs
-
-returns-7 : tie.Need-returns-7
-unfolding glyph
-returns-7 c = search needs
-
-returns-8 : tie.Need-returns-8
-unfolding glyph
-returns-8 c = search needs
-
-returns-9 : tie.Need-returns-9
-unfolding glyph
-returns-9 c = search needs
-
 returns-10 : tie.Need-returns-10
 returns-10 c =
     let others-7 = c .match .rest .0 in
@@ -57,6 +21,8 @@ returns-10 c =
     sym (no-arrow (c .before .args .n) (omega (arith, above-4, others-5 .1, others-6 .1, others-7 .1, c .match .rest .1)))
 
 pub glyph-spec : {M : Type 1} → statement M
+unfolding glyph
 glyph-spec =
     tie.close
-    (tie.spec returns returns-2 returns-3 returns-4 returns-5 returns-6 returns-7 returns-8 returns-9 returns-10)
+    (tie.spec (λ c. search needs) (λ c. search needs) (λ c. search needs) (λ c. search needs) (λ c. search needs) (λ c. search needs)
+    (λ c. search needs) (λ c. search needs) (λ c. search needs) returns-10)

@@ -1,34 +1,25 @@
 -- `arrow::offset` meets its contract: a difference in the table, raised by the largest one, is not negative.
-use mathlib.Core.Path.{_≡_, sym, ap, _∙_, subst}
+use mathlib.Core.Path.{ap}
 use native.Mathlib.Omega.{arith}
-use lib.Dec.{T}
-use lib.IntN.{ℤ, pos, natAbs, _+ℤ_}
-use lib.Signed.{nonNeg}
-use mir.Syntax.{w32, w64}
-use mir.Val.{Fits, SFits}
-use Rattle.arrays.proofs.Signed.{read, read-is, read-one}
-use Rattle.arrow.specs.Table.{tableLimit, offset}
-use Rattle.arrow.proofs.Entries.{offset-raised, offset-small}
+use lib.IntN.{natAbs}
+use mir.Syntax.{w64}
+use Rattle.plane.proofs.Signed.{raised-most, raised-fits, raised-read, raised-cast}
+use Rattle.arrow.specs.Table.{tableLimit}
 use Rattle.arrow.proofs.offset.Statement.{statement}
 use Rattle.arrow.proofs.offset.Tie as tie
 
--- The sum, of what is read back from the bits of d.
-sum : (s : tie.Start) → read (s .args .d) +ℤ pos tableLimit ≡ pos (offset (s .args .d))
-sum s = read-one (λ (d : ℤ). d +ℤ pos tableLimit) (s .fits .d) ∙ offset-raised (s .args .d) (s .pre)
-
 add-result : tie.Need-add-result
-add-result c = subst (SFits w32) (sym (sum c)) (record { sfits = omega (arith, offset-small (c .args .d) (c .pre)) })
-
--- It is read back as it is.
-back : (s : tie.Start) → read (read (s .args .d) +ℤ pos tableLimit) ≡ pos (offset (s .args .d))
-back s = read-is (add-result s) (sum s)
+add-result c = raised-fits tableLimit (c .args .d) (c .fits .d) (c .pre) (omega arith)
 
 cast-result : tie.Need-cast-result
 cast-result c =
-    subst (λ (z : ℤ). T (nonNeg z) × Fits w64 (natAbs z)) (sym (back c)) (tt, record { fits = omega (arith, offset-small (c .args .d) (c .pre)) })
+    raised-cast tableLimit (c .args .d) (c .fits .d) (c .pre) (omega arith) w64
+    (record { fits = omega (arith, raised-most tableLimit (c .args .d) (c .fits .d) (c .pre) (omega arith)) })
 
 returns : tie.Need-returns
-returns c = (ap natAbs (back c), omega (arith, ap natAbs (back c), offset-small (c .args .d) (c .pre)))
+returns c =
+    let same = ap natAbs (raised-read tableLimit (c .args .d) (c .fits .d) (c .pre) (omega arith)) in
+    (same, omega (arith, same, raised-most tableLimit (c .args .d) (c .fits .d) (c .pre) (omega arith)))
 
 pub offset-spec : {M : Type 1} → statement M
 offset-spec = tie.close (tie.spec add-result cast-result returns)

@@ -1,20 +1,13 @@
--- `words::arguments::append` meets its contract: in each arm the numbers so far are told, and each number is read back from its bits.
+-- `words::arguments::append` meets its contract: in each arm the numbers so far are known, and each number is read back from its bits.
 use mathlib.Core.Path.{_≡_, sym, ap, _∙_}
 use lib.IntN.{ℤ}
-use mir.Syntax.{w32}
-use mir.Val.{SFits}
-use mir.ValLaws.{toZ-ofZ}
 use borrow.Author.Needs.{needs}
-use Rattle.arrays.proofs.Signed.{read}
+use Rattle.arrays.proofs.Signed.{read-one, read-two, read-three, read-four, read-five}
 use Rattle.words.specs.declared.arguments.Arguments.{Arguments}
 use Rattle.words.specs.declared.arguments.Arguments.the-variants.{One, Two, Three, Four, Five}
 use Rattle.words.specs.Arguments.{appended}
 use Rattle.words.proofs.arguments.append.Statement.{statement}
 use Rattle.words.proofs.arguments.append.Tie as tie
-
--- A number is read back from its bits.
-back : (z : ℤ) → SFits w32 z → read z ≡ z
-back z h = toZ-ofZ w32 z h
 
 -- What is appended to equal numbers is equal.
 same-appended : {a b : Arguments} (z : ℤ) → a ≡ b → appended b z ≡ appended a z
@@ -22,56 +15,44 @@ same-appended z e = sym (ap (λ (b : Arguments). appended b z) e)
 
 returns : tie.Need-returns
 unfolding appended
-returns c =
-    let start = c .before .before in
-    (λ i. One (back (start .args .z) (start .fits .z) i)) ∙ same-appended (start .args .z) (c .enum-told .given .1)
+returns c = read-one One (c .before .before .fits .z) ∙ same-appended _ (c .enum-told .given .1)
 
 returns-2 : tie.Need-returns-2
 unfolding appended
 returns-2 c =
-    let start = c .before .before .before in
-    let v = c .before .a .given .0 in
     let k = c .known-told .given in
-    (λ i. Two (back (v .0) (record { sfits = k .0 .1 }) i) (back (start .args .z) (start .fits .z) i)) ∙ same-appended (start .args .z) (c .before .a .given .1)
+    read-two Two _ _ (record { sfits = k .0 .1 }) (c .before .before .before .fits .z) ∙ same-appended _ (c .before .a .given .1)
 
 returns-3 : tie.Need-returns-3
 unfolding appended
 returns-3 c =
-    let start = c .before .before .before in
-    let v = c .before .a2 .given .0 in
     let k = c .known-told2 .given in
-    (λ i. Three (back (v .0) (record { sfits = k .0 .1 }) i) (back (v .1 .0) (record { sfits = k .1 .0 .1 }) i) (back (start .args .z) (start .fits .z) i))
-    ∙ same-appended (start .args .z) (c .before .a2 .given .1)
+    read-three Three _ _ _ (record { sfits = k .0 .1 }) (record { sfits = k .1 .0 .1 }) (c .before .before .before .fits .z)
+    ∙ same-appended _ (c .before .a2 .given .1)
 
 returns-4 : tie.Need-returns-4
 unfolding appended
 returns-4 c =
-    let start = c .before .before .before in
-    let v = c .before .a3 .given .0 in
     let k = c .known-told3 .given in
-    (λ i. Four (back (v .0) (record { sfits = k .0 .1 }) i) (back (v .1 .0) (record { sfits = k .1 .0 .1 }) i)
-    (back (v .1 .1 .0) (record { sfits = k .1 .1 .0 .1 }) i)
-    (back (start .args .z) (start .fits .z) i))
-    ∙ same-appended (start .args .z) (c .before .a3 .given .1)
+    read-four Four _ _ _ _ (record { sfits = k .0 .1 }) (record { sfits = k .1 .0 .1 }) (record { sfits = k .1 .1 .0 .1 })
+    (c .before .before .before .fits .z)
+    ∙ same-appended _ (c .before .a3 .given .1)
 
 returns-5 : tie.Need-returns-5
 unfolding appended
 returns-5 c =
-    let start = c .before .before .before in
-    let v = c .before .a4 .given .0 in
     let k = c .known-told4 .given in
-    (λ i. Five (back (v .0) (record { sfits = k .0 .1 }) i) (back (v .1 .0) (record { sfits = k .1 .0 .1 }) i)
-    (back (v .1 .1 .0) (record { sfits = k .1 .1 .0 .1 }) i)
-    (back (v .1 .1 .1 .0) (record { sfits = k .1 .1 .1 .0 .1 }) i) (back (start .args .z) (start .fits .z) i))
-    ∙ same-appended (start .args .z) (c .before .a4 .given .1)
+    read-five Five _ _ _ _ _ (record { sfits = k .0 .1 }) (record { sfits = k .1 .0 .1 }) (record { sfits = k .1 .1 .0 .1 })
+    (record { sfits = k .1 .1 .1 .0 .1 }) (c .before .before .before .fits .z)
+    ∙ same-appended _ (c .before .a4 .given .1)
 
 returns-6 : tie.Need-returns-6
 unfolding appended
-returns-6 c = same-appended (c .before .before .before .args .z) (c .before .a5 .given .1)
+returns-6 c = same-appended _ (c .before .a5 .given .1)
 
 returns-7 : tie.Need-returns-7
 unfolding appended
-returns-7 c = same-appended (c .before .before .args .z) (c .enum-told2 .given .1)
+returns-7 c = same-appended _ (c .enum-told2 .given .1)
 
 pub append-spec : {M : Type 1} → statement M
 append-spec =
