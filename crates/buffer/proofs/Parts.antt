@@ -7,9 +7,11 @@ use lib.ListN.{take}
 use Rattle.arrays.specs.Paste.{Pasted, each}
 use Rattle.arrays.proofs.paste.Lines.{each-next}
 use Rattle.arrays.proofs.paste.Parts.{pasted-same, pasted-then}
-use Rattle.model.specs.File.{header}
+use Rattle.model.specs.Sections.{headerSize, header}
+use Rattle.model.specs.File.{fewestSections}
+use Rattle.model.proofs.Sections.{header-length}
 use Rattle.sections.specs.Bytes.{endsBytes, codeBytes}
-use Rattle.buffer.specs.Parts.{fileParts, PartsFit}
+use Rattle.buffer.specs.Parts.{sizesOf, fileParts, PartsFit}
 
 module _ {pins : List ℕ} {n : ℕ} {steiner : List ℕ} {m : ℕ} {ends old : List ℕ} (k : PartsFit pins n steiner m ends old) where
   -- The place behind the pins, and behind the Steiner points.
@@ -19,18 +21,23 @@ module _ {pins : List ℕ} {n : ℕ} {steiner : List ℕ} {m : ℕ} {ends old : 
   pub steiner-end : {l o : List ℕ} {at r : ℕ} → Pasted (each codeBytes (take m steiner)) l o at r → r ≡ at + 4 * m
   steiner-end p = each-next codeBytes 4 (λ _. refl) steiner m (k .inSteiner) p
 
-  pub parts-put : {e : ℕ} → e ≡ n + m - 1 → {o₁ o₂ o₃ o₄ : List ℕ} {a b c r : ℕ} → Pasted (header (4 * n) (4 * m) (2 * e)) old o₁ 0 a
+  -- The place behind the header.
+  pub header-end : (e : ℕ) {l o : List ℕ} {r : ℕ} → Pasted (header (sizesOf n m e)) l o 0 r → r ≡ headerSize fewestSections
+  header-end e p = omega (arith, p .next, header-length (sizesOf n m e))
+
+  pub parts-put : {e : ℕ} → e ≡ n + m - 1 → {o₁ o₂ o₃ o₄ : List ℕ} {a b c r : ℕ} → Pasted (header (sizesOf n m e)) old o₁ 0 a
       → Pasted (each codeBytes (take n pins)) o₁ o₂ a b → Pasted (each codeBytes (take m steiner)) o₂ o₃ b c → Pasted (each endsBytes (take e ends)) o₃ o₄ c r
       → Pasted (fileParts pins n steiner m ends) old o₄ 0 r
   parts-put {e} is p q s t =
+      let first = header-end e p in
       pasted-same
       (append-assoc (H ++ P) Q R ∙ append-assoc H P (Q ++ R)
-      ∙ ap (λ (z : ℕ). header (4 * n) (4 * m) (2 * z) ++ (P ++ (Q ++ each endsBytes (take z ends)))) is)
-      (pasted-then (pasted-then (pasted-then p (omega (arith, p .next, k .room)) q) (omega (arith, p .next, pins-end q, k .room)) s)
-      (omega (arith, p .next, pins-end q, steiner-end s, k .room)) t)
+      ∙ ap (λ (z : ℕ). header (sizesOf n m z) ++ (P ++ (Q ++ each endsBytes (take z ends)))) is)
+      (pasted-then (pasted-then (pasted-then p (omega (arith, first, k .room)) q) (omega (arith, first, pins-end q, k .room)) s)
+      (omega (arith, first, pins-end q, steiner-end s, k .room)) t)
     where
       H : List ℕ
-      H = header (4 * n) (4 * m) (2 * e)
+      H = header (sizesOf n m e)
 
       P : List ℕ
       P = each codeBytes (take n pins)

@@ -3,23 +3,35 @@ use super::put_edges;
 use super::put_header;
 use super::put_points;
 use sections::header::EDGE_SIZE;
-use sections::header::HEADER;
 use sections::header::POINT_SIZE;
+use sections::header::SHORTEST;
 use tree::list::edges_of;
 ghost use mathlib.Core.Path.{_≡_};
 ghost use Prim.Native.Nat.{_+_, _*_, _-_, _≤_};
+ghost use lib.ListN.{length};
 ghost use Rattle.arrays.specs.Paste.{Pasted};
 ghost use Rattle.model.specs.State.{maxPins};
-ghost use Rattle.model.specs.File.{headerSize};
+ghost use Rattle.model.specs.Sections.{headerSize, header};
+ghost use Rattle.model.specs.File.{fewestSections};
 ghost use Rattle.points.specs.Coded.{maxSteiner};
-ghost use Rattle.buffer.specs.Parts.{fileParts, PartsFit};
+ghost use Rattle.buffer.specs.Parts.{sizesOf, fileParts, PartsFit};
 
 // Returns how many bytes the file of n pins and m Steiner points has.
 pub fn length_for(n: usize, m: usize) -> usize
     requires { ⌜ (n ≤ maxPins) × (m ≤ maxSteiner) ⌝ }
-    ensures { λ r. ⌜ r ≡ headerSize + 4 * n + 4 * m + 2 * (n + m - 1) ⌝ }
+    ensures { λ r. ⌜ r ≡ headerSize fewestSections + 4 * n + 4 * m + 2 * (n + m - 1) ⌝ }
 {
-    HEADER + POINT_SIZE * n + POINT_SIZE * m + EDGE_SIZE * edges_of(n + m)
+    SHORTEST + POINT_SIZE * n + POINT_SIZE * m + EDGE_SIZE * edges_of(n + m)
+}
+
+// Puts the header of the file of n pins, m Steiner points and e edges. Returns the place behind it.
+fn put_file_header(n: usize, m: usize, e: usize, out: &mut [u8]) -> usize
+    requires { ⌜ headerSize fewestSections ≤ length (now out) ⌝ }
+    requires { ⌜ (n ≤ maxPins) × (m ≤ maxSteiner) × (e ≤ maxPins + maxSteiner) ⌝ }
+    ensures { λ r. ⌜ Pasted (header (sizesOf n m e)) (now (out .entry)) (now (out .exit)) 0 r ⌝ }
+{
+    let sizes = [POINT_SIZE * n, POINT_SIZE * m, EDGE_SIZE * e];
+    put_header(&sizes, out)
 }
 
 // Puts the header and the sections of n pins, m Steiner points and the edges of their tree, and returns the length of the file.
@@ -35,7 +47,7 @@ pub fn put_parts(
     ensures { λ r. ⌜ Pasted (fileParts (now (pins .entry)) n (now (steiner .entry)) m (now (ends .entry))) (now (out .entry)) (now (out .exit)) 0 r ⌝ }
 {
     let e = edges_of(n + m);
-    let first = put_header(POINT_SIZE * n, POINT_SIZE * m, EDGE_SIZE * e, out);
+    let first = put_file_header(n, m, e, out);
     let second = put_points(pins, n, out, first);
     let third = put_points(steiner, m, out, second);
     put_edges(ends, e, out, third)

@@ -8,16 +8,16 @@ use arrays::paste::put_bytes;
 use plane::codes::x_of;
 use plane::codes::y_of;
 use plane::word_of;
-use sections::header::HEADER;
-use sections::header::SECTIONS;
+use sections::header::header_size;
 use tree::keys::FACTOR;
 ghost use mathlib.Core.List.{_++_};
-ghost use Prim.Native.Nat.{_+_, _*_, _≤_};
+ghost use Prim.Native.Nat.{_+_, _*_, _≤_, _<_};
 ghost use lib.ListN.{length, take};
 ghost use Rattle.arrays.specs.Number.{bytes4};
 ghost use Rattle.arrays.specs.Paste.{Pasted, each};
-ghost use Rattle.model.specs.File.{headerSize, header};
+ghost use Rattle.model.specs.Sections.{headerSize, pairsFrom, header};
 ghost use Rattle.sections.specs.Bytes.{endsBytes, codeBytes};
+ghost use Rattle.buffer.specs.Parts.{sum};
 
 // Puts the pair of offset and length of a section.
 fn put_pair(offset: usize, size: usize, out: &mut [u8], at: usize) -> usize
@@ -28,16 +28,34 @@ fn put_pair(offset: usize, size: usize, out: &mut [u8], at: usize) -> usize
     put4(out, next, size)
 }
 
-// Puts the header for sections of so many bytes at the front. Returns the place behind it.
-pub fn put_header(pins: usize, steiner: usize, edges: usize, out: &mut [u8]) -> usize
-    requires { ⌜ (headerSize ≤ length (now out)) × (pins ≤ 1000) × (steiner ≤ 1000) ⌝ }
-    ensures { λ r. ⌜ Pasted (header pins steiner edges) (now (out .entry)) (now (out .exit)) 0 r ⌝ }
+// Puts the pairs of sections of these lengths from place `at` on; the sections stand one behind the other, the first from place `start` on.
+// Returns the place behind the pairs.
+fn put_pairs(sizes: &[usize], start: usize, out: &mut [u8], at: usize) -> usize
+    requires { ⌜ at + 8 * length (now sizes) ≤ length (now out) ⌝ }
+    requires { ⌜ start + sum (now sizes) < 4294967296 ⌝ }
+    ensures { λ r. ⌜ Pasted (pairsFrom start (now (sizes .entry))) (now (out .entry)) (now (out .exit)) at r ⌝ }
+{
+    let mut offset = start;
+    let mut next = at;
+    let mut k = 0;
+    while k < sizes.len() {
+        let size = sizes[k];
+        next = put_pair(offset, size, out, next);
+        offset += size;
+        k += 1;
+    }
+    next
+}
+
+// Puts the header of sections of these lengths at the front. Returns the place behind it.
+pub fn put_header(sizes: &[usize], out: &mut [u8]) -> usize
+    requires { ⌜ headerSize (length (now sizes)) ≤ length (now out) ⌝ }
+    requires { ⌜ (length (now sizes) < 65536) × (sum (now sizes) < 4294000000) ⌝ }
+    ensures { λ r. ⌜ Pasted (header (now (sizes .entry))) (now (out .entry)) (now (out .exit)) 0 r ⌝ }
 {
     let count = put_bytes(out, 0, b"DECK");
-    let first = put2(out, count, SECTIONS);
-    let second = put_pair(HEADER, pins, out, first);
-    let third = put_pair(HEADER + pins, steiner, out, second);
-    put_pair(HEADER + pins + steiner, edges, out, third)
+    let first = put2(out, count, sizes.len());
+    put_pairs(sizes, header_size(sizes.len()), out, first)
 }
 
 // Puts the point that a code stands for.

@@ -4,7 +4,7 @@ use Prim.Native.Nat.{ℕ}
 use Rattle.model.specs.Round.{finished, tap}
 use Rattle.model.specs.Call as call
 use Rattle.working.specs.declared.Working.{Working}
-use Rattle.working.specs.InOrder.{InOrder, stateOf}
+use Rattle.working.specs.InOrder.{InOrder, contentsOf}
 use Rattle.rounds.specs.declared.Step.{Step}
 use Rattle.rounds.specs.declared.Step.the-variants as step
 use Rattle.calls.specs.declared.Changed.{Changed}
@@ -36,8 +36,8 @@ refusalNumber (Rounds n) = 0
 abbrev pub refusing : Working → ℕ → Changed
 refusing w n = record { working = w; reply = Refused n }
 
--- The working form r follows from w by the call c: it is in order, its state is the model's next, and the reply is the model's.
+-- The working form r follows from w by the call c: it is in order, its contents are the model's next, and the reply is the model's.
 pub record ChangedBy (w : Working) (c : call.Call) (r : Changed) : Type 0 where
   pub inOrder : InOrder (r .working)
-  pub next : stateOf (r .working) ≡ call.step (stateOf w) c .next
-  pub reply : r .reply ≡ replyOf (call.step (stateOf w) c .reply)
+  pub next : contentsOf (r .working) ≡ call.step (contentsOf w) c .next
+  pub reply : r .reply ≡ replyOf (call.step (contentsOf w) c .reply)

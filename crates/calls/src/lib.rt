@@ -6,10 +6,10 @@ use rounds::Step;
 use working::Working;
 ghost use mathlib.Core.Path.{_≡_};
 ghost use lib.Dec.{T};
-ghost use Rattle.model.specs.State.{Valid};
+ghost use Rattle.model.specs.Contents.{ValidContents};
 ghost use Rattle.model.specs.Call as call;
 ghost use Rattle.plane.specs.Code.{pointOf, isCode};
-ghost use Rattle.working.specs.InOrder.{InOrder, stateOf};
+ghost use Rattle.working.specs.InOrder.{InOrder, contentsOf};
 ghost use Rattle.calls.specs.Changes.{refusing, refusalNumber, stepReply, ChangedBy};
 
 // What a call replies: done, or a refusal by its number; a round: finished, or the new Steiner point and the whole fall in
@@ -65,7 +65,7 @@ fn refuse(w: Working, number: u8) -> Changed
 fn add_at(w: Working, k: u64) -> Changed
     requires { ⌜ InOrder w ⌝ }
     requires { ⌜ T (isCode k) ⌝ }
-    requires { ⌜ Valid (stateOf w) ⌝ }
+    requires { ⌜ ValidContents (contentsOf w) ⌝ }
     ensures { λ r. ⌜ ChangedBy w (call.add (pointOf k)) r ⌝ }
 {
     let pins = w.points.pins;
@@ -105,7 +105,7 @@ fn withdraw_at(w: Working, k: u64) -> Changed
 // Adds a pin. Returns the working form that follows, and the reply: done, or a refusal, in the order 7, 8, 10.
 pub fn add(w: Working, x: i32, y: i32) -> Changed
     requires { ⌜ InOrder w ⌝ }
-    requires { ⌜ Valid (stateOf w) ⌝ }
+    requires { ⌜ ValidContents (contentsOf w) ⌝ }
     ensures { λ r. ⌜ ChangedBy w (call.add (record { x = x; y = y })) r ⌝ }
 {
     match locate(x, y) {
@@ -117,7 +117,7 @@ pub fn add(w: Working, x: i32, y: i32) -> Changed
 // Withdraws a pin. Returns the working form that follows, and the reply: done, or refusal 9.
 pub fn withdraw(w: Working, x: i32, y: i32) -> Changed
     requires { ⌜ InOrder w ⌝ }
-    requires { ⌜ Valid (stateOf w) ⌝ }
+    requires { ⌜ ValidContents (contentsOf w) ⌝ }
     ensures { λ r. ⌜ ChangedBy w (call.withdraw (record { x = x; y = y })) r ⌝ }
 {
     match locate(x, y) {
@@ -129,7 +129,7 @@ pub fn withdraw(w: Working, x: i32, y: i32) -> Changed
 // One round. Returns the working form that follows, and the reply: finished, or the new Steiner point with the fall in length.
 pub fn round(w: Working) -> Changed
     requires { ⌜ InOrder w ⌝ }
-    requires { ⌜ Valid (stateOf w) ⌝ }
+    requires { ⌜ ValidContents (contentsOf w) ⌝ }
     ensures { λ r. ⌜ ChangedBy w call.oneRound r ⌝ }
 {
     let t = rounds::round_of(w);
@@ -144,7 +144,7 @@ pub fn round(w: Working) -> Changed
 // Rounds until one is finished. Returns the working form that they lead to, and how many added a Steiner point.
 pub fn run_to_end(w: Working) -> Changed
     requires { ⌜ InOrder w ⌝ }
-    requires { ⌜ Valid (stateOf w) ⌝ }
+    requires { ⌜ ValidContents (contentsOf w) ⌝ }
     ensures { λ r. ⌜ ChangedBy w call.runToEnd r ⌝ }
 {
     let e = rounds::finish_of(w);

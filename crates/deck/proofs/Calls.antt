@@ -8,8 +8,9 @@ use mir.Syntax.{w32}
 use mir.Val.{SFits}
 use Rattle.plane.specs.Point.{Point, point}
 use Rattle.arrays.specs.Test.{if}
-use Rattle.model.specs.State.{State, Valid}
+use Rattle.model.specs.Contents.{Contents, ofState, ValidContents}
 use Rattle.model.specs.Call as call
+use Rattle.points.specs.declared.Points.{Points}
 use Rattle.points.specs.Coded as coded
 use Rattle.working.specs.InOrder as work
 use Rattle.calls.specs.declared.Changed.{Changed}
@@ -18,38 +19,38 @@ use Rattle.deck.specs.declared.Deck.{Deck}
 use Rattle.deck.specs.declared.Outcome.{Outcome}
 use Rattle.deck.specs.declared.check.Checked.{Checked}
 use Rattle.deck.specs.Check.{Checks}
-use Rattle.deck.specs.Form.{deckOf, stateOf, Sound, sound}
+use Rattle.deck.specs.Form.{deckOf, contentsOf, Sound, sound}
 use Rattle.deck.specs.Calls.{deckOutcome, refusedOutcome, called, outcomeOf}
 use Rattle.arrays.proofs.Test.{of-true}
 use Rattle.arrays.proofs.Signed.{read, read-two}
 use Rattle.calls.proofs.PointCalls.{by-point}
 use Rattle.deck.proofs.Form.{sound-is}
 
--- What the check of a deck gives where it passed: the deck is sound, and its working form stands for its state.
+-- What the check of a deck gives where it passed: the deck is sound, and its working form stands for its contents.
 pub checked-sound : (d : Deck) (r : Checked) → Checks (sound d) (d .points) r → r .ok ≡ true
-    → Sound d × work.InOrder (r .working) × (work.stateOf (r .working) ≡ stateOf d)
+    → Sound d × work.InOrder (r .working) × (work.contentsOf (r .working) ≡ contentsOf d)
 checked-sound d r c e =
-    (sound-is d .0 t, c .inOrder t, ap coded.stateOf (c .same t))
+    (sound-is d .0 t, c .inOrder t, ap (λ (q : Points). ofState (coded.stateOf q)) (c .same t))
   where
     t : T (sound d)
     t = of-true (sym (c .ok) ∙ e)
 
-pub checked-valid : (d : Deck) (r : Checked) → Checks (sound d) (d .points) r → r .ok ≡ true → work.InOrder (r .working) × Valid (work.stateOf (r .working))
-checked-valid d r c e = let k = checked-sound d r c e in (k .1, subst⁻¹ Valid (k .2) (k .0 .valid))
+pub checked-valid : (d : Deck) (r : Checked) → Checks (sound d) (d .points) r → r .ok ≡ true → work.InOrder (r .working) × ValidContents (work.contentsOf (r .working))
+checked-valid d r c e = let k = checked-sound d r c e in (k .1, subst⁻¹ ValidContents (k .2) (k .0 .valid))
 
 -- A call by whether the deck is sound.
 pub called-unsound : (d : Deck) (c : call.Call) → sound d ≡ false → refusedOutcome d 11 ≡ called d c
 unfolding called
-called-unsound d c e = ap (λ (b : Bool). if b (λ _. deckOutcome (call.step (stateOf d) c)) (λ _. refusedOutcome d 11)) (sym e)
+called-unsound d c e = ap (λ (b : Bool). if b (λ _. deckOutcome (call.step (contentsOf d) c)) (λ _. refusedOutcome d 11)) (sym e)
 
-pub called-sound : (d : Deck) (c : call.Call) → sound d ≡ true → deckOutcome (call.step (stateOf d) c) ≡ called d c
+pub called-sound : (d : Deck) (c : call.Call) → sound d ≡ true → deckOutcome (call.step (contentsOf d) c) ≡ called d c
 unfolding called
-called-sound d c e = ap (λ (b : Bool). if b (λ _. deckOutcome (call.step (stateOf d) c)) (λ _. refusedOutcome d 11)) (sym e)
+called-sound d c e = ap (λ (b : Bool). if b (λ _. deckOutcome (call.step (contentsOf d) c)) (λ _. refusedOutcome d 11)) (sym e)
 
 -- Every method begins with the check and a test of its answer. Where the check failed the call is refused, else it is made on the
 -- working form.
 module _ (d : Deck) {r : Checked} (k : Checks (sound d) (d .points) r) where
-  pub ready : not (r .ok) ≡ false → work.InOrder (r .working) × Valid (work.stateOf (r .working))
+  pub ready : not (r .ok) ≡ false → work.InOrder (r .working) × ValidContents (work.contentsOf (r .working))
   ready e = checked-valid d r k (not-false (r .ok) e)
 
   pub refused-by : (c : call.Call) {o : Outcome} → not (r .ok) ≡ true → o ≡ refusedOutcome d 11 → o ≡ called d c
@@ -60,12 +61,12 @@ module _ (d : Deck) {r : Checked} (k : Checks (sound d) (d .points) r) where
   called-by c e by is =
       is
       ∙ (λ i. record {
-        next = deckOf ((by .next ∙ ap (λ (z : State). call.step z c .next) same) i);
-        reply = (by .reply ∙ ap (λ (z : State). replyOf (call.step z c .reply)) same) i;
+        next = deckOf ((by .next ∙ ap (λ (z : Contents). call.step z c .next) same) i);
+        reply = (by .reply ∙ ap (λ (z : Contents). replyOf (call.step z c .reply)) same) i;
       })
       ∙ called-sound d c (sym (k .ok) ∙ not-false (r .ok) e)
     where
-      same : work.stateOf (r .working) ≡ stateOf d
+      same : work.contentsOf (r .working) ≡ contentsOf d
       same = checked-sound d r k (not-false (r .ok) e) .2
 
   -- At a point whose two numbers are handed on as 32 bits.

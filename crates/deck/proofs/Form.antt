@@ -1,4 +1,4 @@
--- Decks and states correspond: the state of a valid state's deck is the state, two sound decks with the same points are equal, and
+-- Decks and contents correspond: the contents of the deck of valid contents are these, two sound decks with the same contents are equal, and
 -- soundness is decided by the test.
 use mathlib.Core.Path.{_≡_, sym, ap, _∙_, subst, subst⁻¹}
 use mathlib.Core.Logic.{_↔_, ⊎-elim}
@@ -8,28 +8,30 @@ use lib.Dec.{T, eqb, eqb→eq, eqb-refl}
 use Rattle.arrays.specs.Same.{sameList}
 use Rattle.arrays.proofs.Test.{and-parts, and-both}
 use Rattle.arrays.proofs.same.Alike.{same-refl, same-eq}
-use Rattle.model.specs.State.{State, Placed, Valid, valid}
+use Rattle.model.specs.State.{Placed}
+use Rattle.model.specs.Contents.{Contents, ofState, ValidContents, validContents}
 use Rattle.model.proofs.Prune.{few-steiner}
-use Rattle.model.proofs.Validity.{valid-is}
+use Rattle.model.proofs.Validity.{valid-contents-is}
 use Rattle.points.specs.declared.Points.{Points}
 use Rattle.points.specs.Coded.{Arranged}
 use Rattle.points.proofs.Coded.{state-coded, valid-arranged, pins-count, steiner-count}
 use Rattle.working.specs.Edges.{edgeRow}
 use Rattle.deck.specs.declared.Deck.{Deck}
-use Rattle.deck.specs.Form.{deckOf, stateOf, Sound, samePoints, sameDeck, sound}
+use Rattle.deck.specs.Form.{deckOf, contentsOf, stateOf, Sound, samePoints, sameDeck, sound}
 
--- The state of the deck of a placed state is the state.
-pub state-deck : (s : State) → Placed s → stateOf (deckOf s) ≡ s
+-- The contents of the deck of contents are these, where the points are placed.
+pub contents-deck : (c : Contents) → Placed (c .state) → contentsOf (deckOf c) ≡ c
 unfolding deckOf
-state-deck s p = state-coded s p
+contents-deck c p = ap ofState (state-coded (c .state) p)
 
--- The deck of a valid state is sound.
-pub deck-sound : (s : State) → Valid s → Sound (deckOf s)
-deck-sound s v =
-    record { valid = subst⁻¹ Valid (state-deck s (v .placed)) v; same = ap deckOf (sym (state-deck s (v .placed))) }
+-- The deck of valid contents is sound.
+pub deck-sound : (c : Contents) → ValidContents c → Sound (deckOf c)
+deck-sound c v =
+    let e = contents-deck c (v .state .placed) in
+    record { valid = subst⁻¹ ValidContents e v; same = ap deckOf (sym e) }
 
--- The state of a sound deck settles its every place (SPEC 5.2).
-pub sound-unique : (d e : Deck) → Sound d → Sound e → stateOf d ≡ stateOf e → d ≡ e
+-- The contents of a sound deck settle its every place (SPEC 5.2).
+pub sound-unique : (d e : Deck) → Sound d → Sound e → contentsOf d ≡ contentsOf e → d ≡ e
 sound-unique d e s t q = s .same ∙ ap deckOf q ∙ sym (t .same)
 
 -- What soundness gives: edges in the listing order, and points arranged, few enough.
@@ -40,7 +42,7 @@ module _ (d : Deck) (s : Sound d) where
 
   pub sound-arranged : Arranged (d .points)
   unfolding deckOf
-  sound-arranged = subst⁻¹ Arranged (λ i. s .same i .points) (valid-arranged (stateOf d) (s .valid))
+  sound-arranged = subst⁻¹ Arranged (λ i. s .same i .points) (valid-arranged (stateOf d) (s .valid .state))
 
   pub sound-few : d .points .npins ≤ 64
   sound-few = sound-arranged .pinCodes .few
@@ -49,7 +51,7 @@ module _ (d : Deck) (s : Sound d) where
   sound-left =
       let n = pins-count (d .points) sound-arranged in
       let m = steiner-count (d .points) sound-arranged in
-      ⊎-elim (λ e. omega (arith, m, e)) (λ h. omega (arith, n, m, h, sound-few)) (few-steiner (stateOf d) (s .valid))
+      ⊎-elim (λ e. omega (arith, m, e)) (λ h. omega (arith, n, m, h, sound-few)) (few-steiner (stateOf d) (s .valid .state))
 
 same-points : (q r : Points) → T (samePoints q r) → q ≡ r
 same-points q r t =
@@ -73,9 +75,9 @@ self-points q =
 pub sound-is : (d : Deck) → T (sound d) ↔ Sound d
 unfolding sound
 sound-is d = (
-  λ t. let a = and-parts (valid (stateOf d)) (sameDeck d (deckOf (stateOf d))) t in
-      record { valid = valid-is (stateOf d) .0 (a .0); same = same (deckOf (stateOf d)) (a .1) },
-  λ s. and-both (valid (stateOf d)) (sameDeck d (deckOf (stateOf d))) (valid-is (stateOf d) .1 (s .valid))
+  λ t. let a = and-parts (validContents (contentsOf d)) (sameDeck d (deckOf (contentsOf d))) t in
+      record { valid = valid-contents-is (contentsOf d) .0 (a .0); same = same (deckOf (contentsOf d)) (a .1) },
+  λ s. and-both (validContents (contentsOf d)) (sameDeck d (deckOf (contentsOf d))) (valid-contents-is (contentsOf d) .1 (s .valid))
       (subst (λ (e : Deck). T (sameDeck d e)) (s .same) self),
 )
   where

@@ -15,18 +15,18 @@ use Rattle.questions.specs.declared.Answer.the-variants.{Refused}
 use Rattle.deck.specs.declared.Deck.{Deck}
 use Rattle.deck.specs.declared.check.Checked.{Checked}
 use Rattle.deck.specs.Check.{Checks}
-use Rattle.deck.specs.Form.{stateOf, sound}
+use Rattle.deck.specs.Form.{contentsOf, sound}
 use Rattle.deck.specs.Questions.{asked}
 use Rattle.deck.proofs.Calls.{checked-sound}
 
 -- A question by whether the deck is sound.
 pub asked-unsound : (d : Deck) (q : Question) → sound d ≡ false → Refused 11 ≡ asked d q
 unfolding asked
-asked-unsound d q e = ap (λ (b : Bool). if b (λ _. answerTo q (stateOf d)) (λ _. Refused 11)) (sym e)
+asked-unsound d q e = ap (λ (b : Bool). if b (λ _. answerTo q (contentsOf d)) (λ _. Refused 11)) (sym e)
 
-pub asked-sound : (d : Deck) (q : Question) → sound d ≡ true → answerTo q (stateOf d) ≡ asked d q
+pub asked-sound : (d : Deck) (q : Question) → sound d ≡ true → answerTo q (contentsOf d) ≡ asked d q
 unfolding asked
-asked-sound d q e = ap (λ (b : Bool). if b (λ _. answerTo q (stateOf d)) (λ _. Refused 11)) (sym e)
+asked-sound d q e = ap (λ (b : Bool). if b (λ _. answerTo q (contentsOf d)) (λ _. Refused 11)) (sym e)
 
 -- Every method begins with the check and a test of its answer. Where the check failed the question is refused, else it is asked of the
 -- working form.
@@ -34,11 +34,11 @@ module _ (d : Deck) {r : Checked} (k : Checks (sound d) (d .points) r) where
   pub refused-answer : (q : Question) → not (r .ok) ≡ true → Refused 11 ≡ asked d q
   refused-answer q e = asked-unsound d q (sym (k .ok) ∙ not-true (r .ok) e)
 
-  pub asked-by : (q : Question) {a : Answer} → not (r .ok) ≡ false → a ≡ answerTo q (work.stateOf (r .working)) → a ≡ asked d q
+  pub asked-by : (q : Question) {a : Answer} → not (r .ok) ≡ false → a ≡ answerTo q (work.contentsOf (r .working)) → a ≡ asked d q
   asked-by q e is = is ∙ ap (answerTo q) (checked-sound d r k (not-false (r .ok) e) .2) ∙ asked-sound d q (sym (k .ok) ∙ not-false (r .ok) e)
 
   -- At a point whose two numbers are handed on as 32 bits.
   pub asked-at : (f : Point → Question) {x y : ℤ} → SFits w32 x → SFits w32 y → {a : Answer} → not (r .ok) ≡ false
-      → a ≡ answerTo (f (point (read x) (read y))) (work.stateOf (r .working)) → a ≡ asked d (f (point x y))
+      → a ≡ answerTo (f (point (read x) (read y))) (work.contentsOf (r .working)) → a ≡ asked d (f (point x y))
   asked-at f {x} {y} fx fy e is =
-      asked-by (f (point x y)) e (is ∙ read-two (λ (u v : ℤ). answerTo (f (point u v)) (work.stateOf (r .working))) x y fx fy)
+      asked-by (f (point x y)) e (is ∙ read-two (λ (u v : ℤ). answerTo (f (point u v)) (work.contentsOf (r .working))) x y fx fy)

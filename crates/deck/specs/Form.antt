@@ -1,26 +1,30 @@
--- The struct of a deck (SPEC 5.1) and the state that it stands for.
+-- The struct of a deck (SPEC 5.1) and the contents that it stands for.
 use mathlib.Core.Path.{_≡_}
 use mathlib.Core.Bool.{Bool, _&&_}
 use lib.Dec.{eqb}
 use Rattle.arrays.specs.Same.{sameList}
-use Rattle.model.specs.State.{State, points, Valid, valid}
+use Rattle.model.specs.State.{State}
+use Rattle.model.specs.Contents.{Contents, ofState, ValidContents, validContents}
 use Rattle.points.specs.declared.Points.{Points}
 use Rattle.points.specs.Coded as coded
 use Rattle.working.specs.Edges.{edgeRow}
 use Rattle.deck.specs.declared.Deck.{Deck}
 
--- The deck of a state.
-unfoldable pub deckOf : State → Deck
-deckOf s = record { points = coded.coded s; ends = edgeRow s }
+-- The deck of contents.
+unfoldable pub deckOf : Contents → Deck
+deckOf c = record { points = coded.coded (c .state); ends = edgeRow (c .state) }
 
--- The state of a deck.
+-- The contents of a deck, and its pins and taps among them.
+abbrev pub contentsOf : Deck → Contents
+contentsOf d = ofState (coded.stateOf (d .points))
+
 abbrev pub stateOf : Deck → State
-stateOf d = coded.stateOf (d .points)
+stateOf d = contentsOf d .state
 
--- A sound deck (SPEC 5.2): it is the deck of a valid state, in every place.
+-- A sound deck (SPEC 5.2): it is the deck of valid contents, in every place.
 pub record Sound (d : Deck) : Type 0 where
-  pub valid : Valid (stateOf d)
-  pub same : d ≡ deckOf (stateOf d)
+  pub valid : ValidContents (contentsOf d)
+  pub same : d ≡ deckOf (contentsOf d)
 
 -- Whether two decks are the same in every place.
 abbrev pub samePoints : Points → Points → Bool
@@ -33,4 +37,4 @@ sameDeck d e = samePoints (d .points) (e .points) && sameList (d .ends) (e .ends
 
 -- Soundness as a test (check 11, SPEC 8.3).
 unfoldable pub sound : Deck → Bool
-sound d = valid (stateOf d) && sameDeck d (deckOf (stateOf d))
+sound d = validContents (contentsOf d) && sameDeck d (deckOf (contentsOf d))

@@ -3,7 +3,7 @@ use mathlib.Core.Path.{_≡_}
 use mathlib.Core.List.{List, [], _∷_}
 use Prim.Native.Nat.{ℕ, suc}
 use lib.IntN.{ℤ}
-use Rattle.model.specs.State.{State}
+use Rattle.model.specs.Contents.{Contents}
 use Rattle.model.specs.Call as call
 use Rattle.deck.specs.declared.Deck.{Deck}
 use Rattle.calls.specs.declared.Reply.{Reply}
@@ -21,9 +21,9 @@ replies d [] = []
 replies d (c ∷ cs) = called d c .reply ∷ replies (called d c .next) cs
 
 -- The replies by the points reckoned (SPEC 6.1, 6.2).
-unfoldable pub reckoned : State → List call.Call → List Reply
-reckoned s [] = []
-reckoned s (c ∷ cs) = replyOf (call.step s c .reply) ∷ reckoned (call.step s c .next) cs
+unfoldable pub reckoned : Contents → List call.Call → List Reply
+reckoned c [] = []
+reckoned c (k ∷ ks) = replyOf (call.step c k .reply) ∷ reckoned (call.step c k .next) ks
 
 -- Rounds alone lead from d to e, where the round answers finished (SPEC 6.4). k of them add a tap, and one that its own sweep takes out
 -- counts.

@@ -27,7 +27,7 @@ fn has_ends(d: Deck, e: Deck) -> bool
 // Returns the deck of a working form.
 pub fn deck_of(w: Working) -> Deck
     requires { ⌜ work.InOrder w ⌝ }
-    ensures { λ r. ⌜ r ≡ deckOf (work.stateOf w) ⌝ }
+    ensures { λ r. ⌜ r ≡ deckOf (work.contentsOf w) ⌝ }
 {
     let ends = edge_numbers(w);
     let points = w.points;

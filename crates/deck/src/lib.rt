@@ -7,7 +7,7 @@ use calls::Reply;
 use points::PLACES;
 use points::Points;
 ghost use mathlib.Core.Path.{_≡_};
-ghost use Rattle.model.specs.State as state;
+ghost use Rattle.model.specs.Contents.{emptyContents};
 ghost use Rattle.deck.specs.Form.{deckOf};
 
 // An edge is the numbers of its two points in one, 128 times the first and the second, rising: the listing order. Unused places
@@ -26,7 +26,7 @@ pub struct Outcome {
 impl Deck {
     // Returns a deck with no pin and no Steiner point.
     pub fn empty() -> Deck
-        ensures { λ r. ⌜ r ≡ deckOf state.empty ⌝ }
+        ensures { λ r. ⌜ r ≡ deckOf emptyContents ⌝ }
     {
         Deck {
             points: Points::empty(),

@@ -1,17 +1,20 @@
 -- Reading, one check after the other: what the checks passed say of the file, and what is answered where one fails.
-use mathlib.Core.Path.{_≡_, refl, sym, _∙_, subst⁻¹}
+use mathlib.Core.Path.{_≡_, refl, sym, _∙_, subst, subst⁻¹}
 use mathlib.Core.Bool.{Bool, true, false, not}
 use mathlib.Core.List.{List, [], _∷_}
 use Prim.Native.Nat.{ℕ, _+_, _/_, _%_, _≤_, _<_}
 use native.Mathlib.Omega.{arith}
 use lib.Dec.{T, leb, leb→le, eqb, eqb→eq}
-use lib.ListN.{length}
+use lib.ListN.{length, take}
 use borrow.Author.Tests.{le-leb, lt-leb, not-true, not-false}
 use Rattle.arrays.specs.Test.{if}
+use Rattle.arrays.specs.Same.{sameList}
 use Rattle.arrays.proofs.Test.{and-parts}
 use Rattle.model.specs.Refusal.{check, firstFailed}
 use Rattle.model.specs.State.{maxPins, placed}
-use Rattle.model.specs.File.{Read, deck, refusal, readBy, readFile, offset, size, headed, laidOut, whole, fileState, holdsDeck}
+use Rattle.model.specs.Sections.{magic, countPlace, headerSize, sectionCount, size, Follow, laidOut}
+use Rattle.model.specs.File.{fewestSections, longest, Read, deck, refusal, readBy, readFile, headed, whole, fileState, fileContents, holdsDeck}
+use Rattle.model.proofs.Sections.{laid-out-is}
 use Rattle.sections.specs.Layout.{Sections}
 use Rattle.deckfile.specs.ReadWorking.{lastAnswer}
 use Rattle.sections.proofs.codes.Placed.{pins-count}
@@ -25,29 +28,24 @@ passed {a} e f = sym e ∙ not-false a f
 
 module _ (b : List ℕ) where
   -- What the header says once its checks passed.
-  pub long-enough : headed b ≡ true → 30 ≤ length b
-  long-enough h = leb→le 30 (length b) (and-parts (leb 30 (length b)) _ (subst⁻¹ T h tt) .0)
+  abbrev shortest : ℕ
+  shortest = headerSize fewestSections
+
+  pub long-enough : headed b ≡ true → shortest ≤ length b
+  long-enough h = leb→le shortest (length b) (and-parts (leb shortest (length b)) _ (subst⁻¹ T h tt) .0)
 
   pub sections-of : headed b ≡ true → laidOut b ≡ true → whole b ≡ true → Sections b
   sections-of h l w =
-      let h₁ = and-parts (leb 30 (length b)) _ (subst⁻¹ T h tt) in
-      let h₂ = and-parts (leb (length b) 784) _ (h₁ .1) in
-      let l₁ = and-parts (eqb (offset b 0) 30) _ (subst⁻¹ T l tt) in
-      let l₂ = and-parts (eqb (offset b 1) (offset b 0 + size b 0)) _ (l₁ .1) in
-      let l₃ = and-parts (eqb (offset b 2) (offset b 1 + size b 1)) _ (l₂ .1) in
+      let h₁ = and-parts (leb shortest (length b)) _ (subst⁻¹ T h tt) in
+      let h₂ = and-parts (leb (length b) longest) _ (h₁ .1) in
+      let h₃ = and-parts (sameList (take countPlace b) magic) _ (h₂ .1) in
+      let count : sectionCount b ≡ fewestSections = eqb→eq (sectionCount b) fewestSections (h₃ .1) in
       let w₁ = and-parts (eqb (size b 0 % 4) 0) _ (subst⁻¹ T w tt) in
       let w₂ = and-parts (eqb (size b 1 % 4) 0) _ (w₁ .1) in
-      let o₀ : offset b 0 ≡ 30 = eqb→eq (offset b 0) 30 (l₁ .0) in
-      let o₁ : offset b 1 ≡ offset b 0 + size b 0 = eqb→eq (offset b 1) (offset b 0 + size b 0) (l₂ .0) in
-      let o₂ : offset b 2 ≡ offset b 1 + size b 1 = eqb→eq (offset b 2) (offset b 1 + size b 1) (l₃ .0) in
-      let o₃ : length b ≡ offset b 2 + size b 2 = eqb→eq (length b) (offset b 2 + size b 2) (l₃ .1) in
       record {
-        long = leb→le 30 (length b) (h₁ .0);
-        short = leb→le (length b) 784 (h₂ .0);
-        offset₀ = o₀;
-        offset₁ = omega arith;
-        offset₂ = omega arith;
-        total = omega arith;
+        long = leb→le shortest (length b) (h₁ .0);
+        short = leb→le (length b) longest (h₂ .0);
+        follow = subst (λ (n : ℕ). Follow b (headerSize n) 0 n) count (laid-out-is b .0 (subst⁻¹ T l tt) .1);
         whole₀ = eqb→eq (size b 0 % 4) 0 (w₁ .0);
         whole₁ = eqb→eq (size b 1 % 4) 0 (w₂ .0);
         whole₂ = eqb→eq (size b 2 % 2) 0 (w₂ .1);
@@ -56,7 +54,7 @@ module _ (b : List ℕ) where
   -- The six checks, as tests in turn.
   answer : Bool → Bool → Bool → Bool → Bool → Bool → Read
   answer head layout wholes few points shows =
-      readBy (fileState b)
+      readBy (fileContents b)
       (firstFailed
       (check 1 (λ _. head)
       ∷ check 2 (λ _. layout)
@@ -107,6 +105,6 @@ module _ (b : List ℕ) where
       unfolding answer readBy firstFailed lastAnswer
       all-passed f = last (holdsDeck b (fileState b)) ∙ by-checks h l w few f
         where
-          last : (t : Bool) → if t (λ _. deck (fileState b)) (λ _. refusal 6) ≡ answer true true true true true t
+          last : (t : Bool) → if t (λ _. deck (fileContents b)) (λ _. refusal 6) ≡ answer true true true true true t
           last true = refl
           last false = refl

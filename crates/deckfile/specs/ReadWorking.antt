@@ -4,8 +4,9 @@ use mathlib.Core.List.{List}
 use Prim.Native.Nat.{ℕ}
 use lib.Dec.{T}
 use Rattle.arrays.specs.Test.{if}
-use Rattle.model.specs.State.{State, empty, valid}
-use Rattle.model.specs.File.{Read, deck, refusal, fileState, holdsDeck}
+use Rattle.model.specs.State.{State, valid}
+use Rattle.model.specs.Contents.{Contents, emptyContents}
+use Rattle.model.specs.File.{Read, deck, refusal, fileState, fileContents, holdsDeck}
 use Rattle.deck.specs.declared.check.Checked.{Checked}
 use Rattle.working.specs.InOrder as work
 use Rattle.working.specs.InOrder.{InOrder}
@@ -13,19 +14,19 @@ use Rattle.calls.specs.declared.Changed.{Changed}
 use Rattle.calls.specs.declared.Reply.{Reply}
 use Rattle.calls.specs.declared.Reply.the-variants.{Done, Refused}
 
--- The state that reading hands back, and its reply.
-unfoldable pub stateRead : Read → State
-stateRead (deck s) = s
-stateRead (refusal n) = empty
+-- The contents that reading hands back, and its reply.
+unfoldable pub contentsRead : Read → Contents
+contentsRead (deck c) = c
+contentsRead (refusal n) = emptyContents
 
 unfoldable pub replyRead : Read → Reply
-replyRead (deck s) = Done
+replyRead (deck c) = Done
 replyRead (refusal n) = Refused n
 
 -- What reading answers, with the working form of the deck that it hands back.
 pub record ReadTo (r : Read) (c : Changed) : Type 0 where
   pub inOrder : InOrder (c .working)
-  pub state : work.stateOf (c .working) ≡ stateRead r
+  pub contents : work.contentsOf (c .working) ≡ contentsRead r
   pub reply : c .reply ≡ replyRead r
 
 -- The working form of the points of a state, where the state is valid.
@@ -36,4 +37,4 @@ pub record WorkingFor (s : State) (r : Checked) : Type 0 where
 
 -- Check 6: what is answered after all others passed.
 unfoldable pub lastAnswer : List ℕ → Read
-lastAnswer b = if (holdsDeck b (fileState b)) (λ _. deck (fileState b)) (λ _. refusal 6)
+lastAnswer b = if (holdsDeck b (fileState b)) (λ _. deck (fileContents b)) (λ _. refusal 6)

@@ -4,7 +4,6 @@ pub mod answer;
 mod reader;
 mod writer;
 
-use arrays::number::number4;
 use calls::Changed;
 use deck::Deck;
 use deck::Outcome;
@@ -14,21 +13,25 @@ use points::MAX_PINS;
 use reader::refuse;
 use reader::working_of_file;
 use sections::codes::decode_points;
-use sections::header::PINS_LENGTH;
+use sections::header::PINS;
 use sections::header::POINT_SIZE;
 use sections::header::is_headed;
 use sections::header::is_laid_out;
 use sections::header::is_whole;
+use sections::header::size;
 use working::Working;
 use writer::file_length;
 use writer::put_file;
 ghost use mathlib.Core.Path.{_≡_};
-ghost use Rattle.model.specs.State.{Valid};
+ghost use Rattle.model.specs.Contents.{ValidContents};
 ghost use Rattle.model.specs.File.{readFile};
-ghost use Rattle.working.specs.InOrder.{InOrder, stateOf};
+ghost use Rattle.working.specs.InOrder.{InOrder, contentsOf};
 ghost use Rattle.deckfile.specs.Reading.{reading};
 ghost use Rattle.deckfile.specs.ReadWorking.{ReadTo};
 ghost use Rattle.deckfile.specs.Writing.{storedAnswer, storedBuffer, written, bufferAfter};
+
+// The bytes of the longest file (SPEC 7.5).
+pub const LONGEST: usize = sections::header::LONGEST;
 
 // What writing answers: a refusal by its number, or the length of the file.
 pub enum Written {
@@ -49,7 +52,7 @@ pub fn read_working(file: &[u8]) -> Changed
     if !is_whole(file) {
         return refuse(3);
     }
-    if MAX_PINS < number4(file, PINS_LENGTH) / POINT_SIZE {
+    if MAX_PINS < size(file, PINS) / POINT_SIZE {
         return refuse(4);
     }
     let found = decode_points(file);
@@ -70,9 +73,9 @@ pub fn read(file: &[u8]) -> Outcome
 // every byte.
 pub fn write_working(w: Working, out: &mut [u8]) -> Written
     requires { ⌜ InOrder w ⌝ }
-    requires { ⌜ Valid (stateOf w) ⌝ }
-    ensures { λ r. ⌜ r ≡ storedAnswer (stateOf w) (now (out .entry)) ⌝ }
-    ensures { λ _. ⌜ now (out .exit) ≡ storedBuffer (stateOf w) (now (out .entry)) ⌝ }
+    requires { ⌜ ValidContents (contentsOf w) ⌝ }
+    ensures { λ r. ⌜ r ≡ storedAnswer (contentsOf w) (now (out .entry)) ⌝ }
+    ensures { λ _. ⌜ now (out .exit) ≡ storedBuffer (contentsOf w) (now (out .entry)) ⌝ }
 {
     let n = file_length(w);
     if out.len() < n {

@@ -1,5 +1,4 @@
 // The working form that a file shows: check 6.
-use arrays::number::number4;
 use arrays::paste::put_numbers;
 use calls::Changed;
 use calls::Reply;
@@ -11,12 +10,13 @@ use points::Points;
 use sections::codes::FilePoints;
 use sections::edges::same_edges;
 use sections::header::EDGE_SIZE;
-use sections::header::EDGES_LENGTH;
-use sections::header::EDGES_OFFSET;
-use sections::header::PINS_LENGTH;
+use sections::header::EDGES;
+use sections::header::PINS;
 use sections::header::POINT_SIZE;
-use sections::header::STEINER_LENGTH;
+use sections::header::STEINER;
 use sections::header::is_plain;
+use sections::header::offset;
+use sections::header::size;
 use working::Working;
 use working::edges::edge_numbers;
 ghost use mathlib.Core.Path.{_≡_};
@@ -24,9 +24,10 @@ ghost use Prim.Native.Nat.{_*_, _≤_};
 ghost use lib.Dec.{T};
 ghost use Rattle.arrays.specs.Same.{sameList};
 ghost use Rattle.model.specs.State.{Valid, placed};
-ghost use Rattle.model.specs.File.{deck, refusal, size, section, fileState, runSection};
+ghost use Rattle.model.specs.Sections as sections;
+ghost use Rattle.model.specs.File.{deck, refusal, fileState, runSection};
 ghost use Rattle.points.specs.Coded.{maxSteiner};
-ghost use Rattle.working.specs.InOrder.{InOrder, stateOf};
+ghost use Rattle.working.specs.InOrder.{InOrder, stateOf, contentsOf};
 ghost use Rattle.sections.specs.Layout.{Sections, FewPins};
 ghost use Rattle.sections.specs.Codes.{Decodes};
 ghost use Rattle.deckfile.specs.ReadWorking.{ReadTo, WorkingFor, lastAnswer};
@@ -46,7 +47,7 @@ pub fn refuse(number: u8) -> Changed
 
 fn accept(w: Working) -> Changed
     requires { ⌜ InOrder w ⌝ }
-    ensures { λ r. ⌜ ReadTo (deck (stateOf w)) r ⌝ }
+    ensures { λ r. ⌜ ReadTo (deck (contentsOf w)) r ⌝ }
 {
     Changed {
         working: w,
@@ -59,11 +60,11 @@ fn points_working(b: &[u8], found: FilePoints) -> Checked
     requires { ⌜ Sections (now b) ⌝ }
     requires { ⌜ Decodes (now b) found ⌝ }
     requires { ⌜ T (placed (fileState (now b))) ⌝ }
-    requires { ⌜ size (now b) 1 ≤ 4 * maxSteiner ⌝ }
+    requires { ⌜ sections.size (now b) 1 ≤ 4 * maxSteiner ⌝ }
     ensures { λ r. ⌜ WorkingFor (fileState (now (b .entry))) r ⌝ }
 {
-    let n = number4(b, PINS_LENGTH) / POINT_SIZE;
-    let m = number4(b, STEINER_LENGTH) / POINT_SIZE;
+    let n = size(b, PINS) / POINT_SIZE;
+    let m = size(b, STEINER) / POINT_SIZE;
     let pins = found.pins;
     let all = found.steiner;
     let mut steiner = [0u64; PLACES];
@@ -81,13 +82,13 @@ fn has_edges(b: &[u8], w: Working) -> bool
     requires { ⌜ Sections (now b) ⌝ }
     requires { ⌜ InOrder w ⌝ }
     requires { ⌜ Valid (stateOf w) ⌝ }
-    ensures { λ r. ⌜ r ≡ sameList (section (now (b .entry)) 2) (runSection (stateOf w)) ⌝ }
+    ensures { λ r. ⌜ r ≡ sameList (sections.section (now (b .entry)) 2) (runSection (stateOf w)) ⌝ }
 {
-    if number4(b, EDGES_LENGTH) != EDGE_SIZE * w.nkeys {
+    if size(b, EDGES) != EDGE_SIZE * w.nkeys {
         return false;
     }
     let ends = edge_numbers(w);
-    same_edges(b, number4(b, EDGES_OFFSET), &ends, w.nkeys)
+    same_edges(b, offset(b, EDGES), &ends, w.nkeys)
 }
 
 // Check 6: a file that is not plain has the edges of its deck, and every file shows the points of a valid state. Returns the working form
@@ -99,7 +100,7 @@ pub fn working_of_file(b: &[u8], found: FilePoints) -> Changed
     requires { ⌜ T (placed (fileState (now b))) ⌝ }
     ensures { λ r. ⌜ ReadTo (lastAnswer (now (b .entry))) r ⌝ }
 {
-    if STEINER_ROOM < number4(b, STEINER_LENGTH) {
+    if STEINER_ROOM < size(b, STEINER) {
         return refuse(6);
     }
     let c = points_working(b, found);

@@ -6,16 +6,16 @@ use working::edges::edge_numbers;
 ghost use mathlib.Core.Path.{_≡_};
 ghost use Prim.Native.Nat.{_≤_};
 ghost use lib.ListN.{length};
-ghost use Rattle.model.specs.State.{Valid};
+ghost use Rattle.model.specs.Contents.{ValidContents};
 ghost use Rattle.model.specs.File.{fileOf};
-ghost use Rattle.working.specs.InOrder.{InOrder, stateOf};
+ghost use Rattle.working.specs.InOrder.{InOrder, contentsOf};
 ghost use Rattle.arrays.specs.Paste.{Pasted};
 
 // Returns how many bytes the file of a working form has.
 pub fn file_length(w: Working) -> usize
     requires { ⌜ InOrder w ⌝ }
-    requires { ⌜ Valid (stateOf w) ⌝ }
-    ensures { λ r. ⌜ r ≡ length (fileOf (stateOf w)) ⌝ }
+    requires { ⌜ ValidContents (contentsOf w) ⌝ }
+    ensures { λ r. ⌜ r ≡ length (fileOf (contentsOf w)) ⌝ }
 {
     length_for(w.points.npins, w.points.nsteiner)
 }
@@ -23,9 +23,9 @@ pub fn file_length(w: Working) -> usize
 // Puts the file into a buffer that has room for it, and returns its length.
 pub fn put_file(w: Working, out: &mut [u8]) -> usize
     requires { ⌜ InOrder w ⌝ }
-    requires { ⌜ Valid (stateOf w) ⌝ }
-    requires { ⌜ length (fileOf (stateOf w)) ≤ length (now out) ⌝ }
-    ensures { λ r. ⌜ Pasted (fileOf (stateOf w)) (now (out .entry)) (now (out .exit)) 0 r ⌝ }
+    requires { ⌜ ValidContents (contentsOf w) ⌝ }
+    requires { ⌜ length (fileOf (contentsOf w)) ≤ length (now out) ⌝ }
+    ensures { λ r. ⌜ Pasted (fileOf (contentsOf w)) (now (out .entry)) (now (out .exit)) 0 r ⌝ }
 {
     let pins = w.points.pins;
     let steiner = w.points.steiner;

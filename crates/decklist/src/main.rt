@@ -1,11 +1,12 @@
 // The listing program (SPEC 9.1): a deck file on standard input; on standard output its listing after a run to the end, or `refused N`.
 mod text;
 
+use deckfile::LONGEST;
 use listing::LISTING_ROOM;
 use text::list_file;
 
 // One byte more than the longest file has, so that a longer one is seen.
-const FILE_ROOM: usize = 785;
+const FILE_ROOM: usize = LONGEST + 1;
 
 fn main() {
     let mut file = [0u8; FILE_ROOM];

@@ -5,7 +5,7 @@ use Prim.Native.Nat.{ℕ, _≤_}
 use lib.Dec.{ltb, eqb}
 use lib.ListN.{length, take}
 use Rattle.arrays.specs.Test.{if}
-use Rattle.model.specs.State.{empty}
+use Rattle.model.specs.Contents.{emptyContents}
 use Rattle.model.specs.Listing.{lineFeed}
 use Rattle.deck.specs.declared.Deck.{Deck}
 use Rattle.deck.specs.Form.{deckOf}
@@ -45,7 +45,7 @@ Reads r = r .size ≤ inputRoom
 
 pub record Fresh (r : Reader) : Type 0 where
   pub within : Reads r
-  pub script : scriptOf r ≡ record { deck = deckOf empty; line = [] }
+  pub script : scriptOf r ≡ record { deck = deckOf emptyContents; line = [] }
 
 pub record Ends (r s : Reader) : Type 0 where
   pub within : Reads s

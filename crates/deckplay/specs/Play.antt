@@ -16,7 +16,7 @@ use Rattle.arrays.specs.Paste.{Pasted}
 use Rattle.deck.specs.declared.Deck.{Deck}
 use Rattle.deck.specs.declared.Outcome.{Outcome}
 use Rattle.questions.specs.declared.Answer.the-variants as answer
-use Rattle.deck.specs.Form.{stateOf, sound}
+use Rattle.deck.specs.Form.{contentsOf, sound}
 use Rattle.deck.specs.Calls.{called}
 use Rattle.deck.specs.Questions.{asked}
 use Rattle.questions.specs.Answers.{Question, ofLength, ofCounts, ofEdge, ofDegree}
@@ -55,7 +55,7 @@ changes o = record { next = o .next; text = replyText (o .reply) }
 -- `write CAPACITY`: what writing into a buffer of n bytes answers, with the file that then stands in it.
 unfoldable pub writeText : Deck → ℕ → List ℕ
 writeText d n =
-    let file = fileOf (stateOf d) in
+    let file = fileOf (contentsOf d) in
     if (sound d)
     (λ _. if (leb (length file) n) (λ _. fileText file) (λ _. answerText (answer.Refused 12)))
     (λ _. answerText (answer.Refused 11))

@@ -7,7 +7,7 @@ use mathlib.Core.List.{List, []}
 use Prim.Native.Nat.{ℕ}
 use native.Mathlib.Omega.{arith}
 use Rattle.arrays.proofs.Test.{false-of}
-use Rattle.model.specs.State.{State}
+use Rattle.model.specs.Contents.{Contents}
 use Rattle.model.specs.Round.{RoundAnswer, finished, tap, round}
 use Rattle.model.specs.Call as call
 use Rattle.model.specs.Session as model
@@ -16,7 +16,7 @@ use Rattle.model.proofs.FileAnswer.{Possible, taken, refused, read-possible}
 use Rattle.arrow.proofs.Claim.{arrow-refused, arrow-answered, arrows}
 use Rattle.deck.specs.declared.Deck.{Deck}
 use Rattle.calls.specs.declared.Reply.the-variants as reply
-use Rattle.deck.specs.Form.{deckOf, stateOf, Sound, sound}
+use Rattle.deck.specs.Form.{deckOf, contentsOf, Sound, sound}
 use Rattle.calls.specs.Changes.{replyOf}
 use Rattle.deck.specs.Calls.{called}
 use Rattle.deck.proofs.Form.{sound-is}
@@ -49,27 +49,27 @@ unsound : (d : Deck) → ¬ Sound d → sound d ≡ false
 unsound d n = false-of (sound d) (λ t. n (sound-is d .0 t))
 
 -- A call that is refused, in its case.
-refused-unless : (o : Option ℕ) (s : State) (f : Unit {0} → State) (n : ℕ) → replyOf (call.unless o s f .reply) ≡ reply.Refused n
-    → (call.unless o s f .next ≡ s) × (o ≡ some n)
+refused-unless : (o : Option ℕ) (c : Contents) (f : Unit {0} → Contents) (n : ℕ) → replyOf (call.unless o c f .reply) ≡ reply.Refused n
+    → (call.unless o c f .next ≡ c) × (o ≡ some n)
 unfolding replyOf
-refused-unless none s f n e = let z : _≡_ {A = ℕ} 0 1 = cc in absurd (omega arith)
-refused-unless (some k) s f n e = let q : k ≡ n = cc in (refl, ap some q)
+refused-unless none c f n e = let z : _≡_ {A = ℕ} 0 1 = cc in absurd (omega arith)
+refused-unless (some k) c f n e = let q : k ≡ n = cc in (refl, ap some q)
 
 never-refused : (a : RoundAnswer) (n : ℕ) → ¬ (replyOf (call.answered a) ≡ reply.Refused n)
 unfolding replyOf
 never-refused finished n e = let z : _≡_ {A = ℕ} 0 1 = cc in omega arith
 never-refused (tap p fall) n e = let z : _≡_ {A = ℕ} 0 1 = cc in omega arith
 
-refused-case : (s : State) (c : call.Call) (n : ℕ) → replyOf (call.step s c .reply) ≡ reply.Refused n → (call.step s c .next ≡ s) × InCase s c n
+refused-case : (c : Contents) (k : call.Call) (n : ℕ) → replyOf (call.step c k .reply) ≡ reply.Refused n → (call.step c k .next ≡ c) × InCase c k n
 unfolding call.step replyOf
-refused-case s (call.add p) n e = refused-unless (call.insertRefusal p s) s _ n e
-refused-case s (call.withdraw p) n e = refused-unless (call.removeRefusal p s) s _ n e
-refused-case s call.oneRound n e = absurd (never-refused (round s .answer) n e)
-refused-case s call.runToEnd n e = let z : _≡_ {A = ℕ} 0 1 = cc in absurd (omega arith)
+refused-case c (call.add p) n e = refused-unless (call.insertRefusal p (c .state)) c _ n e
+refused-case c (call.withdraw p) n e = refused-unless (call.removeRefusal p (c .state)) c _ n e
+refused-case c call.oneRound n e = absurd (never-refused (round (c .state) .answer) n e)
+refused-case c call.runToEnd n e = let z : _≡_ {A = ℕ} 0 1 = cc in absurd (omega arith)
 
-refused-call : (d : Deck) (s : Sound d) (c : call.Call) (n : ℕ) → called d c .reply ≡ reply.Refused n → (called d c .next ≡ d) × InCase (stateOf d) c n
+refused-call : (d : Deck) (s : Sound d) (c : call.Call) (n : ℕ) → called d c .reply ≡ reply.Refused n → (called d c .next ≡ d) × InCase (contentsOf d) c n
 refused-call d s c n e =
-    let r = refused-case (stateOf d) c n (sym (reply-is d s c) ∙ e) in
+    let r = refused-case (contentsOf d) c n (sym (reply-is d s c) ∙ e) in
     (next-is d s c ∙ ap deckOf (r .0) ∙ sym (s .same), r .1)
 
 file-answer : (b : List ℕ) → FileAnswer (reading b)
@@ -77,7 +77,7 @@ unfolding readOutcome
 file-answer b = go (readFile b) (read-possible b)
   where
     go : (r : Read) → Possible r → FileAnswer (readOutcome r)
-    go (deck s) (taken v) = inl (s, v, refl)
+    go (deck c) (taken v) = inl (c, v, refl)
     go (refusing-file n) (refused h k) = inr (n, h, k, refl)
 
 pub demand1 : Demand1
@@ -103,17 +103,17 @@ demand2 =
       sweeps = sweeps-of;
       end = end-of;
       questions = answered;
-      counts = λ d s. answered d s ofCounts ∙ counts-are (stateOf d) (s .valid .placed);
-      noEdge = λ d s i. let b = beyond-last (stateOf d) (s .valid .placed) i in
+      counts = λ d s. answered d s ofCounts ∙ counts-are (contentsOf d) (s .valid .state .placed);
+      noEdge = λ d s i. let b = beyond-last (contentsOf d) (s .valid .state .placed) i in
           (λ e. b .0 (sym (answered d s (ofEdge i)) ∙ e), λ h. answered d s (ofEdge i) ∙ b .1 h);
-      noPoint = λ d s p n. answered d s (ofDegree p) ∙ none-held (stateOf d) (s .valid .placed) p n;
+      noPoint = λ d s p n. answered d s (ofDegree p) ∙ none-held (contentsOf d) (s .valid .state .placed) p n;
       writtenRead = written-then-read;
       fullWrittenBack = full-back;
       plainWrittenFull = plain-full;
       planned = λ b l. entered (readFile b) (read-possible b) toEnd l;
       listed = λ b. record {
         turnedDown = λ n e. sym (text-refused b n e);
-        taken = λ s e. sym (text-deck b s e);
+        taken = λ c e. sym (text-deck b c e);
         whole = λ out h. ap (λ (t : Bool). if t (λ _. listingOfFile b) (λ _. [])) (le-leb listingRoom (length out) h);
       };
       arrows = arrows;
@@ -121,17 +121,17 @@ demand2 =
     }
 
 -- Every start is one of the claim on decks.
-start-deck : {d : Deck} {s : State} → StartDeck d s → (model.StartState s) × (d ≡ deckOf s)
+start-deck : {d : Deck} {c : Contents} → StartDeck d c → (model.StartContents c) × (d ≡ deckOf c)
 unfolding readOutcome
 start-deck fresh = (model.fresh, refl)
 start-deck (file b e) = (model.file b e, ap (λ (r : Read). readOutcome r .next) e)
 
-session : {d : Deck} {s : State} → StartDeck d s → (calls : List call.Call)
-    → SessionDeck (deckAfter d calls) (call.stateAfter s calls) × (replies d calls ≡ reckoned s calls)
-session {d} {s} start calls =
+session : {d : Deck} {c : Contents} → StartDeck d c → (calls : List call.Call)
+    → SessionDeck (deckAfter d calls) (call.contentsAfter c calls) × (replies d calls ≡ reckoned c calls)
+session {d} {c} start calls =
     let p = start-deck start in
-    let q : d ≡ deckOf s = p .1 in
-    rw q (deck-sessions s (p .0) calls)
+    let q : d ≡ deckOf c = p .1 in
+    rw q (deck-sessions c (p .0) calls)
 
 pub demand3 : Demand3
 demand3 =

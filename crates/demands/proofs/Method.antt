@@ -1,4 +1,4 @@
--- What a sound deck answers is what the published method gives, by the relations: its calls are the model's on its state, the model's
+-- What a sound deck answers is what the published method gives, by the relations: its calls are the model's on its contents, the model's
 -- tree, choice and sweep fit their relations, and rounds alone lead to one deck.
 use mathlib.Core.Path.{_≡_, refl, sym, ap, _∙_, subst, subst⁻¹}
 use mathlib.Core.Logic.{_⊎_, inl, inr}
@@ -17,6 +17,7 @@ use Rattle.plane.specs.Point.{Point, point, lower, Lower}
 use Rattle.plane.specs.Edge.{Edge}
 use Rattle.plane.proofs.Order.{lower-order}
 use Rattle.model.specs.Tree.{mst, treeLength}
+use Rattle.model.specs.Contents.{Contents, keeping}
 use Rattle.model.specs.State.{State, points, withPin, withoutPin, insert, remove, prune}
 use Rattle.model.specs.Round.{RoundAnswer, RoundResult, finished, tap, withSteiner, round}
 use Rattle.model.specs.Choice.{Candidate, saved, Chosen, SweptTo}
@@ -35,12 +36,12 @@ use Rattle.questions.specs.declared.Answer.the-variants.{Length}
 use Rattle.questions.specs.Answers.{Question, ofLength, ofEdge, answerTo}
 use Rattle.deck.specs.declared.Deck.{Deck}
 use Rattle.deck.specs.declared.Outcome.{Outcome}
-use Rattle.deck.specs.Form.{deckOf, stateOf, Sound, sound}
+use Rattle.deck.specs.Form.{deckOf, contentsOf, stateOf, Sound, sound}
 use Rattle.deck.specs.Calls.{deckOutcome, called}
 use Rattle.deck.specs.Questions.{asked}
 use Rattle.deck.specs.Session.{DeckRoundsTo, ended, added}
 use Rattle.deck.specs.SessionDeck.{SessionDeck}
-use Rattle.deck.proofs.Form.{state-deck, deck-sound, sound-is}
+use Rattle.deck.proofs.Form.{contents-deck, deck-sound, sound-is}
 use Rattle.deck.proofs.Calls.{called-sound}
 use Rattle.deck.proofs.Questions.{asked-sound}
 use Rattle.deck.proofs.Session.{valid-deck}
@@ -49,27 +50,27 @@ use Rattle.demands.specs.Method.{RunsAreTree, RoundOf, SweepsOf, EndOf}
 pub passes : (d : Deck) → Sound d → sound d ≡ true
 passes d s = true-of (sound d) (sound-is d .1 s)
 
--- A sound deck's calls and answers are the model's on its state.
+-- A sound deck's calls and answers are the model's on its contents.
 module _ (d : Deck) (s : Sound d) where
-  pub calls-model : (c : call.Call) → called d c ≡ deckOutcome (call.step (stateOf d) c)
+  pub calls-model : (c : call.Call) → called d c ≡ deckOutcome (call.step (contentsOf d) c)
   calls-model c = sym (called-sound d c (passes d s))
 
-  pub next-is : (c : call.Call) → called d c .next ≡ deckOf (call.step (stateOf d) c .next)
+  pub next-is : (c : call.Call) → called d c .next ≡ deckOf (call.step (contentsOf d) c .next)
   unfolding deckOutcome
   next-is c = ap (λ (o : Outcome). o .next) (calls-model c)
 
-  pub reply-is : (c : call.Call) → called d c .reply ≡ replyOf (call.step (stateOf d) c .reply)
+  pub reply-is : (c : call.Call) → called d c .reply ≡ replyOf (call.step (contentsOf d) c .reply)
   unfolding deckOutcome
   reply-is c = ap (λ (o : Outcome). o .reply) (calls-model c)
 
   pub next-sound : (c : call.Call) → Sound (called d c .next)
-  next-sound c = rw (next-is c) (deck-sound (call.step (stateOf d) c .next) (step-valid (stateOf d) c (s .valid)))
+  next-sound c = rw (next-is c) (deck-sound (call.step (contentsOf d) c .next) (step-valid (contentsOf d) c (s .valid)))
 
-  pub answered : (q : Question) → asked d q ≡ answerTo q (stateOf d)
+  pub answered : (q : Question) → asked d q ≡ answerTo q (contentsOf d)
   answered q = sym (asked-sound d q (passes d s))
 
-  pub next-state : (c : call.Call) → stateOf (called d c .next) ≡ call.step (stateOf d) c .next
-  next-state c = ap stateOf (next-is c) ∙ state-deck (call.step (stateOf d) c .next) (step-valid (stateOf d) c (s .valid) .placed)
+  pub next-contents : (c : call.Call) → contentsOf (called d c .next) ≡ call.step (contentsOf d) c .next
+  next-contents c = ap contentsOf (next-is c) ∙ contents-deck (call.step (contentsOf d) c .next) (step-valid (contentsOf d) c (s .valid) .state .placed)
 
   -- The tree.
   pub runs-are-tree : (t : List Edge) × RunsAreTree d t
@@ -77,7 +78,7 @@ module _ (d : Deck) (s : Sound d) where
   runs-are-tree = (
     mst (points (stateOf d)),
     record {
-      tree = mst-the-tree (points (stateOf d)) (points-rise (stateOf d) (s .valid .placed .steinerRise));
+      tree = mst-the-tree (points (stateOf d)) (points-rise (stateOf d) (s .valid .state .placed .steinerRise));
       edges = λ i. answered (ofEdge i);
       total = answered ofLength;
     },
@@ -121,13 +122,13 @@ module _ (d : Deck) (s : Sound d) where
   unfolding call.step
   round-reply = reply-is d s call.oneRound
 
-  round-next : called d call.oneRound .next ≡ deckOf (round st .next)
+  round-next : called d call.oneRound .next ≡ deckOf (keeping (contentsOf d) (round st .next))
   unfolding call.step
   round-next = next-is d s call.oneRound
 
   round-state : stateOf (called d call.oneRound .next) ≡ round st .next
   unfolding call.step
-  round-state = next-state d s call.oneRound
+  round-state = ap (λ (c : Contents). c .state) (next-contents d s call.oneRound)
 
   either : {r : RoundResult} → View st r → (replied r ≡ reply.Finished) ⊎ ((x y : ℤ) × (fall : ℕ) × (replied r ≡ reply.Tap x y fall))
   unfolding replyOf
@@ -154,7 +155,7 @@ module _ (d : Deck) (s : Sound d) where
       subst (λ (z : Point). Chosen (points st) z × SweptTo (withSteiner z st) (prune (withSteiner b st))) q (h, swept)
     where
       swept : SweptTo (withSteiner b st) (prune (withSteiner b st))
-      swept = prune-swept (withSteiner b st) (with-placed st (s .valid .placed) b (h .candidate) .steinerRise)
+      swept = prune-swept (withSteiner b st) (with-placed st (s .valid .state .placed) b (h .candidate) .steinerRise)
 
   module _ (x y : ℤ) (fall : ℕ) (e : called d call.oneRound .reply ≡ reply.Tap x y fall) where
     is : round st .answer ≡ tap (point x y) fall
@@ -165,7 +166,7 @@ module _ (d : Deck) (s : Sound d) where
 
     falls : (before after : ℕ) → asked d ofLength ≡ Length before → asked (called d call.oneRound .next) ofLength ≡ Length after → after + fall ≡ before
     falls before after p q =
-        let f = round-falls st (s .valid) (point x y) fall is .1 in
+        let f = round-falls st (s .valid .state) (point x y) fall is .1 in
         let a : Length (model.lengthOfState st) ≡ Length before = sym (answered d s ofLength) ∙ p in
         let b : Length (model.lengthOfState (round st .next)) ≡ Length after =
         ap (λ (z : State). Length (model.lengthOfState z)) (sym round-state)
@@ -179,33 +180,31 @@ module _ (d : Deck) (s : Sound d) where
       record {
         either = rw round-reply (either (view st));
         finished = (λ e. none-saves-of (view st) (sym round-reply ∙ e) .0, λ f. round-reply ∙ finished-if (view st) f);
-        unchanged = λ e. round-next ∙ ap deckOf (none-saves-of (view st) (sym round-reply ∙ e) .1) ∙ sym (s .same);
+        unchanged = λ e. round-next ∙ ap (λ (z : State). deckOf (keeping (contentsOf d) z)) (none-saves-of (view st) (sym round-reply ∙ e) .1) ∙ sym (s .same);
         chosen = λ x y fall e. both x y fall e .0;
         swept = λ x y fall e. rw round-state (both x y fall e .1);
         falls = λ x y fall before after e. falls x y fall e before after;
       }
 
 -- A pin that joins or leaves.
-done-unless : (o : Option ℕ) (s : State) (f : Unit {0} → State) → replyOf (call.unless o s f .reply) ≡ reply.Done → call.unless o s f .next ≡ f tt
+done-unless : (o : Option ℕ) (c : Contents) (f : Unit {0} → Contents) → replyOf (call.unless o c f .reply) ≡ reply.Done → call.unless o c f .next ≡ f tt
 unfolding replyOf
-done-unless none s f e = refl
-done-unless (some n) s f e = absurd (let z : _≡_ {A = ℕ} 0 1 = cc in omega arith)
+done-unless none c f e = refl
+done-unless (some n) c f e = absurd (let z : _≡_ {A = ℕ} 0 1 = cc in omega arith)
 
 pub sweeps-of : (d : Deck) → Sound d → SweepsOf d
 unfolding call.step insert remove
 sweeps-of d s =
+    let st = stateOf d in
+    let rise : Sorted Lower (stateOf d .steiner) = s .valid .state .placed .steinerRise in
     record {
-      added = λ p e. let n = next-state d s (call.add p) ∙ done-unless (call.insertRefusal p st) st _ (sym (reply-is d s (call.add p)) ∙ e) in
-          rw n (prune-swept (withPin p st) (out-sorted lower lower-order p (st .steiner) rise));
-      withdrawn = λ p e. let n = next-state d s (call.withdraw p) ∙ done-unless (call.removeRefusal p st) st _ (sym (reply-is d s (call.withdraw p)) ∙ e) in
-          rw n (prune-swept (withoutPin p st) rise);
+      added = λ p e.
+          let n = next-contents d s (call.add p) ∙ done-unless (call.insertRefusal p st) (contentsOf d) _ (sym (reply-is d s (call.add p)) ∙ e) in
+          subst⁻¹ (λ (c : Contents). SweptTo (withPin p st) (c .state)) n (prune-swept (withPin p st) (out-sorted lower lower-order p (st .steiner) rise));
+      withdrawn = λ p e.
+          let n = next-contents d s (call.withdraw p) ∙ done-unless (call.removeRefusal p st) (contentsOf d) _ (sym (reply-is d s (call.withdraw p)) ∙ e) in
+          subst⁻¹ (λ (c : Contents). SweptTo (withoutPin p st) (c .state)) n (prune-swept (withoutPin p st) rise);
     }
-  where
-    st : State
-    st = stateOf d
-
-    rise : Sorted Lower (stateOf d .steiner)
-    rise = s .valid .placed .steinerRise
 
 -- Rounds alone lead to one deck, by one number of rounds.
 rounds-same : {d e f : Deck} {k m : ℕ} → DeckRoundsTo d k e → DeckRoundsTo d m f → (k ≡ m) × (e ≡ f)
@@ -226,8 +225,8 @@ end-of d s =
       leads = λ k e r. rounds-same (m .rounds-end) r .1;
     }
   where
-    m : SessionDeck d (stateOf d)
-    m = subst⁻¹ (λ (z : Deck). SessionDeck z (stateOf d)) (s .same) (valid-deck (stateOf d) (s .valid))
+    m : SessionDeck d (contentsOf d)
+    m = subst⁻¹ (λ (z : Deck). SessionDeck z (contentsOf d)) (s .same) (valid-deck (contentsOf d) (s .valid))
 
     same : (k : ℕ) → reply.Rounds (m .count) ≡ reply.Rounds k → m .count ≡ k
     same k e = cc

@@ -1,4 +1,4 @@
--- After any list of calls: the model's claim on the state, said of the edges that the deck answers. These are the edges of the tree, since
+-- After any list of calls: the model's claim on the contents, said of the edges that the deck answers. These are the edges of the tree, since
 -- a place of the listing has an edge exactly if it is one of the tree's.
 use mathlib.Core.Path.{_≡_, refl, sym, ap, _∙_}
 use mathlib.Core.Logic.{_↔_}
@@ -13,6 +13,7 @@ use Rattle.plane.specs.Edge.{Edge, listedBefore}
 use Rattle.plane.proofs.Order.{listed-order}
 use Rattle.model.specs.Tree.{treeLength}
 use Rattle.model.specs.State.{State}
+use Rattle.model.specs.Contents.{Contents}
 use Rattle.model.specs.Question.{treeOf, listed}
 use Rattle.model.proofs.Prune.{few-steiner}
 use Rattle.questions.specs.Answers.{ofEdge, edgeAnswer, edgeOrNone}
@@ -39,7 +40,10 @@ same-edge e f q =
     let d : e .hi .y ≡ f .hi .y = cc in
     λ i. record { lo = record { x = a i; y = b i }; hi = record { x = c i; y = d i } }
 
-module _ (d : Deck) (s : State) (m : SessionDeck d s) where
+module _ (d : Deck) (c : Contents) (m : SessionDeck d c) where
+  abbrev s : State
+  s = c .state
+
   in-listing : (e : Edge) → List·Memᴰ e (listed s) ↔ List·Memᴰ e (treeOf s)
   unfolding listed
   in-listing e = set-of-in listedBefore listed-order (treeOf s) e
@@ -55,17 +59,17 @@ module _ (d : Deck) (s : State) (m : SessionDeck d s) where
       go i none f q = absurd (let z : _≡_ {A = ℕ} 0 1 = cc in omega arith)
       go i (some g) f q = member-at (listed s) i e (f ∙ ap some (same-edge g e q))
 
-  pub after-calls : AfterCalls d s
+  pub after-calls : AfterCalls d c
   unfolding treeLength
   after-calls =
       record {
         sound = m .sound;
-        holds = m .state;
+        holds = m .contents;
         runs = treeOf s;
         answered = edges-answered;
-        tree = m .session .tree;
+        tree = m .session .state .tree;
         total = m .lengthIs;
-        least = m .session .least;
+        least = m .session .state .least;
         finished = m .finish-exact;
         count = m .count;
         counted = m .counted;
@@ -76,9 +80,9 @@ module _ (d : Deck) (s : State) (m : SessionDeck d s) where
   pub bounds : Bounds s
   bounds =
       record {
-        steiner = few-steiner s (m .session .valid);
-        held = m .session .points-few;
-        joined = m .session .round-few;
-        long = m .session .length-fits;
-        longer = m .session .round-fits;
+        steiner = few-steiner s (m .session .state .valid);
+        held = m .session .state .points-few;
+        joined = m .session .state .round-few;
+        long = m .session .state .length-fits;
+        longer = m .session .state .round-fits;
       }

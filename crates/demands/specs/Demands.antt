@@ -11,8 +11,8 @@ use lib.IntN.{ℤ}
 use lib.ListN.{length, drop}
 use Rattle.plane.specs.Point.{Point}
 use Rattle.plane.specs.Edge.{Edge}
-use Rattle.model.specs.State.{State, empty, points, Valid}
-use Rattle.model.specs.Round.{finish}
+use Rattle.model.specs.State.{points}
+use Rattle.model.specs.Contents.{Contents, emptyContents, ValidContents}
 use Rattle.model.specs.Call as call
 use Rattle.model.specs.Listing.{listing, refusedLine, listingOfFile}
 use Rattle.model.specs.File.{deck, refusal, readFile, fileOf}
@@ -24,7 +24,7 @@ use Rattle.deck.specs.declared.Deck.{Deck}
 use Rattle.deck.specs.declared.Outcome.{Outcome}
 use Rattle.calls.specs.declared.Reply.the-variants as reply
 use Rattle.questions.specs.declared.Answer.the-variants as question
-use Rattle.deck.specs.Form.{deckOf, stateOf, Sound}
+use Rattle.deck.specs.Form.{deckOf, contentsOf, stateOf, Sound}
 use Rattle.deck.specs.Calls.{deckOutcome, refusedOutcome, called}
 use Rattle.questions.specs.Answers.{Question, ofCounts, ofEdge, ofDegree, answerTo}
 use Rattle.deck.specs.Questions.{asked}
@@ -43,15 +43,15 @@ use Rattle.display.specs.Entry.{Numbered}
 use Rattle.replay.specs.Claim.{Replayed}
 
 -- The calls that a number can refuse (SPEC 8.3): 7, 8 and 10 adding, 9 withdrawing, none a round or a run to the end.
-abbrev pub InCase : State → call.Call → ℕ → Type 0
-InCase s (call.add p) n = call.insertRefusal p s ≡ some n
-InCase s (call.withdraw p) n = call.removeRefusal p s ≡ some n
-InCase s call.oneRound n = ⊥
-InCase s call.runToEnd n = ⊥
+abbrev pub InCase : Contents → call.Call → ℕ → Type 0
+InCase c (call.add p) n = call.insertRefusal p (c .state) ≡ some n
+InCase c (call.withdraw p) n = call.removeRefusal p (c .state) ≡ some n
+InCase c call.oneRound n = ⊥
+InCase c call.runToEnd n = ⊥
 
--- What reading a file can answer (SPEC 8.1, 8.2): the deck of a valid state, or a number from 1 to 6 and an empty deck.
+-- What reading a file can answer (SPEC 8.1, 8.2): the deck of valid contents, or a number from 1 to 6 and an empty deck.
 abbrev pub FileAnswer : Outcome → Type 0
-FileAnswer o = ((s : State) × Valid s × (o ≡ acceptedDeck (deckOf s))) ⊎ ((n : ℕ) × (1 ≤ n) × (n ≤ 6) × (o ≡ refusedFile n))
+FileAnswer o = ((c : Contents) × ValidContents c × (o ≡ acceptedDeck (deckOf c))) ⊎ ((n : ℕ) × (1 ≤ n) × (n ≤ 6) × (o ≡ refusedFile n))
 
 -- What is shown for a bay (SPEC 3.4, 8.5): an arrow from 0 to 8, or 13 or 14, and each of these exactly if its test is the first that fails.
 pub record ArrowAnswer (display bay : Point) (pitch : ℤ) : Type 0 where
@@ -71,30 +71,30 @@ pub record Demand1 : Type 0 where
   -- any other: the next deck is sound, and a refused call hands back the deck unchanged
   pub nextSound : (d : Deck) → Sound d → (c : call.Call) → Sound (called d c .next)
   pub refusedCall : (d : Deck) → Sound d → (c : call.Call) (n : ℕ) → called d c .reply ≡ reply.Refused n
-      → (called d c .next ≡ d) × InCase (stateOf d) c n
+      → (called d c .next ≡ d) × InCase (contentsOf d) c n
   -- any buffer: shorter than the file, it is refused by 12 and keeps every byte; else every byte past the file is kept
-  pub shortBuffer : (d : Deck) (l : List ℕ) → Sound d → length l < length (fileOf (stateOf d)) → (written d l ≡ writing.Refused 12) × (bufferAfter d l ≡ l)
-  pub longBuffer : (d : Deck) (l : List ℕ) → Sound d → length (fileOf (stateOf d)) ≤ length l
-      → (written d l ≡ writing.Length (length (fileOf (stateOf d)))) × (bufferAfter d l ≡ fileOf (stateOf d) ++ drop (length (fileOf (stateOf d))) l)
+  pub shortBuffer : (d : Deck) (l : List ℕ) → Sound d → length l < length (fileOf (contentsOf d)) → (written d l ≡ writing.Refused 12) × (bufferAfter d l ≡ l)
+  pub longBuffer : (d : Deck) (l : List ℕ) → Sound d → length (fileOf (contentsOf d)) ≤ length l
+      → (written d l ≡ writing.Length (length (fileOf (contentsOf d)))) × (bufferAfter d l ≡ fileOf (contentsOf d) ++ drop (length (fileOf (contentsOf d))) l)
   -- any display, any bay and any pitch
   pub arrow : (display bay : Point) (pitch : ℤ) → ArrowAnswer display bay pitch
 
 -- What the listing program writes for a list of bytes (SPEC 9; `listingOfFile`, by the contract of decklist's `list_file`).
 pub record ListingOf (b : List ℕ) : Type 0 where
   pub turnedDown : (n : ℕ) → readFile b ≡ refusal n → listingOfFile b ≡ refusedLine n
-  pub taken : (s : State) → readFile b ≡ deck s → listingOfFile b ≡ listing (finish s .final)
+  pub taken : (c : Contents) → readFile b ≡ deck c → listingOfFile b ≡ listing (call.step c call.runToEnd .next)
   -- its buffer has room for it, so that nothing is cut
   pub whole : (out : List ℕ) → listingRoom ≤ length out → fitting listingRoom out (listingOfFile b) ≡ listingOfFile b
 
 -- Demand 2: every answer is the one that the published method gives, as SPEC 1 to 4 read it.
 pub record Demand2 : Type 0 where
-  pub calls : (d : Deck) → Sound d → (c : call.Call) → called d c ≡ deckOutcome (call.step (stateOf d) c)
+  pub calls : (d : Deck) → Sound d → (c : call.Call) → called d c ≡ deckOutcome (call.step (contentsOf d) c)
   -- the published method by relations (Method.antt): THE tree, the choice of a round, the sweeps, the end
   pub tree : (d : Deck) → Sound d → (t : List Edge) × RunsAreTree d t
   pub round : (d : Deck) → Sound d → RoundOf d
   pub sweeps : (d : Deck) → Sound d → SweepsOf d
   pub end : (d : Deck) → Sound d → EndOf d
-  pub questions : (d : Deck) → Sound d → (q : Question) → asked d q ≡ answerTo q (stateOf d)
+  pub questions : (d : Deck) → Sound d → (q : Question) → asked d q ≡ answerTo q (contentsOf d)
   -- what the answers are of: the counts, the edges there are, and a point that is not held
   pub counts : (d : Deck) → Sound d
       → asked d ofCounts ≡ question.Counts (length (stateOf d .pins)) (length (stateOf d .steiner)) (length (points (stateOf d)) - 1)
@@ -113,16 +113,16 @@ pub record Demand2 : Type 0 where
   -- the C entry for arrows (SPEC 10.4): its number says what is indicated
   pub displayed : (display bay : Point) (pitch : ℤ) → Numbered display bay pitch
 
--- What a list of calls starts from (SPEC 6.1): an empty deck or an accepted file, with its points.
-pub data StartDeck : Deck → State → Type 0 where
-  fresh : StartDeck (deckOf empty) empty
-  file : (b : List ℕ) {s : State} → readFile b ≡ deck s → StartDeck (reading b .next) s
+-- What a list of calls starts from (SPEC 6.1): an empty deck or an accepted file, with its contents.
+pub data StartDeck : Deck → Contents → Type 0 where
+  fresh : StartDeck (deckOf emptyContents) emptyContents
+  file : (b : List ℕ) {c : Contents} → readFile b ≡ deck c → StartDeck (reading b .next) c
 
 -- Demand 3: one claim about whole lists of calls that change a deck, refused ones too (SPEC 6.2 to 6.4; `AfterCalls` says what holds of the
 -- deck after the list, `Bounds` what the program needs besides), and of replay_calls (SPEC 10.2), for every file, every list of calls in
 -- bytes and every buffer.
 pub record Demand3 : Type 0 where
-  pub lists : {d : Deck} {s : State} → StartDeck d s → (calls : List call.Call) → AfterCalls (deckAfter d calls) (call.stateAfter s calls)
-  pub replied : {d : Deck} {s : State} → StartDeck d s → (calls : List call.Call) → replies d calls ≡ reckoned s calls
-  pub bounded : {d : Deck} {s : State} → StartDeck d s → (calls : List call.Call) → Bounds (call.stateAfter s calls)
+  pub lists : {d : Deck} {c : Contents} → StartDeck d c → (calls : List call.Call) → AfterCalls (deckAfter d calls) (call.contentsAfter c calls)
+  pub replied : {d : Deck} {c : Contents} → StartDeck d c → (calls : List call.Call) → replies d calls ≡ reckoned c calls
+  pub bounded : {d : Deck} {c : Contents} → StartDeck d c → (calls : List call.Call) → Bounds (call.contentsAfter c calls .state)
   pub replayed : (b calls l : List ℕ) → Replayed b calls l

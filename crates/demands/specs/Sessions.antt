@@ -10,6 +10,7 @@ use Rattle.plane.specs.Point.{Point, lower}
 use Rattle.plane.specs.Edge.{Edge, planar}
 use Rattle.model.specs.Tree.{lengthOf, treeLength}
 use Rattle.model.specs.State.{State, points}
+use Rattle.model.specs.Contents.{Contents}
 use Rattle.model.specs.Round.{candidates}
 use Rattle.model.specs.Call as call
 use Rattle.model.specs.Session.{mostPoints, longestTree}
@@ -17,24 +18,24 @@ use Rattle.calls.specs.declared.Reply.the-variants as reply
 use Rattle.questions.specs.declared.Answer.the-variants.{Length}
 use Rattle.questions.specs.Answers.{ofLength, ofEdge, edgeAnswer}
 use Rattle.deck.specs.declared.Deck.{Deck}
-use Rattle.deck.specs.Form.{stateOf, Sound}
+use Rattle.deck.specs.Form.{contentsOf, Sound}
 use Rattle.deck.specs.Calls.{called}
 use Rattle.deck.specs.Questions.{asked}
 use Rattle.deck.specs.Session.{DeckRoundsTo}
 
--- The deck d after a list of calls, s being the points reckoned (SPEC 6.1).
-pub record AfterCalls (d : Deck) (s : State) : Type 0 where
+-- The deck d after a list of calls, c being the contents reckoned (SPEC 6.1).
+pub record AfterCalls (d : Deck) (c : Contents) : Type 0 where
   pub sound : Sound d
-  pub holds : stateOf d ≡ s
+  pub holds : contentsOf d ≡ c
   -- its edges, as it answers them: a tree over the points, whose sum is the length that it answers, least among all trees over them
   pub runs : List Edge
   pub answered : (e : Edge) → List·Memᴰ e runs ↔ ((i : ℕ) × (asked d (ofEdge i) ≡ edgeAnswer e))
-  pub tree : Tree planar (points s) runs
+  pub tree : Tree planar (points (c .state)) runs
   pub total : asked d ofLength ≡ Length (lengthOf runs)
-  pub least : (u : List Edge) → Tree planar (points s) u → lengthOf runs ≤ lengthOf u
+  pub least : (u : List Edge) → Tree planar (points (c .state)) u → lengthOf runs ≤ lengthOf u
   -- a round is finished exactly if with no one more point of the integer plane there is a shorter tree
   pub finished : (called d call.oneRound .reply ≡ reply.Finished)
-      ↔ ((q : Point) → ¬ List·Memᴰ q (points s) → (u : List Edge) → Tree planar (q ∷ points s) u → lengthOf runs ≤ lengthOf u)
+      ↔ ((q : Point) → ¬ List·Memᴰ q (points (c .state)) → (u : List Edge) → Tree planar (q ∷ points (c .state)) u → lengthOf runs ≤ lengthOf u)
   -- rounds alone come to that within as many adding rounds as the tree has centimetres, and a run to the end answers how many did
   pub count : ℕ
   pub counted : called d call.runToEnd .reply ≡ reply.Rounds count

@@ -9,7 +9,7 @@ use Rattle.plane.specs.Point.{Point, inRange, dist}
 use Rattle.plane.specs.Edge.{Edge, planar}
 use Rattle.plane.specs.Box.{halfPerimeter, BoxAround}
 use Rattle.model.specs.Tree.{lengthOf}
-use Rattle.model.specs.State.{empty}
+use Rattle.model.specs.Contents.{emptyContents}
 use Rattle.model.specs.Call as call
 use Rattle.calls.specs.declared.Reply.the-variants as reply
 use Rattle.questions.specs.declared.Answer.the-variants.{Length}
@@ -32,9 +32,9 @@ LengthIsHalfPerimeter d p q r = asked d ofLength ≡ Length (halfPerimeter (p �
 pub record ThreePins : Type 0 where
   -- three points that are added to an empty deck are its pins, and after a run to the end it has that length
   pub added : (p q r : Point) → T (inRange p) → T (inRange q) → T (inRange r)
-      → PinsAre (deckAfter (deckOf empty) (call.add p ∷ call.add q ∷ call.add r ∷ [])) p q r
+      → PinsAre (deckAfter (deckOf emptyContents) (call.add p ∷ call.add q ∷ call.add r ∷ [])) p q r
   pub reached : (p q r : Point) → T (inRange p) → T (inRange q) → T (inRange r)
-      → LengthIsHalfPerimeter (deckAfter (deckOf empty) (call.add p ∷ call.add q ∷ call.add r ∷ call.runToEnd ∷ [])) p q r
+      → LengthIsHalfPerimeter (deckAfter (deckOf emptyContents) (call.add p ∷ call.add q ∷ call.add r ∷ call.runToEnd ∷ [])) p q r
   -- no tree over points and any further points is shorter, be these out of range, repeated, or the same points again
   pub least : (ps further : List Point) (t : List Edge) → Tree planar (ps ++ further) t → halfPerimeter ps ≤ lengthOf t
   -- every sound deck of these pins, whatever taps a file or earlier calls left in it, has that length after a run to the end; a round on it is

@@ -7,29 +7,29 @@ use Rattle.arrays.specs.Test.{if}
 use Rattle.arrays.specs.Paste.{Pasted}
 use Rattle.arrays.proofs.paste.Parts.{pasted-same}
 use Rattle.model.specs.Question as question
-use Rattle.model.specs.State.{State}
-use Rattle.model.specs.Round.{finish}
+use Rattle.model.specs.Contents.{Contents}
+use Rattle.model.specs.Call.{runToEnd, step}
 use Rattle.model.specs.File.{deck, refusal, readFile}
 use Rattle.model.specs.Listing.{listing, tapLines, runLines, refusedLine, listingOfFile}
 use Rattle.points.proofs.Coded.{pins-count, steiner-count}
 use Rattle.working.specs.declared.Working.{Working}
 use Rattle.working.specs.InOrder as work
 use Rattle.deck.specs.declared.Deck.{Deck}
-use Rattle.deck.specs.Form.{stateOf, sound}
+use Rattle.deck.specs.Form.{contentsOf, sound}
 use Rattle.listing.specs.Line.{headText}
 use Rattle.listing.specs.Whole.{deckText}
 
-pub text-sound : (d : Deck) → sound d ≡ true → listing (stateOf d) ≡ deckText d
-text-sound d e = ap (λ (b : Bool). if b (λ _. listing (stateOf d)) (λ _. refusedLine 11)) (sym e)
+pub text-sound : (d : Deck) → sound d ≡ true → listing (contentsOf d) ≡ deckText d
+text-sound d e = ap (λ (b : Bool). if b (λ _. listing (contentsOf d)) (λ _. refusedLine 11)) (sym e)
 
 pub text-unsound : (d : Deck) → sound d ≡ false → refusedLine 11 ≡ deckText d
-text-unsound d e = ap (λ (b : Bool). if b (λ _. listing (stateOf d)) (λ _. refusedLine 11)) (sym e)
+text-unsound d e = ap (λ (b : Bool). if b (λ _. listing (contentsOf d)) (λ _. refusedLine 11)) (sym e)
 
 pub listing-put : (w : Working) (p : work.InOrder w) (n : ℕ) → n ≡ question.lengthOfState (work.stateOf w) → {old new : List ℕ} {at r : ℕ}
     → Pasted
     (headText (w .points .npins) (w .points .nsteiner) n ++ (tapLines (work.stateOf w .steiner) ++ runLines (question.listed (work.stateOf w))))
     old new at r
-    → Pasted (listing (work.stateOf w)) old new at r
+    → Pasted (listing (work.contentsOf w)) old new at r
 unfolding listing
 listing-put w p n e =
     pasted-same
@@ -41,6 +41,6 @@ pub text-refused : (b : List ℕ) (n : ℕ) → readFile b ≡ refusal n → ref
 unfolding listingOfFile
 text-refused b n e = rw e refl
 
-pub text-deck : (b : List ℕ) (s : State) → readFile b ≡ deck s → listing (finish s .final) ≡ listingOfFile b
+pub text-deck : (b : List ℕ) (c : Contents) → readFile b ≡ deck c → listing (step c runToEnd .next) ≡ listingOfFile b
 unfolding listingOfFile
-text-deck b s e = rw e refl
+text-deck b c e = rw e refl

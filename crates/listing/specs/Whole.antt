@@ -4,7 +4,7 @@ use Prim.Native.Nat.{ℕ}
 use Rattle.arrays.specs.Test.{if}
 use Rattle.model.specs.Listing.{listing, refusedLine}
 use Rattle.deck.specs.declared.Deck.{Deck}
-use Rattle.deck.specs.Form.{stateOf, sound}
+use Rattle.deck.specs.Form.{contentsOf, sound}
 
 -- Room for every listing, and for the line of a refusal.
 abbrev pub listingRoom : ℕ
@@ -15,4 +15,4 @@ lineRoom = 128
 
 -- The listing of a deck (SPEC 9.2), or refusal 11 where it is not sound.
 abbrev pub deckText : Deck → List ℕ
-deckText d = if (sound d) (λ _. listing (stateOf d)) (λ _. refusedLine 11)
+deckText d = if (sound d) (λ _. listing (contentsOf d)) (λ _. refusedLine 11)

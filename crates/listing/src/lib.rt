@@ -12,10 +12,10 @@ use rows::tap_lines;
 use working::Working;
 ghost use Prim.Native.Nat.{_+_, _≤_};
 ghost use lib.ListN.{length};
-ghost use Rattle.model.specs.State.{Valid};
+ghost use Rattle.model.specs.Contents.{ValidContents};
 ghost use Rattle.model.specs.Listing as model;
 ghost use Rattle.arrays.specs.Paste.{Pasted};
-ghost use Rattle.working.specs.InOrder.{InOrder, stateOf};
+ghost use Rattle.working.specs.InOrder.{InOrder, stateOf, contentsOf};
 ghost use Rattle.ascii.specs.Text.{fitting};
 ghost use Rattle.listing.specs.Whole.{listingRoom, lineRoom, deckText};
 
@@ -39,7 +39,7 @@ fn refused_line(out: &mut [u8], n: u64) -> usize
 fn write_taps(w: Working, out: &mut [u8], at: usize) -> usize
     requires { ⌜ at + 1148 ≤ length (now out) ⌝ }
     requires { ⌜ InOrder w ⌝ }
-    requires { ⌜ Valid (stateOf w) ⌝ }
+    requires { ⌜ ValidContents (contentsOf w) ⌝ }
     ensures { λ r. ⌜ Pasted (model.tapLines (stateOf w .steiner)) (now (out .entry)) (now (out .exit)) at r ⌝ }
     ensures { λ r. ⌜ r ≤ at + 1116 ⌝ }
 {
@@ -51,8 +51,8 @@ fn write_taps(w: Working, out: &mut [u8], at: usize) -> usize
 // is no room.
 pub fn list_working(w: Working, out: &mut [u8]) -> usize
     requires { ⌜ InOrder w ⌝ }
-    requires { ⌜ Valid (stateOf w) ⌝ }
-    ensures { λ r. ⌜ Pasted (fitting listingRoom (now (out .entry)) (model.listing (stateOf w))) (now (out .entry)) (now (out .exit)) 0 r ⌝ }
+    requires { ⌜ ValidContents (contentsOf w) ⌝ }
+    ensures { λ r. ⌜ Pasted (fitting listingRoom (now (out .entry)) (model.listing (contentsOf w))) (now (out .entry)) (now (out .exit)) 0 r ⌝ }
 {
     if out.len() < LISTING_ROOM {
         return 0;

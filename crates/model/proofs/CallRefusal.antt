@@ -11,74 +11,74 @@ use Rattle.plane.specs.Point.{Point, inRange, lower}
 use Rattle.plane.proofs.Order.{lower-order}
 use Rattle.arrays.specs.Set.{has}
 use Rattle.model.specs.Refusal.{FirstFailed, here, later}
-use Rattle.model.specs.State.{State}
+use Rattle.model.specs.Contents.{Contents}
 use Rattle.model.specs.Call.{add, addChecks, withdrawChecks}
 use Rattle.model.specs.CallRefusal.{RefusedBy, AddRefusals, WithdrawRefusals}
 use Rattle.model.proofs.Refusal.{add-refused, add-taken, withdraw-refused, withdraw-taken}
 use Rattle.arrays.proofs.Set.{has-in, has-not}
 
-module _ (s : State) (p : Point) where
+module _ (c : Contents) (p : Point) where
   -- The three checks of adding: which of them failed first.
   abbrev Failed : ℕ → Type 0
   Failed n =
       ((n ≡ 7) × ¬ T (inRange p))
-      ⊎ (((n ≡ 8) × T (inRange p) × List·Memᴰ p (s .pins))
-      ⊎ ((n ≡ 10) × T (inRange p) × (¬ List·Memᴰ p (s .pins)) × (64 ≤ length (s .pins))))
+      ⊎ (((n ≡ 8) × T (inRange p) × List·Memᴰ p (c .state .pins))
+      ⊎ ((n ≡ 10) × T (inRange p) × (¬ List·Memᴰ p (c .state .pins)) × (64 ≤ length (c .state .pins))))
 
-  there : ¬ T (not (has lower p (s .pins))) → List·Memᴰ p (s .pins)
-  there f = has-in lower lower-order p (s .pins) .0 (held (has lower p (s .pins)) f)
+  there : ¬ T (not (has lower p (c .state .pins))) → List·Memᴰ p (c .state .pins)
+  there f = has-in lower lower-order p (c .state .pins) .0 (held (has lower p (c .state .pins)) f)
     where
       held : (b : Bool) → ¬ T (not b) → T b
       held true f = tt
       held false f = f tt
 
-  full : ¬ T (ltb (length (s .pins)) 64) → 64 ≤ length (s .pins)
-  full f = nltb→le (length (s .pins)) 64 (not-T (ltb (length (s .pins)) 64) f)
+  full : ¬ T (ltb (length (c .state .pins)) 64) → 64 ≤ length (c .state .pins)
+  full f = nltb→le (length (c .state .pins)) 64 (not-T (ltb (length (c .state .pins)) 64) f)
 
-  which : (n : ℕ) → FirstFailed n (addChecks p s) → Failed n
+  which : (n : ℕ) → FirstFailed n (addChecks p (c .state)) → Failed n
   which n (here e f) = inl (sym e, f)
   which n (later t (here e f)) = inr (inl (sym e, t, there f))
-  which n (later t (later u (here e f))) = inr (inr (sym e, t, has-not lower lower-order p (s .pins) .0 u, full f))
+  which n (later t (later u (here e f))) = inr (inr (sym e, t, has-not lower lower-order p (c .state .pins) .0 u, full f))
 
-  refused-as : (n : ℕ) → RefusedBy s (add p) n → Failed n
-  refused-as n e = which n (add-refused s p n .0 e)
+  refused-as : (n : ℕ) → RefusedBy c (add p) n → Failed n
+  refused-as n e = which n (add-refused c p n .0 e)
 
-  pub add-refusals : AddRefusals s p
+  pub add-refusals : AddRefusals c p
   add-refusals =
       record {
         outOfRange = (
           λ e. ⊎-elim (λ h. h .1) (⊎-elim (λ h. absurd (omega (arith, h .0))) (λ h. absurd (omega (arith, h .0)))) (refused-as 7 e),
-          λ f. add-refused s p 7 .1 (here refl f),
+          λ f. add-refused c p 7 .1 (here refl f),
         );
         pinThere = (
           λ e. ⊎-elim (λ h. absurd (omega (arith, h .0))) (⊎-elim (λ h. (h .1, h .2)) (λ h. absurd (omega (arith, h .0)))) (refused-as 8 e),
-          λ h. add-refused s p 8 .1 (later (h .0) (here refl (λ t. has-not lower lower-order p (s .pins) .0 t (h .1)))),
+          λ h. add-refused c p 8 .1 (later (h .0) (here refl (λ t. has-not lower lower-order p (c .state .pins) .0 t (h .1)))),
         );
         noRoom = (
           λ e. ⊎-elim (λ h. absurd (omega (arith, h .0))) (⊎-elim (λ h. absurd (omega (arith, h .0))) (λ h. (h .1, h .2, h .3))) (refused-as 10 e),
-          λ h. add-refused s p 10 .1 (later (h .0) (later (has-not lower lower-order p (s .pins) .1 (h .1))
-              (here refl (λ t. let k : length (s .pins) < 64 = ltb→lt (length (s .pins)) 64 t in omega (arith, k, h .2))))),
+          λ h. add-refused c p 10 .1 (later (h .0) (later (has-not lower lower-order p (c .state .pins) .1 (h .1))
+              (here refl (λ t. let k : length (c .state .pins) < 64 = ltb→lt (length (c .state .pins)) 64 t in omega (arith, k, h .2))))),
         );
         taken = (
-          λ e. let a = add-taken s p .0 e in (a .0, has-not lower lower-order p (s .pins) .0 (a .1 .0), ltb→lt (length (s .pins)) 64 (a .1 .1 .0)),
-          λ h. add-taken s p .1 (h .0, (has-not lower lower-order p (s .pins) .1 (h .1), (lt→ltb (length (s .pins)) 64 (h .2), tt))),
+          λ e. let a = add-taken c p .0 e in (a .0, has-not lower lower-order p (c .state .pins) .0 (a .1 .0), ltb→lt (length (c .state .pins)) 64 (a .1 .1 .0)),
+          λ h. add-taken c p .1 (h .0, (has-not lower lower-order p (c .state .pins) .1 (h .1), (lt→ltb (length (c .state .pins)) 64 (h .2), tt))),
         );
         others = λ n e. ⊎-elim (λ h. inl (h .0)) (λ r. inr (⊎-elim (λ h. inl (h .0)) (λ h. inr (h .0)) r)) (refused-as n e);
       }
 
-  pub withdraw-refusals : WithdrawRefusals s p
+  pub withdraw-refusals : WithdrawRefusals c p
   withdraw-refusals =
       record {
         noPin = (
-          λ e i. none 9 (withdraw-refused s p 9 .0 e) .1 (has-in lower lower-order p (s .pins) .1 i),
-          λ f. withdraw-refused s p 9 .1 (here refl (λ t. f (has-in lower lower-order p (s .pins) .0 t))),
+          λ e i. none 9 (withdraw-refused c p 9 .0 e) .1 (has-in lower lower-order p (c .state .pins) .1 i),
+          λ f. withdraw-refused c p 9 .1 (here refl (λ t. f (has-in lower lower-order p (c .state .pins) .0 t))),
         );
         taken = (
-          λ e. has-in lower lower-order p (s .pins) .0 (withdraw-taken s p .0 e .0),
-          λ i. withdraw-taken s p .1 (has-in lower lower-order p (s .pins) .1 i, tt),
+          λ e. has-in lower lower-order p (c .state .pins) .0 (withdraw-taken c p .0 e .0),
+          λ i. withdraw-taken c p .1 (has-in lower lower-order p (c .state .pins) .1 i, tt),
         );
-        others = λ n e. none n (withdraw-refused s p n .0 e) .0;
+        others = λ n e. none n (withdraw-refused c p n .0 e) .0;
       }
     where
-      none : (n : ℕ) → FirstFailed n (withdrawChecks p s) → (n ≡ 9) × ¬ T (has lower p (s .pins))
+      none : (n : ℕ) → FirstFailed n (withdrawChecks p (c .state)) → (n ≡ 9) × ¬ T (has lower p (c .state .pins))
       none n (here e f) = (sym e, f)

@@ -1,4 +1,4 @@
--- What reading a list of bytes can give: a valid state, or a number from 1 to 6, since each check of a file has such a number.
+-- What reading a list of bytes can give: valid contents, or a number from 1 to 6, since each check of a file has such a number.
 use mathlib.Core.Path.{_≡_, refl, subst}
 use mathlib.Core.Bool.{_&&_}
 use mathlib.Core.List.{List}
@@ -6,13 +6,13 @@ use Prim.Native.Nat.{ℕ, _≤_}
 use native.Mathlib.Omega.{arith}
 use lib.Dec.{T, leb, leb→le}
 use Rattle.arrays.proofs.Test.{and-parts}
-use Rattle.model.specs.State.{State, Valid}
+use Rattle.model.specs.Contents.{Contents, ValidContents}
 use Rattle.model.specs.File.{Read, deck, refusal, fileChecks, readFile}
 use Rattle.model.proofs.Refusal.{failed-number, file-refused}
 use Rattle.model.proofs.FileValid.{file-valid}
 
 pub data Possible : Read → Type 0 where
-  taken : {s : State} → Valid s → Possible (deck s)
+  taken : {c : Contents} → ValidContents c → Possible (deck c)
   refused : {n : ℕ} → 1 ≤ n → n ≤ 6 → Possible (refusal n)
 
 numbered : (b : List ℕ) (n : ℕ) → readFile b ≡ refusal n → T (leb 1 n && leb n 6)
@@ -23,9 +23,9 @@ pub read-possible : (b : List ℕ) → Possible (readFile b)
 read-possible b = go (readFile b) refl
   where
     go : (r : Read) → readFile b ≡ r → Possible r
-    go (deck s) e = taken (file-valid b s e)
+    go (deck c) e = taken (file-valid b c e)
     go (refusal n) e = let h = and-parts (leb 1 n) (leb n 6) (numbered b n e) in refused (leb→le 1 n (h .0)) (leb→le n 6 (h .1))
 
-pub possible-valid : (r : Read) → Possible r → (s : State) → r ≡ deck s → Valid s
-possible-valid (deck t) (taken v) s e = let q : t ≡ s = cc in subst Valid q v
-possible-valid (refusal n) p s e = let z : _≡_ {A = ℕ} 0 1 = cc in absurd (omega arith)
+pub possible-valid : (r : Read) → Possible r → (c : Contents) → r ≡ deck c → ValidContents c
+possible-valid (deck d) (taken v) c e = let q : d ≡ c = cc in subst ValidContents q v
+possible-valid (refusal n) p c e = let z : _≡_ {A = ℕ} 0 1 = cc in absurd (omega arith)

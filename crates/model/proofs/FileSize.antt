@@ -3,7 +3,7 @@
 use mathlib.Core.Path.{_≡_, refl, sym, ap, _∙_, subst, subst⁻¹}
 use mathlib.Core.Logic.{⊎-elim}
 use mathlib.Core.Bool.{Bool, not}
-use mathlib.Core.List.{List, [], _∷_, _++_, List·Memᴰ, List·Memᴰ·head as head, List·Memᴰ·tail as tail, List·Memᴰ·cases-cons as cases}
+use mathlib.Core.List.{List, [], _∷_, _++_, map, flatten, List·Memᴰ, List·Memᴰ·head as head, List·Memᴰ·tail as tail, List·Memᴰ·cases-cons as cases}
 use mathlib.Core.List.{List·Memᴰ·not-nil as not-nil}
 use Prim.Native.Nat.{ℕ, suc, _+_, _*_, _≤_, _<_}
 use native.Mathlib.Omega.{arith}
@@ -19,15 +19,17 @@ use Rattle.arrays.proofs.Test.{by-test}
 use Rattle.arrays.specs.Set.{tie, union, setOf}
 use Rattle.model.specs.Tree.{RunTree}
 use Rattle.model.specs.State.{State, points, Placed, Valid}
+use Rattle.model.specs.Contents.{Contents, ValidContents}
 use Rattle.model.specs.Question.{listed, treeOf, pinCount, steinerCount, edgeCount}
-use Rattle.arrays.specs.Number.{bytes2, bytes4}
-use Rattle.arrays.proofs.number.Bytes.{Bytes, bytes-none, bytes-cons, bytes-append, bytes2-bytes, bytes4-bytes}
-use Rattle.model.specs.File.{magic, headerSize, header, sectionOf, numberOf, runBytes, runSection, fileOf}
+use Rattle.arrays.proofs.number.Bytes.{Bytes, bytes-none, bytes-append}
+use Rattle.model.specs.Sections.{headerSize, header, sectionFile}
+use Rattle.model.specs.File.{fewestSections, sectionOf, numberOf, runBytes, runSection, sectionsOf, fileOf}
 use Rattle.arrays.proofs.Set.{put-length, set-of-in, tie-eq, no-tie}
 use Rattle.model.proofs.Tree.{mst-run-tree}
 use Rattle.model.proofs.Prune.{points-rise, few-steiner}
 use Rattle.model.proofs.Bounds.{points-few, edges-fewer}
 use Rattle.model.proofs.Bytes.{section-length, section-bytes}
+use Rattle.model.proofs.Sections.{file-length as sections-length, header-bytes}
 
 -- A set is as long as its list, where that has no repeats.
 set-of-length : {A : Type 0} (less : A → A → Bool) → StrictTotal (λ (a b : A). T (less a b)) → (l : List A) → Distinct l → length (setOf less l) ≡ length l
@@ -100,38 +102,33 @@ run-numbers s v =
     (λ e i. tree-of s (v .placed) .tree .ends e (set-of-in listedBefore listed-order (treeOf s) e .0 i))
 
 -- The length of the file, by the counts of pins, taps and runs.
-pub file-length : (s : State) → Placed s → length (fileOf s) ≡ 30 + 4 * pinCount s + 4 * steinerCount s + 2 * edgeCount s
-unfolding fileOf
-file-length s h =
+pub file-length : (c : Contents) → Placed (c .state)
+    → length (fileOf c) ≡ headerSize fewestSections + 4 * pinCount (c .state) + 4 * steinerCount (c .state) + 2 * edgeCount (c .state)
+unfolding fileOf flatten
+file-length c h =
+    let s = c .state in
     omega (
       arith,
-      length-append (sectionOf (s .pins)) (sectionOf (s .steiner) ++ runSection s),
-      length-append (sectionOf (s .steiner)) (runSection s),
+      sections-length (sectionsOf c),
+      length-append (sectionOf (s .pins)) (sectionOf (s .steiner) ++ (runSection s ++ [])),
+      length-append (sectionOf (s .steiner)) (runSection s ++ []),
+      length-append (runSection s) [],
       section-length (s .pins),
       section-length (s .steiner),
       runs-length (points s) (listed s),
       listed-count s h,
     )
 
-pub file-size : (s : State) → Valid s → (30 ≤ length (fileOf s)) × (length (fileOf s) ≤ 784)
-file-size s v =
-    let e = file-length s (v .placed) in
-    (omega arith, omega (arith, v .few, steiner-few s v, edges-few s v))
+pub file-size : (c : Contents) → ValidContents c → (30 ≤ length (fileOf c)) × (length (fileOf c) ≤ 784)
+file-size c v =
+    let e = file-length c (v .state .placed) in
+    (omega arith, omega (arith, v .state .few, steiner-few (c .state) (v .state), edges-few (c .state) (v .state)))
 
-header-bytes : (a b c : ℕ) → Bytes (header a b c)
-header-bytes a b c =
-    bytes-append magic
-    (bytes-cons (omega arith) (bytes-cons (omega arith) (bytes-cons (omega arith) (bytes-cons (omega arith) bytes-none))))
-    (bytes-append (bytes2 3) (bytes2-bytes 3)
-    (bytes-append (bytes4 headerSize) (bytes4-bytes headerSize)
-    (bytes-append (bytes4 a) (bytes4-bytes a)
-    (bytes-append (bytes4 (headerSize + a)) (bytes4-bytes (headerSize + a))
-    (bytes-append (bytes4 b) (bytes4-bytes b)
-    (bytes-append (bytes4 (headerSize + a + b)) (bytes4-bytes (headerSize + a + b)) (bytes4-bytes c)))))))
-
-pub file-bytes : (s : State) → Valid s → Bytes (fileOf s)
-unfolding fileOf
-file-bytes s v =
-    bytes-append (header (length (sectionOf (s .pins))) (length (sectionOf (s .steiner))) (length (runSection s))) (header-bytes _ _ _)
+pub file-bytes : (c : Contents) → ValidContents c → Bytes (fileOf c)
+unfolding fileOf sectionFile flatten
+file-bytes c v =
+    let s = c .state in
+    bytes-append (header (map length (sectionsOf c))) (header-bytes (map length (sectionsOf c)))
     (bytes-append (sectionOf (s .pins)) (section-bytes (s .pins))
-    (bytes-append (sectionOf (s .steiner)) (section-bytes (s .steiner)) (λ x i. omega (arith, run-numbers s v x i))))
+    (bytes-append (sectionOf (s .steiner)) (section-bytes (s .steiner))
+    (bytes-append (runSection s) (λ x i. omega (arith, run-numbers s (v .state) x i)) bytes-none)))

@@ -1,4 +1,4 @@
--- An accepted file shows a valid state. Reading passes all its tests before it answers a deck; a plain file shows no Steiner
+-- An accepted file shows valid contents. Reading passes all its tests before it answers a deck; a plain file shows no Steiner
 -- point, and any other passes the test of validity.
 use mathlib.Core.Path.{_≡_, refl, sym, ap, _∙_, subst, subst⁻¹}
 use mathlib.Core.Logic.{_⊎_, inl, inr, ⊎-elim}
@@ -10,9 +10,11 @@ use lib.Dec.{T, leb, leb→le, le→leb, eqb, eqb→eq}
 use lib.ListN.{length, take, drop}
 use Rattle.arrays.proofs.Test.{and-parts, and-both}
 use Rattle.model.specs.Refusal.{Pass}
-use Rattle.model.specs.State.{State, maxPins, Placed, Valid, placed, valid}
+use Rattle.model.specs.State.{maxPins, Placed, Valid, placed, valid}
+use Rattle.model.specs.Contents.{Contents, ValidContents}
 use Rattle.arrays.specs.Same.{sameList}
-use Rattle.model.specs.File.{deck, fileChecks, readFile, fileState, headed, laidOut, whole, plain, section, offset, size, pointsOf, runSection}
+use Rattle.model.specs.Sections.{section, offset, size, laidOut}
+use Rattle.model.specs.File.{deck, fileChecks, readFile, fileState, fileContents, headed, whole, plain, pointsOf, runSection}
 use Rattle.model.proofs.Refusal.{file-taken}
 use Rattle.model.proofs.Validity.{placed-is, valid-is}
 
@@ -26,18 +28,18 @@ either-of false b (inl t) = absurd t
 either-of false b (inr t) = t
 
 -- What reading a file to a deck asks of the file.
-pub record Accepted (b : List ℕ) (s : State) : Type 0 where
+pub record Accepted (b : List ℕ) (c : Contents) : Type 0 where
   pub header : T (headed b)
   pub layout : T (laidOut b)
   pub wholes : T (whole b)
-  pub few : length (s .pins) ≤ maxPins
-  pub points : Placed s
-  pub shows : T (plain b) ⊎ (Valid s × T (sameList (section b 2) (runSection s)))
-  pub same : fileState b ≡ s
+  pub few : length (c .state .pins) ≤ maxPins
+  pub points : Placed (c .state)
+  pub shows : T (plain b) ⊎ (Valid (c .state) × T (sameList (section b 2) (runSection (c .state))))
+  pub same : fileContents b ≡ c
 
-pub accepted : (b : List ℕ) (s : State) → readFile b ≡ deck s → Accepted b s
-accepted b s e =
-    let t = file-taken b s .0 e in
+pub accepted : (b : List ℕ) (c : Contents) → readFile b ≡ deck c → Accepted b c
+accepted b c e =
+    let t = file-taken b c .0 e in
     let p = t .0 in
     subst (Accepted b) (t .1)
     (record {
@@ -52,10 +54,10 @@ accepted b s e =
       same = refl;
     })
 
-pub accept : (b : List ℕ) (s : State) → Accepted b s → readFile b ≡ deck s
-accept b s a = file-taken b s .1 (by (subst⁻¹ (Accepted b) (a .same) a), a .same)
+pub accept : (b : List ℕ) (c : Contents) → Accepted b c → readFile b ≡ deck c
+accept b c a = file-taken b c .1 (by (subst⁻¹ (Accepted b) (a .same) a), a .same)
   where
-    by : Accepted b (fileState b) → Pass (fileChecks b)
+    by : Accepted b (fileContents b) → Pass (fileChecks b)
     by r = (
       r .header,
       (
@@ -86,15 +88,15 @@ none-of zero [] t = refl
 none-of zero (x ∷ l) t = refl
 none-of (suc n) l t = let e : suc n ≡ 0 = eqb→eq (suc n) 0 t in absurd (omega arith)
 
-pub file-valid : (b : List ℕ) (s : State) → readFile b ≡ deck s → Valid s
-file-valid b s e = go (accepted b s e)
+pub file-valid : (b : List ℕ) (c : Contents) → readFile b ≡ deck c → ValidContents c
+file-valid b c e = record { state = go (accepted b c e) }
   where
-    go : Accepted b s → Valid s
+    go : Accepted b c → Valid (c .state)
     go a =
         ⊎-elim (λ t. record { few = a .few; placed = a .points; branching = λ q i. absurd (not-nil (subst (λ l. List·Memᴰ q l) (none t) i)) })
         (λ v. v .0) (a .shows)
       where
-        none : T (plain b) → s .steiner ≡ []
+        none : T (plain b) → c .state .steiner ≡ []
         none t =
-            sym (ap (λ (r : State). r .steiner) (a .same)) ∙ none-of (size b 1) (drop (offset b 1) b)
+            sym (ap (λ (d : Contents). d .state .steiner) (a .same)) ∙ none-of (size b 1) (drop (offset b 1) b)
             (and-parts (eqb (size b 1) 0) (eqb (size b 2) 0) t .0)

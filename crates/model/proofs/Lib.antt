@@ -6,7 +6,6 @@ pub mod Choice
 pub mod Cover
 pub mod Decks
 pub mod FileAnswer
-pub mod FileParts
 pub mod FileRoundTrip
 pub mod FileRows
 pub mod FileSize
@@ -20,6 +19,7 @@ pub mod Refusal
 pub mod Removal
 pub mod Replace
 pub mod Round
+pub mod Sections
 pub mod Session
 pub mod Step
 pub mod Sweep

@@ -11,9 +11,10 @@ use lib.Dec.{T}
 use Rattle.arrays.specs.Test.{if}
 use Rattle.plane.specs.Point.{Point}
 use Rattle.model.specs.Refusal.{Check, firstFailed, Pass, FirstFailed, here, later}
-use Rattle.model.specs.State.{State, insert, remove}
+use Rattle.model.specs.State.{insert, remove}
+use Rattle.model.specs.Contents.{Contents, keeping}
 use Rattle.model.specs.Call.{add, withdraw, done, refused, addChecks, withdrawChecks, insertRefusal, removeRefusal, unless, step}
-use Rattle.model.specs.File.{deck, refusal, fileChecks, readBy, readFile, fileState}
+use Rattle.model.specs.File.{deck, refusal, fileChecks, readBy, readFile, fileContents}
 
 -- One check by its test.
 failed-by : (n : ℕ) (c : Check) (l : List Check) (b : Bool) → c .test tt ≡ b → ((firstFailed l ≡ some n) → FirstFailed n l)
@@ -74,62 +75,62 @@ failed-number P n (c ∷ l) h (here e f) = subst P e (h .0)
 failed-number P n (c ∷ l) h (later t r) = failed-number P n l (h .1) r
 
 -- A file is refused by n exactly if n's check is the first that fails, and taken, as the deck that it shows, exactly if all pass.
-read-number : (s : State) (o : Option ℕ) (n : ℕ) → (readBy s o ≡ refusal n) ↔ (o ≡ some n)
+read-number : (c : Contents) (o : Option ℕ) (n : ℕ) → (readBy c o ≡ refusal n) ↔ (o ≡ some n)
 unfolding readBy
-read-number s none n = (λ e. let z : _≡_ {A = ℕ} 0 1 = cc in absurd (omega arith), λ e. let z : _≡_ {A = ℕ} 0 1 = cc in absurd (omega arith))
-read-number s (some m) n = (λ e. cc, λ e. cc)
+read-number c none n = (λ e. let z : _≡_ {A = ℕ} 0 1 = cc in absurd (omega arith), λ e. let z : _≡_ {A = ℕ} 0 1 = cc in absurd (omega arith))
+read-number c (some m) n = (λ e. cc, λ e. cc)
 
-read-deck : (s r : State) (o : Option ℕ) → (readBy s o ≡ deck r) ↔ ((o ≡ none) × (s ≡ r))
+read-deck : (c d : Contents) (o : Option ℕ) → (readBy c o ≡ deck d) ↔ ((o ≡ none) × (c ≡ d))
 unfolding readBy
-read-deck s r none = (λ e. (refl, cc), λ p. ap deck (p .1))
-read-deck s r (some m) = (λ e. let z : _≡_ {A = ℕ} 0 1 = cc in absurd (omega arith), λ p. let e = p .0 in let z : _≡_ {A = ℕ} 0 1 = cc in absurd (omega arith))
+read-deck c d none = (λ e. (refl, cc), λ p. ap deck (p .1))
+read-deck c d (some m) = (λ e. let z : _≡_ {A = ℕ} 0 1 = cc in absurd (omega arith), λ p. let e = p .0 in let z : _≡_ {A = ℕ} 0 1 = cc in absurd (omega arith))
 
 pub file-refused : (b : List ℕ) (n : ℕ) → (readFile b ≡ refusal n) ↔ FirstFailed n (fileChecks b)
 unfolding readFile
 file-refused b n = (
-  λ e. failed-first n (fileChecks b) (read-number (fileState b) (firstFailed (fileChecks b)) n .0 e),
-  λ r. read-number (fileState b) (firstFailed (fileChecks b)) n .1 (first-fails n (fileChecks b) r),
+  λ e. failed-first n (fileChecks b) (read-number (fileContents b) (firstFailed (fileChecks b)) n .0 e),
+  λ r. read-number (fileContents b) (firstFailed (fileChecks b)) n .1 (first-fails n (fileChecks b) r),
 )
 
-pub file-taken : (b : List ℕ) (s : State) → (readFile b ≡ deck s) ↔ (Pass (fileChecks b) × (fileState b ≡ s))
+pub file-taken : (b : List ℕ) (c : Contents) → (readFile b ≡ deck c) ↔ (Pass (fileChecks b) × (fileContents b ≡ c))
 unfolding readFile
-file-taken b s = (
-  λ e. let p = read-deck (fileState b) s (firstFailed (fileChecks b)) .0 e in (none-failed (fileChecks b) (p .0), p .1),
-  λ p. read-deck (fileState b) s (firstFailed (fileChecks b)) .1 (passes (fileChecks b) (p .0), p .1),
+file-taken b c = (
+  λ e. let p = read-deck (fileContents b) c (firstFailed (fileChecks b)) .0 e in (none-failed (fileChecks b) (p .0), p .1),
+  λ p. read-deck (fileContents b) c (firstFailed (fileChecks b)) .1 (passes (fileChecks b) (p .0), p .1),
 )
 
 -- A call is refused by n exactly if n's check is the first that fails, and done exactly if all pass.
-unless-number : (o : Option ℕ) (s : State) (after : Unit {0} → State) (n : ℕ) → (unless o s after .reply ≡ refused n) ↔ (o ≡ some n)
-unless-number none s after n =
+unless-number : (o : Option ℕ) (c : Contents) (after : Unit {0} → Contents) (n : ℕ) → (unless o c after .reply ≡ refused n) ↔ (o ≡ some n)
+unless-number none c after n =
     (λ e. let z : _≡_ {A = ℕ} 0 1 = cc in absurd (omega arith), λ e. let z : _≡_ {A = ℕ} 0 1 = cc in absurd (omega arith))
-unless-number (some m) s after n = (λ e. cc, λ e. cc)
+unless-number (some m) c after n = (λ e. cc, λ e. cc)
 
-unless-done : (o : Option ℕ) (s : State) (after : Unit {0} → State) → (unless o s after .reply ≡ done) ↔ (o ≡ none)
-unless-done none s after = (λ e. refl, λ e. refl)
-unless-done (some m) s after =
+unless-done : (o : Option ℕ) (c : Contents) (after : Unit {0} → Contents) → (unless o c after .reply ≡ done) ↔ (o ≡ none)
+unless-done none c after = (λ e. refl, λ e. refl)
+unless-done (some m) c after =
     (λ e. let z : _≡_ {A = ℕ} 0 1 = cc in absurd (omega arith), λ e. let z : _≡_ {A = ℕ} 0 1 = cc in absurd (omega arith))
 
-module _ (s : State) (p : Point) where
-  pub add-refused : (n : ℕ) → (step s (add p) .reply ≡ refused n) ↔ FirstFailed n (addChecks p s)
+module _ (c : Contents) (p : Point) where
+  pub add-refused : (n : ℕ) → (step c (add p) .reply ≡ refused n) ↔ FirstFailed n (addChecks p (c .state))
   unfolding step insertRefusal
   add-refused n =
-      let u = unless-number (firstFailed (addChecks p s)) s (λ _. insert p s) n in
-      (λ e. failed-first n (addChecks p s) (u .0 e), λ r. u .1 (first-fails n (addChecks p s) r))
+      let u = unless-number (firstFailed (addChecks p (c .state))) c (λ _. keeping c (insert p (c .state))) n in
+      (λ e. failed-first n (addChecks p (c .state)) (u .0 e), λ r. u .1 (first-fails n (addChecks p (c .state)) r))
 
-  pub add-taken : (step s (add p) .reply ≡ done) ↔ Pass (addChecks p s)
+  pub add-taken : (step c (add p) .reply ≡ done) ↔ Pass (addChecks p (c .state))
   unfolding step insertRefusal
   add-taken =
-      let u = unless-done (firstFailed (addChecks p s)) s (λ _. insert p s) in
-      (λ e. none-failed (addChecks p s) (u .0 e), λ a. u .1 (passes (addChecks p s) a))
+      let u = unless-done (firstFailed (addChecks p (c .state))) c (λ _. keeping c (insert p (c .state))) in
+      (λ e. none-failed (addChecks p (c .state)) (u .0 e), λ a. u .1 (passes (addChecks p (c .state)) a))
 
-  pub withdraw-refused : (n : ℕ) → (step s (withdraw p) .reply ≡ refused n) ↔ FirstFailed n (withdrawChecks p s)
+  pub withdraw-refused : (n : ℕ) → (step c (withdraw p) .reply ≡ refused n) ↔ FirstFailed n (withdrawChecks p (c .state))
   unfolding step removeRefusal
   withdraw-refused n =
-      let u = unless-number (firstFailed (withdrawChecks p s)) s (λ _. remove p s) n in
-      (λ e. failed-first n (withdrawChecks p s) (u .0 e), λ r. u .1 (first-fails n (withdrawChecks p s) r))
+      let u = unless-number (firstFailed (withdrawChecks p (c .state))) c (λ _. keeping c (remove p (c .state))) n in
+      (λ e. failed-first n (withdrawChecks p (c .state)) (u .0 e), λ r. u .1 (first-fails n (withdrawChecks p (c .state)) r))
 
-  pub withdraw-taken : (step s (withdraw p) .reply ≡ done) ↔ Pass (withdrawChecks p s)
+  pub withdraw-taken : (step c (withdraw p) .reply ≡ done) ↔ Pass (withdrawChecks p (c .state))
   unfolding step removeRefusal
   withdraw-taken =
-      let u = unless-done (firstFailed (withdrawChecks p s)) s (λ _. remove p s) in
-      (λ e. none-failed (withdrawChecks p s) (u .0 e), λ a. u .1 (passes (withdrawChecks p s) a))
+      let u = unless-done (firstFailed (withdrawChecks p (c .state))) c (λ _. keeping c (remove p (c .state))) in
+      (λ e. none-failed (withdrawChecks p (c .state)) (u .0 e), λ a. u .1 (passes (withdrawChecks p (c .state)) a))

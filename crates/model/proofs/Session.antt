@@ -1,4 +1,4 @@
--- The claim on sessions: every state that a list of calls leads to is valid, and of a valid state the rest holds.
+-- The claim on sessions: the contents that a list of calls leads to are valid, and of a valid state the rest holds.
 use mathlib.Core.List.{List·Memᴰ·not-nil as not-nil}
 use Prim.Native.Nat.{_≤_}
 use native.Mathlib.Omega.{arith}
@@ -7,8 +7,9 @@ use Rattle.arrays.specs.Order.{Sorted}
 use Rattle.plane.specs.Point.{Lower}
 use Rattle.model.specs.Tree.{treeLength}
 use Rattle.model.specs.State.{State, empty, points, Valid}
-use Rattle.model.specs.Call.{stateAfter}
-use Rattle.model.specs.Session.{StartState, fresh, file, SessionState, Sessions, mostPoints}
+use Rattle.model.specs.Contents.{Contents, emptyContents, ValidContents}
+use Rattle.model.specs.Call.{contentsAfter}
+use Rattle.model.specs.Session.{StartContents, fresh, file, SessionState, SessionContents, Sessions, mostPoints}
 use Rattle.model.proofs.Tree.{mst-run-tree}
 use Rattle.model.proofs.Cover.{mst-least}
 use Rattle.model.proofs.Prune.{points-rise}
@@ -33,9 +34,12 @@ empty-valid =
       branching = λ q i. absurd (not-nil i);
     }
 
-pub start-valid : (s : State) → StartState s → Valid s
-start-valid s fresh = empty-valid
-start-valid s (file b e) = file-valid b s e
+pub empty-contents : ValidContents emptyContents
+empty-contents = record { state = empty-valid }
+
+pub start-valid : (c : Contents) → StartContents c → ValidContents c
+start-valid c fresh = empty-contents
+start-valid c (file b e) = file-valid b c e
 
 pub valid-session : (s : State) → Valid s → SessionState s
 unfolding treeLength
@@ -59,5 +63,8 @@ valid-session s v =
     few : length (points s) ≤ mostPoints
     few = points-few s v
 
+pub valid-contents : (c : Contents) → ValidContents c → SessionContents c
+valid-contents c v = record { valid = v; state = valid-session (c .state) (v .state) }
+
 pub sessions : Sessions
-sessions s start calls = valid-session (stateAfter s calls) (after-valid calls s (start-valid s start))
+sessions c start calls = valid-contents (contentsAfter c calls) (after-valid calls c (start-valid c start))

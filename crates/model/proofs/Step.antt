@@ -1,4 +1,4 @@
--- Every call keeps a state valid, refused ones too.
+-- Every call keeps contents valid, refused ones too.
 use mathlib.Core.Path.{_≡_, refl, subst⁻¹}
 use mathlib.Core.Logic.{_⊎_, ⊎-elim}
 use mathlib.Core.Option.{Option, none, some}
@@ -11,7 +11,8 @@ use Rattle.plane.specs.Point.{Point, inRange, lower}
 use Rattle.plane.proofs.Order.{lower-order}
 use Rattle.arrays.specs.Set.{out}
 use Rattle.model.specs.State.{State, Placed, Valid, withPin, insert, remove, maxPins}
-use Rattle.model.specs.Call.{addChecks, withdrawChecks, insertRefusal, removeRefusal, Call, add, withdraw, oneRound, runToEnd, unless, step, stateAfter}
+use Rattle.model.specs.Contents.{Contents, keeping, ValidContents}
+use Rattle.model.specs.Call.{addChecks, withdrawChecks, insertRefusal, removeRefusal, Call, add, withdraw, oneRound, runToEnd, unless, step, contentsAfter}
 use Rattle.arrays.proofs.Set.{put-in, put-sorted, put-length, out-in, out-sorted, out-length, has-in, has-not}
 use Rattle.model.proofs.Prune.{prune-valid}
 use Rattle.model.proofs.Refusal.{all-passed}
@@ -58,21 +59,23 @@ remove-valid p s v i =
       apart = λ q j k. v .placed .apart q (out-in lower lower-order p q (s .pins) .0 j .0) k;
     })
 
-unless-valid : (o : Option ℕ) (s : State) (f : Unit {0} → State) → Valid s → (o ≡ none → Valid (f tt)) → Valid (unless o s f .next)
-unless-valid none s f v g = g refl
-unless-valid (some n) s f v g = v
+unless-valid : (o : Option ℕ) (c : Contents) (f : Unit {0} → Contents) → ValidContents c → (o ≡ none → ValidContents (f tt))
+    → ValidContents (unless o c f .next)
+unless-valid none c f v g = g refl
+unless-valid (some n) c f v g = v
 
-pub step-valid : (s : State) (c : Call) → Valid s → Valid (step s c .next)
+pub step-valid : (c : Contents) (k : Call) → ValidContents c → ValidContents (step c k .next)
 unfolding step
-step-valid s (add p) v =
-    unless-valid (insertRefusal p s) s (λ _. insert p s) v
-    (λ e. let a = insert-allowed p s e in insert-valid p s v (a .0) (a .1) (a .2))
-step-valid s (withdraw p) v =
-    unless-valid (removeRefusal p s) s (λ _. remove p s) v (λ e. remove-valid p s v (remove-allowed p s e))
-step-valid s oneRound v = round-valid s v
-step-valid s runToEnd v = rounds-valid (finish-rounds s v .0) v
+step-valid c (add p) v =
+    unless-valid (insertRefusal p (c .state)) c (λ _. keeping c (insert p (c .state))) v
+    (λ e. let a = insert-allowed p (c .state) e in record { state = insert-valid p (c .state) (v .state) (a .0) (a .1) (a .2) })
+step-valid c (withdraw p) v =
+    unless-valid (removeRefusal p (c .state)) c (λ _. keeping c (remove p (c .state))) v
+    (λ e. record { state = remove-valid p (c .state) (v .state) (remove-allowed p (c .state) e) })
+step-valid c oneRound v = record { state = round-valid (c .state) (v .state) }
+step-valid c runToEnd v = record { state = rounds-valid (finish-rounds (c .state) (v .state) .0) (v .state) }
 
-pub after-valid : (calls : List Call) (s : State) → Valid s → Valid (stateAfter s calls)
-unfolding stateAfter
-after-valid [] s v = v
-after-valid (c ∷ cs) s v = after-valid cs (step s c .next) (step-valid s c v)
+pub after-valid : (calls : List Call) (c : Contents) → ValidContents c → ValidContents (contentsAfter c calls)
+unfolding contentsAfter
+after-valid [] c v = v
+after-valid (k ∷ ks) c v = after-valid ks (step c k .next) (step-valid c k v)

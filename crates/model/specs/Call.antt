@@ -9,6 +9,7 @@ use Rattle.plane.specs.Point.{Point, inRange, lower}
 use Rattle.arrays.specs.Set.{has}
 use Rattle.model.specs.Refusal.{Check, check, firstFailed}
 use Rattle.model.specs.State.{State, insert, remove, maxPins}
+use Rattle.model.specs.Contents.{Contents, keeping}
 use Rattle.model.specs.Round.{RoundAnswer, round, finish}
 
 -- Whether a pin stands at p.
@@ -48,24 +49,24 @@ pub data Reply : Type 0 where
   answered : RoundAnswer → Reply
   rounds : ℕ → Reply
 
--- What a call hands back: the next state, and the reply.
+-- What a call hands back: the next contents, and the reply.
 pub record Outcome : Type 0 where
-  pub next : State
+  pub next : Contents
   pub reply : Reply
 
--- A refused call leaves the state; otherwise the state that follows, and done.
-abbrev pub unless : Option ℕ → State → (Unit {0} → State) → Outcome
-unless none s after = record { next = after tt; reply = done }
-unless (some n) s after = record { next = s; reply = refused n }
+-- A refused call leaves the contents; otherwise those that follow, and done.
+abbrev pub unless : Option ℕ → Contents → (Unit {0} → Contents) → Outcome
+unless none c after = record { next = after tt; reply = done }
+unless (some n) c after = record { next = c; reply = refused n }
 
--- A call on a state (SPEC 4.2 to 4.5): the state that follows and the reply.
-unfoldable pub step : State → Call → Outcome
-step s (add p) = unless (insertRefusal p s) s (λ _. insert p s)
-step s (withdraw p) = unless (removeRefusal p s) s (λ _. remove p s)
-step s oneRound = let r = round s in record { next = r .next; reply = answered (r .answer) }
-step s runToEnd = let e = finish s in record { next = e .final; reply = rounds (e .count) }
+-- A call on the contents of a deck (SPEC 4.2 to 4.5): the contents that follow and the reply.
+unfoldable pub step : Contents → Call → Outcome
+step c (add p) = unless (insertRefusal p (c .state)) c (λ _. keeping c (insert p (c .state)))
+step c (withdraw p) = unless (removeRefusal p (c .state)) c (λ _. keeping c (remove p (c .state)))
+step c oneRound = let r = round (c .state) in record { next = keeping c (r .next); reply = answered (r .answer) }
+step c runToEnd = let e = finish (c .state) in record { next = keeping c (e .final); reply = rounds (e .count) }
 
--- The state after a list of calls: the points that SPEC 6.1 reckons.
-unfoldable pub stateAfter : State → List Call → State
-stateAfter s [] = s
-stateAfter s (c ∷ cs) = stateAfter (step s c .next) cs
+-- The contents after a list of calls, with the points that SPEC 6.1 reckons.
+unfoldable pub contentsAfter : Contents → List Call → Contents
+contentsAfter c [] = c
+contentsAfter c (k ∷ ks) = contentsAfter (step c k .next) ks

@@ -6,24 +6,24 @@ use Prim.Native.Nat.{ℕ, _≤_, _<_}
 use lib.Dec.{T}
 use lib.ListN.{length}
 use Rattle.plane.specs.Point.{Point, inRange}
-use Rattle.model.specs.State.{State}
+use Rattle.model.specs.Contents.{Contents}
 use Rattle.model.specs.Call.{Call, add, withdraw, done, refused, step}
 
--- A call on s is refused by n.
-abbrev pub RefusedBy : State → Call → ℕ → Type 0
-RefusedBy s c n = step s c .reply ≡ refused n
+-- A call on the contents c is refused by n.
+abbrev pub RefusedBy : Contents → Call → ℕ → Type 0
+RefusedBy c k n = step c k .reply ≡ refused n
 
 -- Adding at p: 7 where p is out of range; else 8 where a pin is there; else 10 where 64 pins are held, also if p is a Steiner point. The
 -- number stands here once more, and not as `maxPins`, so that another number there is refused here.
-pub record AddRefusals (s : State) (p : Point) : Type 0 where
-  pub outOfRange : RefusedBy s (add p) 7 ↔ ¬ T (inRange p)
-  pub pinThere : RefusedBy s (add p) 8 ↔ (T (inRange p) × List·Memᴰ p (s .pins))
-  pub noRoom : RefusedBy s (add p) 10 ↔ (T (inRange p) × (¬ List·Memᴰ p (s .pins)) × (64 ≤ length (s .pins)))
-  pub taken : (step s (add p) .reply ≡ done) ↔ (T (inRange p) × (¬ List·Memᴰ p (s .pins)) × (length (s .pins) < 64))
-  pub others : (n : ℕ) → RefusedBy s (add p) n → (n ≡ 7) ⊎ ((n ≡ 8) ⊎ (n ≡ 10))
+pub record AddRefusals (c : Contents) (p : Point) : Type 0 where
+  pub outOfRange : RefusedBy c (add p) 7 ↔ ¬ T (inRange p)
+  pub pinThere : RefusedBy c (add p) 8 ↔ (T (inRange p) × List·Memᴰ p (c .state .pins))
+  pub noRoom : RefusedBy c (add p) 10 ↔ (T (inRange p) × (¬ List·Memᴰ p (c .state .pins)) × (64 ≤ length (c .state .pins)))
+  pub taken : (step c (add p) .reply ≡ done) ↔ (T (inRange p) × (¬ List·Memᴰ p (c .state .pins)) × (length (c .state .pins) < 64))
+  pub others : (n : ℕ) → RefusedBy c (add p) n → (n ≡ 7) ⊎ ((n ≡ 8) ⊎ (n ≡ 10))
 
 -- Withdrawing at p: 9 where no pin is there.
-pub record WithdrawRefusals (s : State) (p : Point) : Type 0 where
-  pub noPin : RefusedBy s (withdraw p) 9 ↔ ¬ List·Memᴰ p (s .pins)
-  pub taken : (step s (withdraw p) .reply ≡ done) ↔ List·Memᴰ p (s .pins)
-  pub others : (n : ℕ) → RefusedBy s (withdraw p) n → n ≡ 9
+pub record WithdrawRefusals (c : Contents) (p : Point) : Type 0 where
+  pub noPin : RefusedBy c (withdraw p) 9 ↔ ¬ List·Memᴰ p (c .state .pins)
+  pub taken : (step c (withdraw p) .reply ≡ done) ↔ List·Memᴰ p (c .state .pins)
+  pub others : (n : ℕ) → RefusedBy c (withdraw p) n → n ≡ 9

@@ -1,6 +1,6 @@
 -- The table of decks (SPEC 11): its rows, and the one statement that each of them holds.
 use mathlib.Core.Path.{_≡_}
-use mathlib.Core.List.{List, [], _∷_}
+use mathlib.Core.List.{List, [], _∷_, flatten}
 use Prim.Native.Nat.{ℕ, _/_, _%_}
 use lib.IntN.{pos}
 use Rattle.spanning.specs.Graph.{total, degree}
@@ -13,34 +13,40 @@ use Rattle.plane.specs.Box.{extreme, spread, halfPerimeter}
 use Rattle.arrays.specs.Set.{put, out, has, union, rising, all}
 use Rattle.model.specs.Refusal.{firstFailed}
 use Rattle.model.specs.Tree.{pairs, edges, mst, treeLength}
-use Rattle.model.specs.State.{State, points, placed, valid, lowestWeak, pruneFrom, prune, insert, remove}
+use Rattle.model.specs.State.{points, placed, valid, lowestWeak, pruneFrom, prune, insert, remove}
+use Rattle.model.specs.Contents.{Contents, holding}
 use Rattle.model.specs.Round.{column, crossings, notHeld, candidates, saving, bestAbove, best, round, roundsFrom, finish}
 use Rattle.model.specs.Call.{Call, Reply, insertRefusal, removeRefusal, step}
 use Rattle.model.specs.Question.{lengthOfState, listed}
 use Rattle.arrays.specs.Same.{sameList}
+use Rattle.model.specs.Sections.{pairsFrom, header, sectionFile, follow, laidOut}
 use Rattle.model.specs.File.{Read, deck, sectionOf, numberOf, runBytes, fileOf, pointsOf, readBy, readFile}
 
--- What a list of calls shows: each reply, the tree's length at the start and after each call, and the last state with its runs in listing order.
+-- What a list of calls shows: each reply, the tree's length at the start and after each call, and the last contents with their runs in listing order.
 pub record Trace : Type 0 where
   pub replies : List Reply
   pub lengths : List ℕ
-  pub last : State
+  pub last : Contents
   pub runs : List Edge
 
--- The trace of calls from a state.
-unfoldable pub play : State → List Call → Trace
+-- Traces are made by this alone.
+abbrev pub trace : List Reply → List ℕ → Contents → List Edge → Trace
+trace replies lengths last runs = record { replies = replies; lengths = lengths; last = last; runs = runs }
+
+-- The trace of calls from the contents of a deck.
+unfoldable pub play : Contents → List Call → Trace
 unfolding total degree comp kruskal lower gap dist pointDec before listedBefore planar put out has union pairs edges mst treeLength points lowestWeak
     pruneFrom prune insert remove column crossings notHeld candidates saving bestAbove best round roundsFrom finish firstFailed insertRefusal
     removeRefusal step listed
-play s [] = record { replies = []; lengths = lengthOfState s ∷ []; last = s; runs = listed s }
-play s (c ∷ cs) =
-    let o = step s c in
-    let t = play (o .next) cs in
-    record { replies = o .reply ∷ t .replies; lengths = lengthOfState s ∷ t .lengths; last = t .last; runs = t .runs }
+play c [] = trace [] (lengthOfState (c .state) ∷ []) c (listed (c .state))
+play c (k ∷ ks) =
+    let o = step c k in
+    let t = play (o .next) ks in
+    trace (o .reply ∷ t .replies) (lengthOfState (c .state) ∷ t .lengths) (t .last) (t .runs)
 
 -- What reading a list of bytes gives.
 unfoldable pub reads : List ℕ → Read
-unfolding play rising all placed valid signed16 word16 sectionOf numberOf runBytes sameList pointsOf readBy readFile
+unfolding play rising all placed valid signed16 word16 follow laidOut sectionOf numberOf runBytes sameList pointsOf readBy readFile
 reads b = readFile b
 
 -- The half perimeter of the box around points, worked out.
@@ -48,15 +54,18 @@ unfoldable pub halfAround : List Point → ℕ
 unfolding gap extreme spread halfPerimeter
 halfAround ps = halfPerimeter ps
 
--- A row of calls: pins to begin with, calls, and what they must show.
+-- A row of calls: contents to begin with, calls, and what they must show.
 pub record DeckRow : Type 0 where
-  pub start : List Point
+  pub start : Contents
   pub calls : List Call
   pub shows : Trace
 
--- The state that a row begins with: its pins, and no tap.
-abbrev pub firstState : DeckRow → State
-firstState r = record { pins = r .start; steiner = [] }
+-- Rows are made by the next two alone: from a deck with pins and no tap, and from an empty deck.
+abbrev pub starting : List Point → List Call → Trace → DeckRow
+starting pins calls shows = record { start = holding pins []; calls = calls; shows = shows }
+
+abbrev pub fromEmpty : List Call → Trace → DeckRow
+fromEmpty calls shows = starting [] calls shows
 
 -- A row of the table: calls and what they show; differences and their octants; a file and what reading it gives; points and the half
 -- perimeter of the box around them.
@@ -68,17 +77,17 @@ pub data TableRow : Type 0 where
 
 -- The row holds.
 abbrev pub Holds : TableRow → Type 0
-Holds (deckRow r) = play (firstState r) (r .calls) ≡ r .shows
+Holds (deckRow r) = play (r .start) (r .calls) ≡ r .shows
 Holds (octantRow differences numbers) = octants differences ≡ numbers
 Holds (fileRow b r) = reads b ≡ r
 Holds (boxRow ps n) = halfAround ps ≡ n
 
--- What reading the file of a state gives.
-unfoldable pub filed : State → Read
-unfolding reads fileOf
-filed s = reads (fileOf s)
+-- What reading the file of contents gives.
+unfoldable pub filed : Contents → Read
+unfolding reads flatten pairsFrom header sectionFile fileOf
+filed c = reads (fileOf c)
 
--- The file of the last state of a row of calls reads back to it.
+-- The file of the last contents of a row of calls reads back to them.
 abbrev pub Filed : TableRow → Type 0
 Filed (deckRow r) = filed (r .shows .last) ≡ deck (r .shows .last)
 Filed (octantRow differences numbers) = Unit {0}

@@ -1,13 +1,13 @@
--- The deck file, byte for byte (SPEC 7): what is written for a state, and what reading a list of bytes gives (SPEC 8.2).
+-- The deck file, byte for byte (SPEC 7): what is written for the contents of a deck, and what reading a list of bytes gives (SPEC 8.2). Its
+-- sections by number: 0 the pins, 1 the taps, 2 the runs.
 use mathlib.Core.Bool.{Bool, _&&_, _||_}
 use mathlib.Core.Option.{Option, none, some}
 use mathlib.Core.List.{List, [], _∷_, _++_}
-use Prim.Native.Nat.{ℕ, suc, _+_, _*_, _%_}
+use Prim.Native.Nat.{ℕ, suc, _%_}
 use lib.Dec.{leb, eqb}
-use lib.ListN.{length, take, drop}
-use Rattle.arrays.specs.Number.{bytes2, bytes4, number2, number4}
+use lib.ListN.{length, take}
+use Rattle.arrays.specs.Number.{bytes2}
 use Rattle.arrays.specs.Test.{if}
-use Rattle.arrays.specs.Text.{bytes}
 use Rattle.plane.specs.Point.{Point, lower}
 use Rattle.plane.specs.Edge.{Edge}
 use Rattle.plane.specs.Coordinate.{signed16, word16}
@@ -15,15 +15,13 @@ use Rattle.arrays.specs.Same.{sameList}
 use Rattle.arrays.specs.Set.{tie}
 use Rattle.model.specs.Refusal.{Check, check, firstFailed}
 use Rattle.model.specs.State.{State, points, placed, valid, maxPins}
+use Rattle.model.specs.Contents.{Contents, ofState}
 use Rattle.model.specs.Question.{listed}
+use Rattle.model.specs.Sections.{magic, countPlace, headerSize, sectionFile, sectionCount, size, section, laidOut}
 
--- The first four bytes of every file (SPEC 7.1).
-abbrev pub magic : List ℕ
-magic = bytes "DECK"
-
--- Where the first section starts (SPEC 7.1).
-abbrev pub headerSize : ℕ
-headerSize = 30
+-- The fewest sections of a file (SPEC 7.1).
+abbrev pub fewestSections : ℕ
+fewestSections = 3
 
 -- The length of the longest file (SPEC 7.5).
 abbrev pub longest : ℕ
@@ -52,26 +50,17 @@ runBytes ps (e ∷ l) = numberOf ps (e .lo) ∷ numberOf ps (e .hi) ∷ runBytes
 abbrev pub runSection : State → List ℕ
 runSection s = runBytes (points s) (listed s)
 
--- The header for three sections of these lengths (SPEC 7.1).
-abbrev pub header : ℕ → ℕ → ℕ → List ℕ
-header a b c =
-    magic
-    ++ (bytes2 3
-    ++ (bytes4 headerSize
-    ++ (bytes4 a
-    ++ (bytes4 (headerSize + a) ++ (bytes4 b ++ (bytes4 (headerSize + a + b) ++ bytes4 c))))))
+-- The sections of a file, in their order (SPEC 7.1).
+abbrev pub sectionsOf : Contents → List (List ℕ)
+sectionsOf c = let s = c .state in sectionOf (s .pins) ∷ sectionOf (s .steiner) ∷ runSection s ∷ []
 
--- The file of a state: a full file, with every run (SPEC 7.4, 7.5).
-unfoldable pub fileOf : State → List ℕ
-fileOf s =
-    let pins = sectionOf (s .pins) in
-    let taps = sectionOf (s .steiner) in
-    let runs = runSection s in
-    header (length pins) (length taps) (length runs) ++ (pins ++ (taps ++ runs))
+-- The file of contents: a full file, with every run (SPEC 7.4, 7.5).
+unfoldable pub fileOf : Contents → List ℕ
+fileOf c = sectionFile (sectionsOf c)
 
--- What reading gives: the state of the deck, or the number of a refusal.
+-- What reading gives: the contents of the deck, or the number of a refusal.
 pub data Read : Type 0 where
-  deck : State → Read
+  deck : Contents → Read
   refusal : ℕ → Read
 
 -- The points of a section, four bytes each.
@@ -82,36 +71,27 @@ pointsOf (a ∷ b ∷ []) = []
 pointsOf (a ∷ b ∷ c ∷ []) = []
 pointsOf (a ∷ b ∷ c ∷ d ∷ l) = record { x = signed16 a b; y = signed16 c d } ∷ pointsOf l
 
--- The offset and the length of section k, four bytes each, from its pair in the header (SPEC 7.1).
-abbrev pub offset : List ℕ → ℕ → ℕ
-offset b k = number4 b (6 + 8 * k)
-
-abbrev pub size : List ℕ → ℕ → ℕ
-size b k = number4 b (10 + 8 * k)
-
--- The bytes of section k.
-abbrev pub section : List ℕ → ℕ → List ℕ
-section b k = take (size b k) (drop (offset b k) b)
-
 -- Check 1 (SPEC 8.2): the length of the file, its first four bytes and its number of sections.
 abbrev pub headed : List ℕ → Bool
 headed b =
-    leb headerSize (length b) && (leb (length b) longest && (sameList (take 4 b) magic && eqb (number2 b 4) 3))
-
--- Check 2 (SPEC 7.1, 8.2): the sections follow the header and one another, up to the end of the file.
-abbrev pub laidOut : List ℕ → Bool
-laidOut b =
-    eqb (offset b 0) headerSize
-    && (eqb (offset b 1) (offset b 0 + size b 0)
-    && (eqb (offset b 2) (offset b 1 + size b 1) && eqb (length b) (offset b 2 + size b 2)))
+    leb (headerSize fewestSections) (length b)
+    && (leb (length b) longest && (sameList (take countPlace b) magic && eqb (sectionCount b) fewestSections))
 
 -- Check 3 (SPEC 8.2): sections of whole points and whole runs.
 abbrev pub whole : List ℕ → Bool
 whole b = eqb (size b 0 % 4) 0 && (eqb (size b 1 % 4) 0 && eqb (size b 2 % 2) 0)
 
+-- The points in section k.
+abbrev pub sectionPoints : List ℕ → ℕ → List Point
+sectionPoints b k = pointsOf (section b k)
+
 -- The pins and taps that a file shows.
 abbrev pub fileState : List ℕ → State
-fileState b = record { pins = pointsOf (section b 0); steiner = pointsOf (section b 1) }
+fileState b = record { pins = sectionPoints b 0; steiner = sectionPoints b 1 }
+
+-- And the contents.
+abbrev pub fileContents : List ℕ → Contents
+fileContents b = ofState (fileState b)
 
 -- A plain file has no taps and no runs (SPEC 7.4).
 abbrev pub plain : List ℕ → Bool
@@ -122,7 +102,7 @@ plain b = eqb (size b 1) 0 && eqb (size b 2) 0
 abbrev pub holdsDeck : List ℕ → State → Bool
 holdsDeck b s = plain b || (valid s && sameList (section b 2) (runSection s))
 
--- The checks of a file, in their order (SPEC 8.2); 4 and 5 are the number of pins and `placed`.
+-- The checks of a file, in their order (SPEC 8.2); 2 is `laidOut`, 4 and 5 are the number of pins and `placed`.
 abbrev pub fileChecks : List ℕ → List Check
 fileChecks b =
     let s = fileState b in
@@ -135,10 +115,10 @@ fileChecks b =
     ∷ []
 
 -- The deck of the file where no check failed, else the refusal.
-unfoldable pub readBy : State → Option ℕ → Read
-readBy s none = deck s
-readBy s (some n) = refusal n
+unfoldable pub readBy : Contents → Option ℕ → Read
+readBy c none = deck c
+readBy c (some n) = refusal n
 
 -- Reading a file (SPEC 8.2).
 unfoldable pub readFile : List ℕ → Read
-readFile b = readBy (fileState b) (firstFailed (fileChecks b))
+readFile b = readBy (fileContents b) (firstFailed (fileChecks b))

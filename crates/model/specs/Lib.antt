@@ -1,6 +1,7 @@
 pub mod Call
 pub mod CallRefusal
 pub mod Choice
+pub mod Contents
 pub mod Decks
 pub mod Example
 pub mod File
@@ -9,6 +10,7 @@ pub mod OctantClaim
 pub mod Question
 pub mod Refusal
 pub mod Round
+pub mod Sections
 pub mod Session
 pub mod State
 pub mod Table

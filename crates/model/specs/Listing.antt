@@ -8,9 +8,10 @@ use Rattle.arrays.specs.Text.{bytes, byte}
 use Rattle.plane.specs.Point.{Point}
 use Rattle.plane.specs.Edge.{Edge, edgeLength}
 use Rattle.model.specs.State.{State}
+use Rattle.model.specs.Contents.{Contents}
 use Rattle.model.specs.Question.{listed, lengthOfState, pinCount, steinerCount}
 use Rattle.model.specs.File.{Read, deck, refusal, readFile}
-use Rattle.model.specs.Round.{finish}
+use Rattle.model.specs.Call.{runToEnd, step}
 
 -- The decimal digits of n in ASCII in front of a text; k bounds their number.
 unfoldable pub digitsFrom : ℕ → ℕ → List ℕ → List ℕ
@@ -74,9 +75,9 @@ runLines [] = []
 runLines (e ∷ l) =
     runWord ++ (pointFields (e .lo) ++ (pointFields (e .hi) ++ (field (decimal (edgeLength e)) ++ (lineFeed ∷ runLines l))))
 
--- The listing of a state (SPEC 9.2).
-unfoldable pub listing : State → List ℕ
-listing s = headLine s ++ (tapLines (s .steiner) ++ runLines (listed s))
+-- The listing of the contents of a deck (SPEC 9.2).
+unfoldable pub listing : Contents → List ℕ
+listing c = let s = c .state in headLine s ++ (tapLines (s .steiner) ++ runLines (listed s))
 
 -- The line of a refusal (SPEC 9.1).
 abbrev pub refusedLine : ℕ → List ℕ
@@ -87,5 +88,5 @@ unfoldable pub listingOfFile : List ℕ → List ℕ
 listingOfFile b = answer (readFile b)
   where
     answer : Read → List ℕ
-    answer (deck s) = listing (finish s .final)
+    answer (deck c) = listing (step c runToEnd .next)
     answer (refusal n) = refusedLine n

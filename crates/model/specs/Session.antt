@@ -1,4 +1,4 @@
--- One claim about whole lists of calls on states (SPEC 6). Demand 3 rests on it.
+-- One claim about whole lists of calls on the contents of a deck (SPEC 6). Demand 3 rests on it.
 use mathlib.Core.Path.{_≡_}
 use mathlib.Core.Logic.{_↔_}
 use mathlib.Core.List.{List, _∷_, List·Memᴰ}
@@ -9,16 +9,17 @@ use Rattle.plane.specs.Point.{Point, lower}
 use Rattle.plane.specs.Edge.{Edge, planar}
 use Rattle.arrays.specs.Set.{put}
 use Rattle.model.specs.Tree.{lengthOf, treeLength}
-use Rattle.model.specs.State.{State, empty, points, Valid}
+use Rattle.model.specs.State.{State, points, Valid}
+use Rattle.model.specs.Contents.{Contents, emptyContents, ValidContents}
 use Rattle.model.specs.Round.{finished, tap, candidates, round, finish}
-use Rattle.model.specs.Call.{Call, stateAfter}
+use Rattle.model.specs.Call.{Call, contentsAfter}
 use Rattle.model.specs.Question.{treeOf, lengthOfState}
 use Rattle.model.specs.File.{deck, readFile}
 
--- What a list of calls starts from (SPEC 6.1): the empty state, or that of a file that is taken.
-pub data StartState : State → Type 0 where
-  fresh : StartState empty
-  file : (b : List ℕ) {s : State} → readFile b ≡ deck s → StartState s
+-- What a list of calls starts from (SPEC 6.1): a deck that holds nothing, or that of a file that is taken.
+pub data StartContents : Contents → Type 0 where
+  fresh : StartContents emptyContents
+  file : (b : List ℕ) {c : Contents} → readFile b ≡ deck c → StartContents c
 
 -- Rounds alone lead from s to r, where the round is finished (SPEC 6.4). k of them add a tap, and one that its own sweep takes out counts.
 pub data RoundsTo : State → ℕ → State → Type 0 where
@@ -53,6 +54,11 @@ pub record SessionState (s : State) : Type 0 where
   pub length-fits : lengthOfState s ≤ longestTree
   pub round-fits : (c : Point) → List·Memᴰ c (candidates (points s)) → treeLength (put lower c (points s)) ≤ longestTree
 
+-- What holds of contents that a list of calls leads to: they are valid, and their state is as said.
+pub record SessionContents (c : Contents) : Type 0 where
+  pub valid : ValidContents c
+  pub state : SessionState (c .state)
+
 -- The claim (SPEC 6.2 to 6.4): after any list of calls, refused ones too, from an empty deck or an accepted file.
 abbrev pub Sessions : Type 0
-Sessions = (s : State) → StartState s → (calls : List Call) → SessionState (stateAfter s calls)
+Sessions = (c : Contents) → StartContents c → (calls : List Call) → SessionContents (contentsAfter c calls)

@@ -4,6 +4,7 @@
 use mathlib.Core.List.{[], _∷_, _++_}
 use lib.ListN.{replicate}
 use Rattle.arrays.specs.Text.{bytes}
+use Rattle.model.specs.Contents.{holding}
 use Rattle.model.specs.File.{deck, refusal}
 use Rattle.model.specs.Decks.{TableRow, fileRow, pair, point}
 
@@ -125,7 +126,7 @@ fullFile =
     fileRow
     (bytes "DECK" ++ (3 ∷ 0 ∷ []) ++ pair 30 8 ++ pair 38 0 ++ pair 38 2
     ++ (0 ∷ 0 ∷ 0 ∷ 0 ∷ 0 ∷ 0 ∷ 1 ∷ 0 ∷ []) ++ (0 ∷ 1 ∷ []))
-    (deck (record { pins = point 0 0 ∷ point 0 1 ∷ []; steiner = [] }))
+    (deck (holding (point 0 0 ∷ point 0 1 ∷ []) []))
 
 -- The same two pins in a plain file.
 unfoldable pub plainFile : TableRow
@@ -133,4 +134,4 @@ plainFile =
     fileRow
     (bytes "DECK" ++ (3 ∷ 0 ∷ []) ++ pair 30 8 ++ pair 38 0 ++ pair 38 0
     ++ (0 ∷ 0 ∷ 0 ∷ 0 ∷ 0 ∷ 0 ∷ 1 ∷ 0 ∷ []))
-    (deck (record { pins = point 0 0 ∷ point 0 1 ∷ []; steiner = [] }))
+    (deck (holding (point 0 0 ∷ point 0 1 ∷ []) []))

@@ -2,67 +2,45 @@
 use mathlib.Core.List.{[], _∷_}
 use lib.IntN.{pos, negsuc}
 use Rattle.model.specs.Call.{add, withdraw, runToEnd, done, rounds}
-use Rattle.model.specs.Decks.{DeckRow, TableRow, boxRow, point, from}
+use Rattle.model.specs.Contents.{holding}
+use Rattle.model.specs.Decks.{DeckRow, TableRow, starting, fromEmpty, trace, boxRow, point, from}
 
 -- Three pins on a line: 10 cm from the first to the last, and no tap.
 unfoldable pub threeOnALine : DeckRow
 threeOnALine =
-    record {
-      start = [];
-      calls = add (point 10 3) ∷ add (point 0 3) ∷ add (point 4 3) ∷ runToEnd ∷ [];
-      shows =
-          record {
-            replies = done ∷ done ∷ done ∷ rounds 0 ∷ [];
-            lengths = 0 ∷ 0 ∷ 10 ∷ 10 ∷ 10 ∷ [];
-            last = record { pins = point 0 3 ∷ point 4 3 ∷ point 10 3 ∷ []; steiner = [] };
-            runs = from (point 0 3) (point 4 3) ∷ from (point 4 3) (point 10 3) ∷ [];
-          };
-    }
+    fromEmpty (add (point 10 3) ∷ add (point 0 3) ∷ add (point 4 3) ∷ runToEnd ∷ [])
+    (trace (done ∷ done ∷ done ∷ rounds 0 ∷ [])
+    (0 ∷ 0 ∷ 10 ∷ 10 ∷ 10 ∷ [])
+    (holding (point 0 3 ∷ point 4 3 ∷ point 10 3 ∷ []) [])
+    (from (point 0 3) (point 4 3) ∷ from (point 4 3) (point 10 3) ∷ []))
 
 -- Two of them share an x: the tap stands on it, at the y of the third.
 unfoldable pub twoOnOneX : DeckRow
 twoOnOneX =
-    record {
-      start = [];
-      calls = add (point 0 10) ∷ add (point 0 0) ∷ add (point 7 4) ∷ runToEnd ∷ [];
-      shows =
-          record {
-            replies = done ∷ done ∷ done ∷ rounds 1 ∷ [];
-            lengths = 0 ∷ 0 ∷ 10 ∷ 21 ∷ 17 ∷ [];
-            last = record { pins = point 0 0 ∷ point 0 10 ∷ point 7 4 ∷ []; steiner = point 0 4 ∷ [] };
-            runs = from (point 0 0) (point 0 4) ∷ from (point 0 4) (point 0 10) ∷ from (point 0 4) (point 7 4) ∷ [];
-          };
-    }
+    fromEmpty (add (point 0 10) ∷ add (point 0 0) ∷ add (point 7 4) ∷ runToEnd ∷ [])
+    (trace (done ∷ done ∷ done ∷ rounds 1 ∷ [])
+    (0 ∷ 0 ∷ 10 ∷ 21 ∷ 17 ∷ [])
+    (holding (point 0 0 ∷ point 0 10 ∷ point 7 4 ∷ []) (point 0 4 ∷ []))
+    (from (point 0 0) (point 0 4) ∷ from (point 0 4) (point 0 10) ∷ from (point 0 4) (point 7 4) ∷ []))
 
 -- The middle point, with the middle x and the middle y of the three, is a pin: no tap.
 unfoldable pub middleIsPin : DeckRow
 middleIsPin =
-    record {
-      start = [];
-      calls = add (point 4 6) ∷ add (point 9 11) ∷ add (point 0 0) ∷ runToEnd ∷ [];
-      shows =
-          record {
-            replies = done ∷ done ∷ done ∷ rounds 0 ∷ [];
-            lengths = 0 ∷ 0 ∷ 10 ∷ 20 ∷ 20 ∷ [];
-            last = record { pins = point 0 0 ∷ point 4 6 ∷ point 9 11 ∷ []; steiner = [] };
-            runs = from (point 0 0) (point 4 6) ∷ from (point 4 6) (point 9 11) ∷ [];
-          };
-    }
+    fromEmpty (add (point 4 6) ∷ add (point 9 11) ∷ add (point 0 0) ∷ runToEnd ∷ [])
+    (trace (done ∷ done ∷ done ∷ rounds 0 ∷ [])
+    (0 ∷ 0 ∷ 10 ∷ 20 ∷ 20 ∷ [])
+    (holding (point 0 0 ∷ point 4 6 ∷ point 9 11 ∷ []) [])
+    (from (point 0 0) (point 4 6) ∷ from (point 4 6) (point 9 11) ∷ []))
 
 -- A tap that a withdrawal leaves away from the middle point: 6 cm, and 5 after a run to the end.
 unfoldable pub tapOffMiddle : DeckRow
 tapOffMiddle =
-    record {
-      start = point 0 0 ∷ point 0 1 ∷ point 2 2 ∷ point 3 0 ∷ [];
-      calls = runToEnd ∷ withdraw (point 0 0) ∷ runToEnd ∷ [];
-      shows =
-          record {
-            replies = rounds 1 ∷ done ∷ rounds 1 ∷ [];
-            lengths = 7 ∷ 6 ∷ 6 ∷ 5 ∷ [];
-            last = record { pins = point 0 1 ∷ point 2 2 ∷ point 3 0 ∷ []; steiner = point 2 1 ∷ [] };
-            runs = from (point 0 1) (point 2 1) ∷ from (point 2 1) (point 2 2) ∷ from (point 2 1) (point 3 0) ∷ [];
-          };
-    }
+    starting (point 0 0 ∷ point 0 1 ∷ point 2 2 ∷ point 3 0 ∷ [])
+    (runToEnd ∷ withdraw (point 0 0) ∷ runToEnd ∷ [])
+    (trace (rounds 1 ∷ done ∷ rounds 1 ∷ [])
+    (7 ∷ 6 ∷ 6 ∷ 5 ∷ [])
+    (holding (point 0 1 ∷ point 2 2 ∷ point 3 0 ∷ []) (point 2 1 ∷ []))
+    (from (point 0 1) (point 2 1) ∷ from (point 2 1) (point 2 2) ∷ from (point 2 1) (point 3 0) ∷ []))
 
 -- The half perimeters of the boxes around these pins.
 unfoldable pub boxOfLine : TableRow

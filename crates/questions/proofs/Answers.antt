@@ -17,7 +17,8 @@ use Rattle.plane.specs.Edge.{Edge as PlaneEdge, planar}
 use Rattle.plane.proofs.Order.{lower-order}
 use Rattle.arrays.specs.Set.{has}
 use Rattle.model.specs.Tree.{mst, edgesAt}
-use Rattle.model.specs.State.{State, points, Placed, Valid}
+use Rattle.model.specs.State.{State, points, Placed}
+use Rattle.model.specs.Contents.{Contents, ValidContents}
 use Rattle.model.specs.Question as question
 use Rattle.arrays.proofs.Set.{has-in}
 use Rattle.model.proofs.Tree.{mst-run-tree, tree-edges}
@@ -27,7 +28,7 @@ use Rattle.tree.specs.Keys.{keyGraph}
 use Rattle.arrays.specs.Array.{indexOf}
 use Rattle.plane.specs.Code.{pointOf, isCode}
 use Rattle.working.specs.declared.Working.{Working}
-use Rattle.working.specs.InOrder.{InOrder, stateOf}
+use Rattle.working.specs.InOrder.{InOrder, stateOf, contentsOf}
 use Rattle.plane.proofs.codes.Sets.{points-has}
 use Rattle.working.proofs.InOrder.{all-codes, all-points, arranged-placed}
 use Rattle.points.proofs.Coded.{pins-count, steiner-count}
@@ -51,9 +52,10 @@ none-at s rise p n =
     ends : (e : PlaneEdge) → List·Memᴰ e (mst (points s)) → List·Memᴰ (e .lo) (points s) × List·Memᴰ (e .hi) (points s)
     ends e i = unfold planar in mst-run-tree (points s) (points-rise s rise) .tree .ends e i
 
-pub none-beyond : (s : State) → Valid s → (p : Point) → inRange p ≡ false → 0 ≡ question.edgeCountAt p s
-none-beyond s v p e =
-    sym (none-at s (v .placed .steinerRise) p (λ i. subst T e (⊎-elim (v .placed .pinsRange p) (v .placed .steinerRange p) (points-in s p .0 i))))
+pub none-beyond : (c : Contents) → ValidContents c → (p : Point) → inRange p ≡ false → 0 ≡ question.edgeCountAt p (c .state)
+none-beyond c v p e =
+    let h = v .state .placed in
+    sym (none-at (c .state) (h .steinerRise) p (λ i. subst T e (⊎-elim (h .pinsRange p) (h .steinerRange p) (points-in (c .state) p .0 i))))
 
 -- A working form: its counts, and the edges at a code.
 module _ (w : Working) (p : InOrder w) where
@@ -62,7 +64,7 @@ module _ (w : Working) (p : InOrder w) where
       ap (has ltb k) (p .codes) ∙ points-has k t _ (all-codes (w .points) (p .arranged))
       ∙ ap (has lower (pointOf k)) (all-points (w .points) (p .arranged))
 
-  pub counts-answer : Counts (w .points .npins) (w .points .nsteiner) (w .nkeys) ≡ countsAnswer (stateOf w)
+  pub counts-answer : Counts (w .points .npins) (w .points .nsteiner) (w .nkeys) ≡ countsAnswer (contentsOf w)
   counts-answer = λ i. Counts (sym (pins-count (w .points) (p .arranged)) i) (sym (steiner-count (w .points) (p .arranged)) i) (edge-count w p i)
 
   pub degree-none : (k : ℕ) → T (isCode k) → has ltb k (take (w .npoints) (w .codes)) ≡ false → 0 ≡ question.edgeCountAt (pointOf k) (stateOf w)
@@ -91,14 +93,17 @@ edge-there s i e f =
     ap (Edge (p .lo .x) (p .lo .y) (p .hi .x) (p .hi .y)) (f .measured) ∙ ap edgeOrNone (sym (f .there))
 
 -- The counts, the places that have an edge, and a point that is not held, by the points alone: a tree has one edge less than points.
-module _ (s : State) (p : Placed s) where
+module _ (c : Contents) (p : Placed (c .state)) where
+  abbrev s : State
+  s = c .state
+
   edge-number : question.edgeCount s ≡ length (points s) - 1
   edge-number = tree-edges (points s) (points-rise s (p .steinerRise))
 
-  pub counts-are : countsAnswer s ≡ Counts (length (s .pins)) (length (s .steiner)) (length (points s) - 1)
+  pub counts-are : countsAnswer c ≡ Counts (length (s .pins)) (length (s .steiner)) (length (points s) - 1)
   counts-are = ap (Counts (length (s .pins)) (length (s .steiner))) edge-number
 
-  pub beyond-last : (i : ℕ) → (edgeAtAnswer i s ≡ NoEdge) ↔ (length (points s) - 1 ≤ i)
+  pub beyond-last : (i : ℕ) → (edgeAtAnswer i c ≡ NoEdge) ↔ (length (points s) - 1 ≤ i)
   unfolding edgeOrNone
   beyond-last i = (
     λ e. go (decLe (length (question.listed s)) i) e,
@@ -110,12 +115,12 @@ module _ (s : State) (p : Placed s) where
       within (a ∷ l) zero h = (a, refl)
       within (a ∷ l) (suc i) h = within l i (omega arith)
 
-      go : Dec (length (question.listed s) ≤ i) → edgeAtAnswer i s ≡ NoEdge → length (points s) - 1 ≤ i
+      go : Dec (length (question.listed s) ≤ i) → edgeAtAnswer i c ≡ NoEdge → length (points s) - 1 ≤ i
       go (yes h) e = omega (arith, listed-count s p, edge-number, h)
       go (no n) e =
           let m = within (question.listed s) i (omega arith) in
           let q : edgeAnswer (m .0) ≡ NoEdge = sym (ap edgeOrNone (m .1)) ∙ e in
           absurd (let z : _≡_ {A = ℕ} 0 1 = cc in omega arith)
 
-  pub none-held : (q : Point) → ¬ List·Memᴰ q (points s) → degreeAnswer q s ≡ Degree 0
+  pub none-held : (q : Point) → ¬ List·Memᴰ q (points s) → degreeAnswer q c ≡ Degree 0
   none-held q n = ap Degree (none-at s (p .steinerRise) q n)

@@ -3,7 +3,7 @@ use mathlib.Core.Option.{Option, none, some}
 use Prim.Native.Nat.{ℕ}
 use Rattle.plane.specs.Point.{Point}
 use Rattle.plane.specs.Edge.{Edge as PlaneEdge, edgeLength}
-use Rattle.model.specs.State.{State}
+use Rattle.model.specs.Contents.{Contents}
 use Rattle.model.specs.Question as question
 use Rattle.working.specs.declared.edges.CodedEdge.{CodedEdge}
 use Rattle.working.specs.Edges.{edgeOf}
@@ -11,12 +11,12 @@ use Rattle.questions.specs.declared.Answer.{Answer}
 use Rattle.questions.specs.declared.Answer.the-variants.{Length, Counts, Edge, NoEdge, Degree}
 
 -- The length of the deck.
-abbrev pub lengthAnswer : State → Answer
-lengthAnswer s = Length (question.lengthOfState s)
+abbrev pub lengthAnswer : Contents → Answer
+lengthAnswer c = Length (question.lengthOfState (c .state))
 
 -- How many pins, taps and runs it has.
-abbrev pub countsAnswer : State → Answer
-countsAnswer s = Counts (question.pinCount s) (question.steinerCount s) (question.edgeCount s)
+abbrev pub countsAnswer : Contents → Answer
+countsAnswer c = let s = c .state in Counts (question.pinCount s) (question.steinerCount s) (question.edgeCount s)
 
 -- A run, by its lower end, its higher end and its length.
 abbrev pub edgeAnswer : PlaneEdge → Answer
@@ -32,12 +32,12 @@ edgeOrNone none = NoEdge
 edgeOrNone (some e) = edgeAnswer e
 
 -- The run at a place of the listing order, counted from 0; beyond the last there is none.
-abbrev pub edgeAtAnswer : ℕ → State → Answer
-edgeAtAnswer i s = edgeOrNone (question.edgeAtPlace i s)
+abbrev pub edgeAtAnswer : ℕ → Contents → Answer
+edgeAtAnswer i c = edgeOrNone (question.edgeAtPlace i (c .state))
 
 -- How many runs a point has; none if the deck does not hold it.
-abbrev pub degreeAnswer : Point → State → Answer
-degreeAnswer p s = Degree (question.edgeCountAt p s)
+abbrev pub degreeAnswer : Point → Contents → Answer
+degreeAnswer p c = Degree (question.edgeCountAt p (c .state))
 
 -- A question as data: the length, the counts, the edge at a place, the number of edges at a point.
 pub data Question : Type 0 where
@@ -46,9 +46,9 @@ pub data Question : Type 0 where
   ofEdge : ℕ → Question
   ofDegree : Point → Question
 
--- Its answer for a state.
-abbrev pub answerTo : Question → State → Answer
-answerTo ofLength s = lengthAnswer s
-answerTo ofCounts s = countsAnswer s
-answerTo (ofEdge i) s = edgeAtAnswer i s
-answerTo (ofDegree p) s = degreeAnswer p s
+-- Its answer for the contents of a deck.
+abbrev pub answerTo : Question → Contents → Answer
+answerTo ofLength c = lengthAnswer c
+answerTo ofCounts c = countsAnswer c
+answerTo (ofEdge i) c = edgeAtAnswer i c
+answerTo (ofDegree p) c = degreeAnswer p c

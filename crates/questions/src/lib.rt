@@ -8,10 +8,10 @@ use working::edges::CodedEdge;
 use working::edges::edge_numbers;
 ghost use mathlib.Core.Path.{_≡_};
 ghost use lib.Dec.{T};
-ghost use Rattle.model.specs.State.{Valid};
+ghost use Rattle.model.specs.Contents.{ValidContents};
 ghost use Rattle.model.specs.Question as question;
 ghost use Rattle.plane.specs.Code.{pointOf, isCode};
-ghost use Rattle.working.specs.InOrder.{InOrder, stateOf};
+ghost use Rattle.working.specs.InOrder.{InOrder, stateOf, contentsOf};
 ghost use Rattle.questions.specs.Answers.{lengthAnswer, countsAnswer, codedAnswer, edgeAtAnswer, degreeAnswer};
 
 // What a question answers: a refusal by its number; the length; the counts of pins, Steiner points and edges; an edge by its
@@ -57,7 +57,7 @@ fn degree_of(w: Working, k: u64) -> usize
 // Returns the length of the tree.
 pub fn length(w: Working) -> Answer
     requires { ⌜ InOrder w ⌝ }
-    ensures { λ r. ⌜ r ≡ lengthAnswer (stateOf w) ⌝ }
+    ensures { λ r. ⌜ r ≡ lengthAnswer (contentsOf w) ⌝ }
 {
     Answer::Length(rounds::length_of(w))
 }
@@ -65,7 +65,7 @@ pub fn length(w: Working) -> Answer
 // Returns the numbers of pins, Steiner points and edges.
 pub fn counts(w: Working) -> Answer
     requires { ⌜ InOrder w ⌝ }
-    ensures { λ r. ⌜ r ≡ countsAnswer (stateOf w) ⌝ }
+    ensures { λ r. ⌜ r ≡ countsAnswer (contentsOf w) ⌝ }
 {
     Answer::Counts(
         w.points.npins as u64,
@@ -77,7 +77,7 @@ pub fn counts(w: Working) -> Answer
 // Returns the edge at a place of the listing order, counted from 0, or that there is none.
 pub fn edge_at(w: Working, i: usize) -> Answer
     requires { ⌜ InOrder w ⌝ }
-    ensures { λ r. ⌜ r ≡ edgeAtAnswer i (stateOf w) ⌝ }
+    ensures { λ r. ⌜ r ≡ edgeAtAnswer i (contentsOf w) ⌝ }
 {
     if w.nkeys <= i {
         return Answer::NoEdge;
@@ -89,8 +89,8 @@ pub fn edge_at(w: Working, i: usize) -> Answer
 // Returns how many edges a point has, 0 where it is not held.
 pub fn degree_at(w: Working, x: i32, y: i32) -> Answer
     requires { ⌜ InOrder w ⌝ }
-    requires { ⌜ Valid (stateOf w) ⌝ }
-    ensures { λ r. ⌜ r ≡ degreeAnswer (record { x = x; y = y }) (stateOf w) ⌝ }
+    requires { ⌜ ValidContents (contentsOf w) ⌝ }
+    ensures { λ r. ⌜ r ≡ degreeAnswer (record { x = x; y = y }) (contentsOf w) ⌝ }
 {
     match locate(x, y) {
         Located::OutOfRange => Answer::Degree(0),

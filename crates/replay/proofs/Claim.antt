@@ -11,5 +11,5 @@ pub replayed : (b calls l : List ℕ) → Replayed b calls l
 replayed b calls l =
     record {
       entered = entered (startOf b) (start-possible b) (callsOf calls) l;
-      back = λ s e. answer-read s (possible-valid (startOf b) (start-possible b) s e) (callsOf calls);
+      back = λ c e. answer-read c (possible-valid (startOf b) (start-possible b) c e) (callsOf calls);
     }

@@ -7,7 +7,7 @@ use lib.IntN.{ℤ, subℕ}
 use Rattle.arrays.specs.Number.{number4}
 use Rattle.arrays.specs.Test.{if}
 use Rattle.plane.specs.Point.{Point}
-use Rattle.model.specs.State.{empty}
+use Rattle.model.specs.Contents.{emptyContents}
 use Rattle.model.specs.Call.{Call, add, withdraw, oneRound, runToEnd}
 use Rattle.model.specs.File.{Read, deck, readFile}
 
@@ -39,5 +39,5 @@ callsOf b = firstCalls (length b / 12) b
 
 -- A list starts from the deck of a file, or from an empty deck where there are no bytes (SPEC 10.2).
 unfoldable pub startOf : List ℕ → Read
-startOf [] = deck empty
+startOf [] = deck emptyContents
 startOf (a ∷ b) = readFile (a ∷ b)

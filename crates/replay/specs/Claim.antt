@@ -2,8 +2,8 @@
 use mathlib.Core.Path.{_≡_}
 use mathlib.Core.List.{List}
 use Prim.Native.Nat.{ℕ}
-use Rattle.model.specs.State.{State}
-use Rattle.model.specs.Call.{stateAfter}
+use Rattle.model.specs.Contents.{Contents}
+use Rattle.model.specs.Call.{contentsAfter}
 use Rattle.model.specs.File.{deck, fileOf}
 use Rattle.deck.specs.Form.{deckOf}
 use Rattle.deck.specs.Session.{deckAfter}
@@ -15,4 +15,5 @@ use Rattle.replay.specs.Calls.{callsOf, startOf}
 -- file that it writes is read as the deck after the calls.
 pub record Replayed (b calls l : List ℕ) : Type 0 where
   pub entered : Entered (startOf b) (callsOf calls) l
-  pub back : (s : State) → startOf b ≡ deck s → reading (fileOf (stateAfter s (callsOf calls))) ≡ acceptedDeck (deckAfter (deckOf s) (callsOf calls))
+  pub back : (c : Contents) → startOf b ≡ deck c
+      → reading (fileOf (contentsAfter c (callsOf calls))) ≡ acceptedDeck (deckAfter (deckOf c) (callsOf calls))

@@ -2,7 +2,7 @@
 use mathlib.Core.Path.{_≡_}
 use mathlib.Core.Bool.{Bool, _&&_}
 use mathlib.Core.List.{List, [], _∷_, _++_, map}
-use Prim.Native.Nat.{ℕ, _+_, _*_}
+use Prim.Native.Nat.{ℕ, _+_, _*_, _-_, _/_}
 use lib.Dec.{T, ltb}
 use lib.ListN.{length, take, drop, getD}
 use Rattle.arrays.specs.Test.{if}
@@ -10,7 +10,8 @@ use Rattle.plane.specs.Point.{Point, inRange}
 use Rattle.plane.specs.Coordinate.{signed16}
 use Rattle.arrays.specs.Set.{rising}
 use Rattle.model.specs.State.{maxPins, placed}
-use Rattle.model.specs.File.{pointsOf, fileState}
+use Rattle.model.specs.Sections.{headerSize}
+use Rattle.model.specs.File.{fewestSections, longest, pointsOf, fileState}
 use Rattle.points.specs.Coded.{padded}
 use Rattle.sections.specs.declared.codes.FilePoints.{FilePoints}
 use Rattle.plane.specs.Code.{code}
@@ -37,9 +38,9 @@ decoded ps old = codesInFront ps ++ drop (length (codesInFront ps)) old
 abbrev pub placedCodes : List ℕ → List ℕ → Bool
 placedCodes pins steiner = rising ltb pins && (rising ltb steiner && noneIn steiner pins)
 
--- Places for all Steiner points that a file can show.
+-- Places for all points that a file can show.
 abbrev pub filePlaces : ℕ
-filePlaces = 192
+filePlaces = (longest - headerSize fewestSections) / 4
 
 -- Check 5, and the codes of the points that the file shows where it passes.
 pub record Decodes (b : List ℕ) (r : FilePoints) : Type 0 where

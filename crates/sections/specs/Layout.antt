@@ -1,18 +1,22 @@
 -- What checks 1 to 4 leave (SPEC 8.2): where the sections of a file stand.
 use mathlib.Core.Path.{_≡_}
 use mathlib.Core.List.{List}
-use Prim.Native.Nat.{ℕ, _+_, _%_, _≤_}
+use Prim.Native.Nat.{ℕ, suc, _+_, _%_, _≤_}
 use lib.ListN.{length}
-use Rattle.model.specs.File.{offset, size}
+use Rattle.model.specs.Sections.{headerSize, offset, size, Follow}
+use Rattle.model.specs.File.{fewestSections, longest}
 
--- What checks 1 to 3 leave: the places and lengths of the three sections.
+-- Section k lies within the file, as its pair does, and consists of whole points.
+pub record PointSection (b : List ℕ) (k : ℕ) : Type 0 where
+  pub pair : headerSize (suc k) ≤ length b
+  pub within : offset b k + size b k ≤ length b
+  pub whole : size b k % 4 ≡ 0
+
+-- What checks 1 to 3 leave: the places and lengths of the sections.
 pub record Sections (b : List ℕ) : Type 0 where
-  pub long : 30 ≤ length b
-  pub short : length b ≤ 784
-  pub offset₀ : offset b 0 ≡ 30
-  pub offset₁ : offset b 1 ≡ 30 + size b 0
-  pub offset₂ : offset b 2 ≡ 30 + size b 0 + size b 1
-  pub total : length b ≡ 30 + size b 0 + size b 1 + size b 2
+  pub long : headerSize fewestSections ≤ length b
+  pub short : length b ≤ longest
+  pub follow : Follow b (headerSize fewestSections) 0 fewestSections
   pub whole₀ : size b 0 % 4 ≡ 0
   pub whole₁ : size b 1 % 4 ≡ 0
   pub whole₂ : size b 2 % 2 ≡ 0

@@ -1,24 +1,28 @@
 // The sections of points: check 5.
-use super::header::HEADER;
-use super::header::PINS_LENGTH;
+use super::header::LONGEST;
+use super::header::PINS;
 use super::header::POINT_SIZE;
-use super::header::STEINER_LENGTH;
-use arrays::number::number4;
+use super::header::SHORTEST;
+use super::header::STEINER;
+use super::header::offset;
+use super::header::size;
 use plane::codes::Located;
 use plane::codes::locate;
 use plane::from_bytes;
 use points::MAX_PINS;
 ghost use mathlib.Core.Path.{_≡_};
-ghost use Prim.Native.Nat.{_+_, _*_, _≤_};
+ghost use Prim.Native.Nat.{_+_, _*_, _/_, _≤_, _<_};
 ghost use lib.ListN.{length, take};
 ghost use Rattle.plane.specs.Point.{inRange};
 ghost use Rattle.plane.specs.Code.{located};
 ghost use Rattle.arrays.specs.Set.{all};
+ghost use Rattle.model.specs.Sections as sections;
+ghost use Rattle.model.specs.File.{sectionPoints};
 ghost use Rattle.sections.specs.Codes.{pointIn, pointsIn, decoded, placedCodes, Decodes};
-ghost use Rattle.sections.specs.Layout.{Sections, FewPins};
+ghost use Rattle.sections.specs.Layout.{PointSection, Sections, FewPins};
 
-// Room for all Steiner points that a file can show, also more than a deck has: (784 - 30) / 4 points at most.
-const FILE_PLACES: usize = 192;
+// Room for all Steiner points that a file can show, also more than a deck has.
+const FILE_PLACES: usize = (LONGEST - SHORTEST) / POINT_SIZE;
 
 // Where the point in the four bytes from place i on is.
 fn locate_at(b: &[u8], i: usize) -> Located
@@ -28,9 +32,9 @@ fn locate_at(b: &[u8], i: usize) -> Located
     locate(from_bytes(b[i], b[i + 1]), from_bytes(b[i + 2], b[i + 3]))
 }
 
-// Returns whether the n points from place `at` on are in range. The codes of those before the first that is not, or of all, are put at
+// Whether the n points from place `at` on are in range. The codes of those before the first that is not, or of all, are put at
 // the front of `out`.
-pub fn decode(b: &[u8], at: usize, n: usize, out: &mut [u64]) -> bool
+fn decode(b: &[u8], at: usize, n: usize, out: &mut [u64]) -> bool
     requires { ⌜ (at + 4 * n ≤ length (now b)) × (n ≤ length (now out)) ⌝ }
     ensures { λ r. ⌜ r ≡ all inRange (pointsIn (now (b .entry)) at n) ⌝ }
     ensures { λ _. ⌜ now (out .exit) ≡ decoded (pointsIn (now (b .entry)) at n) (now (out .entry)) ⌝ }
@@ -48,6 +52,17 @@ pub fn decode(b: &[u8], at: usize, n: usize, out: &mut [u64]) -> bool
         i += 1;
     }
     true
+}
+
+// Whether the points of section k are in range, with their codes as `decode` puts them.
+fn decode_section(b: &[u8], k: usize, out: &mut [u64]) -> bool
+    requires { ⌜ k < 65536 ⌝ }
+    requires { ⌜ PointSection (now b) k ⌝ }
+    requires { ⌜ sections.size (now b) k / 4 ≤ length (now out) ⌝ }
+    ensures { λ r. ⌜ r ≡ all inRange (sectionPoints (now (b .entry)) k) ⌝ }
+    ensures { λ _. ⌜ now (out .exit) ≡ decoded (sectionPoints (now (b .entry)) k) (now (out .entry)) ⌝ }
+{
+    decode(b, offset(b, k), size(b, k) / POINT_SIZE, out)
 }
 
 // Whether pins and Steiner points, kept as codes, are strictly rising and apart.
@@ -72,13 +87,12 @@ pub fn decode_points(b: &[u8]) -> FilePoints
     requires { ⌜ FewPins (now b) ⌝ }
     ensures { λ r. ⌜ Decodes (now (b .entry)) r ⌝ }
 {
-    let size = number4(b, PINS_LENGTH);
-    let n = size / POINT_SIZE;
-    let m = number4(b, STEINER_LENGTH) / POINT_SIZE;
+    let n = size(b, PINS) / POINT_SIZE;
+    let m = size(b, STEINER) / POINT_SIZE;
     let mut pins = [0u64; MAX_PINS];
     let mut steiner = [0u64; FILE_PLACES];
-    let pins_ok = decode(b, HEADER, n, &mut pins);
-    let steiner_ok = decode(b, HEADER + size, m, &mut steiner);
+    let pins_ok = decode_section(b, PINS, &mut pins);
+    let steiner_ok = decode_section(b, STEINER, &mut steiner);
     let ok = pins_ok & (steiner_ok & are_placed(&pins, n, &steiner, m));
     FilePoints { ok, pins, steiner }
 }

@@ -1,96 +1,127 @@
-// The header of a file: checks 1 to 3.
+// The header of a file: the four letters, the count of sections, and a pair of offset and length for each; checks 1 to 3.
 use arrays::number::number2;
 use arrays::number::number4;
 ghost use mathlib.Core.Path.{_≡_};
-ghost use Prim.Native.Nat.{_≤_};
+ghost use Prim.Native.Nat.{suc, _≤_, _<_};
 ghost use lib.ListN.{length};
-ghost use Rattle.model.specs.File.{headerSize, headed, laidOut, whole, plain};
+ghost use Rattle.model.specs.Sections as sections;
+ghost use Rattle.model.specs.File.{fewestSections, headed, whole, plain};
 
-// Bytes of the header: DECK, the count of sections, and offset and length of each.
-pub const HEADER: usize = 30;
+// The bytes of an offset or a length, of a pair of them, and of the count.
+const NUMBER_SIZE: usize = 4;
 
-// The longest file: the header, 64 pins and 62 Steiner points, and the 125 edges of their tree.
-const LONGEST: usize = 784;
+const PAIR_SIZE: usize = NUMBER_SIZE + NUMBER_SIZE;
 
-// Where the count of sections stands, and how many there are.
+const COUNT_SIZE: usize = 2;
+
+// Where the count stands: behind the four letters. Where the first pair stands: behind the count.
 const COUNT: usize = 4;
+
+const PAIRS: usize = COUNT + COUNT_SIZE;
+
+// The sections by their numbers, and how many there are.
+pub const PINS: usize = 0;
+
+pub const STEINER: usize = 1;
+
+pub const EDGES: usize = 2;
 
 pub const SECTIONS: usize = 3;
 
-// Where the offsets and the lengths of the sections stand.
-const PINS_OFFSET: usize = 6;
-
-pub const PINS_LENGTH: usize = 10;
-
-const STEINER_OFFSET: usize = 14;
-
-pub const STEINER_LENGTH: usize = 18;
-
-pub const EDGES_OFFSET: usize = 22;
-
-pub const EDGES_LENGTH: usize = 26;
+// The shortest file: the header, and nothing in its sections.
+pub const SHORTEST: usize = PAIRS + PAIR_SIZE * SECTIONS;
 
 // Bytes of a point and of an edge.
 pub const POINT_SIZE: usize = 4;
 
 pub const EDGE_SIZE: usize = 2;
 
+// The longest file: the header, 64 pins and 62 Steiner points, and the 125 edges of their tree.
+pub const LONGEST: usize = SHORTEST + 64 * POINT_SIZE + 62 * POINT_SIZE + 125 * EDGE_SIZE;
+
+// Returns how many bytes the header of n sections has. The first section starts behind it.
+pub fn header_size(n: usize) -> usize
+    requires { ⌜ n < 65536 ⌝ }
+    ensures { λ r. ⌜ r ≡ sections.headerSize n ⌝ }
+{
+    PAIRS + PAIR_SIZE * n
+}
+
+// Returns the offset of section k, whose pair is there.
+pub fn offset(b: &[u8], k: usize) -> usize
+    requires { ⌜ (k < 65536) × (sections.headerSize (suc k) ≤ length (now b)) ⌝ }
+    ensures { λ r. ⌜ (r ≡ sections.offset (now (b .entry)) k) × (r < 4294967296) ⌝ }
+{
+    number4(b, header_size(k))
+}
+
+// Returns the length of section k, whose pair is there.
+pub fn size(b: &[u8], k: usize) -> usize
+    requires { ⌜ (k < 65536) × (sections.headerSize (suc k) ≤ length (now b)) ⌝ }
+    ensures { λ r. ⌜ (r ≡ sections.size (now (b .entry)) k) × (r < 4294967296) ⌝ }
+{
+    number4(b, header_size(k) + NUMBER_SIZE)
+}
+
 // Check 1 (SPEC 8.2): returns whether the length of the file, its first four bytes and its number of sections are right.
 pub fn is_headed(b: &[u8]) -> bool
     ensures { λ r. ⌜ r ≡ headed (now (b .entry)) ⌝ }
 {
-    if b.len() < HEADER {
+    if b.len() < SHORTEST {
         return false;
     }
     if LONGEST < b.len() {
         return false;
     }
-    if !arrays::same::same_bytes(&b[..4], b"DECK") {
+    if !arrays::same::same_bytes(&b[..COUNT], b"DECK") {
         return false;
     }
     number2(b, COUNT) == SECTIONS
 }
 
-// Check 2 (SPEC 8.2): returns whether the sections follow the header and one another, up to the end of the file.
+// Check 2 (SPEC 8.2): returns whether there are bytes for all the pairs, and the sections follow the header and one another, up to the end
+// of the file.
 pub fn is_laid_out(b: &[u8]) -> bool
-    requires { ⌜ headerSize ≤ length (now b) ⌝ }
-    ensures { λ r. ⌜ r ≡ laidOut (now (b .entry)) ⌝ }
+    requires { ⌜ sections.headerSize fewestSections ≤ length (now b) ⌝ }
+    ensures { λ r. ⌜ r ≡ sections.laidOut (now (b .entry)) ⌝ }
 {
-    let second = number4(b, STEINER_OFFSET);
-    let third = number4(b, EDGES_OFFSET);
-    if number4(b, PINS_OFFSET) != HEADER {
+    let n = number2(b, COUNT);
+    let mut at = header_size(n);
+    if b.len() < at {
         return false;
     }
-    if second != HEADER + number4(b, PINS_LENGTH) {
-        return false;
+    let mut k = 0;
+    while k < n {
+        if offset(b, k) != at {
+            return false;
+        }
+        at += size(b, k);
+        k += 1;
     }
-    if third != second + number4(b, STEINER_LENGTH) {
-        return false;
-    }
-    b.len() == third + number4(b, EDGES_LENGTH)
+    at == b.len()
 }
 
 // Check 3 (SPEC 8.2): returns whether the sections consist of whole points and whole runs.
 pub fn is_whole(b: &[u8]) -> bool
-    requires { ⌜ headerSize ≤ length (now b) ⌝ }
+    requires { ⌜ sections.headerSize fewestSections ≤ length (now b) ⌝ }
     ensures { λ r. ⌜ r ≡ whole (now (b .entry)) ⌝ }
 {
-    if number4(b, PINS_LENGTH) % POINT_SIZE != 0 {
+    if size(b, PINS) % POINT_SIZE != 0 {
         return false;
     }
-    if number4(b, STEINER_LENGTH) % POINT_SIZE != 0 {
+    if size(b, STEINER) % POINT_SIZE != 0 {
         return false;
     }
-    number4(b, EDGES_LENGTH) % EDGE_SIZE == 0
+    size(b, EDGES) % EDGE_SIZE == 0
 }
 
 // Returns whether the file is plain (SPEC 7.4): it has no taps and no runs.
 pub fn is_plain(b: &[u8]) -> bool
-    requires { ⌜ headerSize ≤ length (now b) ⌝ }
+    requires { ⌜ sections.headerSize fewestSections ≤ length (now b) ⌝ }
     ensures { λ r. ⌜ r ≡ plain (now (b .entry)) ⌝ }
 {
-    if number4(b, STEINER_LENGTH) != 0 {
+    if size(b, STEINER) != 0 {
         return false;
     }
-    number4(b, EDGES_LENGTH) == 0
+    size(b, EDGES) == 0
 }

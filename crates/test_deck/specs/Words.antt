@@ -1,20 +1,47 @@
--- A deck as 322 words: 64 places for pins, their number, 128 for Steiner points, their number, 128 for the ends of edges.
+-- A deck as words, part behind part.
 use mathlib.Core.List.{List, _∷_, _++_}
-use Prim.Native.Nat.{ℕ}
+use Prim.Native.Nat.{ℕ, _+_}
 use lib.ListN.{take, drop, getD}
 use Rattle.deck.specs.declared.Deck.{Deck}
+
+-- How many words there are for pins, for Steiner points and for the ends of edges.
+abbrev pub pinPlaces : ℕ
+pinPlaces = 64
+
+abbrev pub steinerPlaces : ℕ
+steinerPlaces = 128
+
+abbrev pub endPlaces : ℕ
+endPlaces = 128
+
+-- The word with the number of pins, the first of the Steiner points, that with their number, and the first of the ends: each behind the part
+-- in front of it, and the pins first. The number of all words.
+abbrev pub pinCountWord : ℕ
+pinCountWord = pinPlaces
+
+abbrev pub steinerWord : ℕ
+steinerWord = pinCountWord + 1
+
+abbrev pub steinerCountWord : ℕ
+steinerCountWord = steinerWord + steinerPlaces
+
+abbrev pub endsWord : ℕ
+endsWord = steinerCountWord + 1
+
+abbrev pub wordCount : ℕ
+wordCount = endsWord + endPlaces
 
 -- The deck that stands in the words.
 abbrev pub deckIn : List ℕ → Deck
 deckIn w =
     record {
       points = record {
-        pins = take 64 w;
-        npins = getD w 64 0;
-        steiner = take 128 (drop 65 w);
-        nsteiner = getD w 193 0;
+        pins = take pinPlaces w;
+        npins = getD w pinCountWord 0;
+        steiner = take steinerPlaces (drop steinerWord w);
+        nsteiner = getD w steinerCountWord 0;
       };
-      ends = take 128 (drop 194 w);
+      ends = take endPlaces (drop endsWord w);
     }
 
 -- The words of a deck.

@@ -1,13 +1,13 @@
 // The calls. The deck handed back stands in the words where the one handed in stood; the answer is the kind of the reply.
 use super::parts::parts_of_reply;
 use super::parts::put_parts;
-use super::words::WORDS;
+use super::places::WORDS;
 use super::words::deck_in;
 use super::words::put_deck;
 use deck::Deck;
 use deck::Outcome;
 ghost use mathlib.Core.Path.{_≡_};
-ghost use Rattle.model.specs.State as state;
+ghost use Rattle.model.specs.Contents.{emptyContents};
 ghost use Rattle.model.specs.Call as call;
 ghost use Rattle.deck.specs.Form.{deckOf};
 ghost use Rattle.deck.specs.Calls.{called};
@@ -17,7 +17,7 @@ ghost use Rattle.test_deck.specs.Parts.{partsIn, Holds};
 // Puts the empty deck into the words. Returns nothing.
 #[no_mangle]
 pub extern "C" fn entry_empty(words: &mut [u64; WORDS])
-    ensures { λ _. ⌜ deckIn (now (words .exit)) ≡ deckOf state.empty ⌝ }
+    ensures { λ _. ⌜ deckIn (now (words .exit)) ≡ deckOf emptyContents ⌝ }
 {
     put_deck(Deck::empty(), words);
 }

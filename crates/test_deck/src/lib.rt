@@ -2,5 +2,6 @@
 // is handed over as one array of words; a reply or an answer is a kind, three numbers and two points.
 pub mod call_entries;
 pub mod parts;
+mod places;
 pub mod question_entries;
 mod words;

@@ -1,7 +1,7 @@
 // The questions. The deck asked stands in the words and stays as it is; the answer is its kind.
 use super::parts::parts_of_answer;
 use super::parts::put_parts;
-use super::words::WORDS;
+use super::places::WORDS;
 use super::words::deck_in;
 ghost use mathlib.Core.Path.{_≡_};
 ghost use Rattle.deck.specs.Form.{sound};

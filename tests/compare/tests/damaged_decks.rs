@@ -1,7 +1,8 @@
 //! Damaged decks: every call is refused by 11 and hands the deck back, in every
 //! word. Where a damage gives a sound deck, the calls are the reference's.
 
-use compare::binding::deck::{Deck, WORDS};
+use compare::binding::deck::Deck;
+use compare::binding::places::WORDS;
 use compare::binding::questions::Question;
 use compare::check::questions;
 use compare::check::replies::Replies;

@@ -1,8 +1,9 @@
 //! Every number of a refusal from everything that can give it, and no other:
 //! what was handed in is left as it was, and what was lent too.
 
-use compare::binding::deck::{Deck, STEINER_COUNT, WORDS};
+use compare::binding::deck::Deck;
 use compare::binding::display;
+use compare::binding::places::{STEINER_COUNT, WORDS};
 use compare::binding::programs::{decklist, deckplay};
 use compare::check::entries::Seen;
 use compare::check::questions;

@@ -1,6 +1,6 @@
 -- Numbers in bytes: a number that was written is read back, and bytes that were read are written back. By arithmetic on quotients and
 -- remainders by powers of 256.
-use mathlib.Core.Path.{_≡_, refl, ap₂}
+use mathlib.Core.Path.{_≡_, refl, ap, ap₂, _∙_}
 use mathlib.Core.Logic.{⊎-elim}
 use mathlib.Core.List.{List, [], _∷_, _++_, List·Memᴰ, List·Memᴰ·head as head, List·Memᴰ·tail as tail}
 use mathlib.Core.List.{List·Memᴰ·cases-cons as cases, List·Memᴰ·not-nil as not-nil, List·Memᴰ·append-cases as append-cases}
@@ -8,7 +8,7 @@ use Prim.Native.Nat.{ℕ, zero, suc, _+_, _*_, _/_, _%_, _≤_, _<_}
 use native.Mathlib.Nat.{add-zero, add-suc, add-assoc, div-div-eq-div-mul}
 use native.Mathlib.Omega.{arith}
 use lib.ListN.{length, drop, getD}
-use lib.Seq.{drop-cons}
+use lib.Seq.{drop-cons, getD-drop}
 use Rattle.arrays.specs.Number.{bytes2, bytes4, number2, number4}
 
 -- Every number of a list is a byte.
@@ -47,6 +47,13 @@ number4-bytes4 n rest h = go (n / 256) (n / 65536) (n / 16777216) (div-div-eq-di
     go : (p q r : ℕ) → p / 256 ≡ q → q / 256 ≡ r → n ≡ n % 256 + 256 * p → r < 256
         → n % 256 + 256 * (p % 256) + 65536 * (q % 256 + 256 * (r % 256)) ≡ n
     go p q r e f g k = omega arith
+
+-- The same at a place where its bytes stand.
+pub number4-at : (b : List ℕ) (i n : ℕ) (rest : List ℕ) → n < 4294967296 → drop i b ≡ bytes4 n ++ rest → number4 b i ≡ n
+number4-at b i n rest h e = moved ∙ ap (λ (l : List ℕ). number4 l 0) e ∙ number4-bytes4 n rest h
+  where
+    moved : number4 b i ≡ number4 (drop i b) 0
+    moved = cc (add-zero i, add-assoc i 2 1, getD-drop i b 0 0, getD-drop i b 1 0, getD-drop i b 2 0, getD-drop i b 3 0)
 
 -- Bytes read as a number are written back.
 pub bytes2-of : (a b : ℕ) → a < 256 → b < 256 → bytes2 (a + 256 * b) ≡ a ∷ b ∷ []

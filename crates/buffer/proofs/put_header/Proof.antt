@@ -1,6 +1,9 @@
--- `buffer::put_header` meets its contract: one part behind the other.
+-- `buffer::put_header` meets its contract: the four letters, the count and the pairs, one behind the other.
+use mathlib.Core.Path.{ap}
+use Prim.Native.Nat.{ℕ}
 use native.Mathlib.Omega.{arith}
-use Rattle.arrays.proofs.paste.Parts.{pasted-then}
+use Rattle.arrays.proofs.paste.Parts.{pasted-same, pasted-then}
+use Rattle.model.specs.Sections.{pairsFrom, header}
 use borrow.Author.Needs.{needs}
 use Rattle.buffer.proofs.put_header.Statement.{statement}
 use Rattle.buffer.proofs.put_header.Tie as tie
@@ -9,27 +12,21 @@ use Rattle.buffer.proofs.put_header.Tie as tie
 abbrev entry-of : tie.After-put-bytes → tie.Start
 entry-of at-put-bytes =
     let at-out = at-put-bytes .before .before .before in
-    at-out .before
+    at-out .before .before
 
 returns : tie.Need-returns
+unfolding header
 returns c =
-    let at-put-pair3 = c .before .before in
-    let at-put-pair-arg3 = at-put-pair3 .before in
-    let at-put-pair2 = at-put-pair-arg3 .before .before .before in
-    let at-put-pair-arg2 = at-put-pair2 .before in
-    let at-put-pair = at-put-pair-arg2 .before .before .before in
-    let at-put-pair-arg = at-put-pair .before in
-    let at-put2 = at-put-pair-arg .before .before .before in
+    let at-put-pairs = c .before .before in
+    let at-header-size = at-put-pairs .before .before in
+    let at-put2 = at-header-size .before .before .before in
     let at-put2-arg = at-put2 .before in
     let at-put-bytes = at-put2-arg .before .before .before in
-    let room = entry-of at-put-bytes .pre .0 in
-    let word-kept = at-put-bytes .put-bytes .kept .0 in
-    let count-kept = at-put2 .put2 .kept .0 in
-    let first-kept = at-put-pair .put-pair .kept .1 .1 .0 in
-    pasted-then (at-put-bytes .put-bytes .ensures) (omega (arith, room))
-    (pasted-then (at-put2 .put2 .ensures) (omega (arith, room, word-kept))
-    (pasted-then (at-put-pair .put-pair .ensures) (omega (arith, room, word-kept, count-kept))
-    (pasted-then (at-put-pair2 .put-pair2 .ensures) (omega (arith, room, word-kept, count-kept, first-kept)) (at-put-pair3 .put-pair3 .ensures))))
+    let entry = entry-of at-put-bytes in
+    let first = ap (λ (z : ℕ). pairsFrom z (entry .args .sizes .now)) (at-header-size .header-size .ensures) in
+    pasted-then (at-put-bytes .put-bytes .ensures) (omega (arith, entry .pre .0))
+    (pasted-then (at-put2 .put2 .ensures) (omega (arith, entry .pre .0, at-put-bytes .put-bytes .kept .0))
+    (pasted-same first (at-put-pairs .put-pairs .ensures)))
 
 pub put-header-spec : {M : Type 1} → statement M
 put-header-spec =
@@ -39,10 +36,6 @@ put-header-spec =
     (λ c κs. search needs)
     (λ c κs. search needs)
     (λ c κs. search needs)
-    (λ c. search needs)
-    (λ c κs. search needs)
-    (λ c. search needs)
-    (λ c. search needs)
     (λ c κs. search needs)
     (λ c. search needs)
     returns)

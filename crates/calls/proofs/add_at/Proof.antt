@@ -31,7 +31,7 @@ insert-requires c κs =
     let at-has = c .before .before in
     let entry = at-has .before .before .before in
     let q = entry .pre in
-    (q .0, (q .1 .0, (leb-false _ _ (c .if2 .left), point-room _ (q .0) (q .1 .1))))
+    (q .0, (q .1 .0, (leb-false _ _ (c .if2 .left), point-room _ (q .0) (q .1 .1 .state))))
 
 returns-3 : tie.Need-returns-3
 returns-3 c =

@@ -14,6 +14,7 @@ use Rattle.arrays.proofs.same.Alike.{same-refl, same-eq}
 use Rattle.plane.specs.Point.{Point}
 use Rattle.model.specs.Tree.{mst, edgesAt}
 use Rattle.model.specs.State.{State, points, Valid, valid, lowestWeak}
+use Rattle.model.specs.Contents.{ofState}
 use Rattle.model.proofs.Prune.{LowestWeakView, all-strong, weak, lowest-weak-view}
 use Rattle.model.proofs.Validity.{valid-is}
 use Rattle.points.specs.declared.Points.{Points}
@@ -28,7 +29,7 @@ use Rattle.working.proofs.InOrder.{arranged-placed}
 use Rattle.working.proofs.prune.Sweep.{Found, none-weak, at, found, order-degree}
 use Rattle.deck.specs.declared.Deck.{Deck}
 use Rattle.deck.specs.declared.check.Checked.{Checked}
-use Rattle.deck.specs.Form.{deckOf, stateOf, Sound, sound}
+use Rattle.deck.specs.Form.{deckOf, contentsOf, stateOf, Sound, sound}
 use Rattle.deck.specs.Check.{validPoints, Checks}
 use Rattle.deck.proofs.Form.{sound-is, sound-arranged}
 
@@ -113,7 +114,7 @@ module _ (d : Deck) (r : Checked) (c : Checks (validPoints (d .points)) (d .poin
     where
       passed : Sound d → T (validPoints (d .points))
       passed s =
-          and-both (coded.arranged (d .points)) (valid (stateOf d)) (arranged-passes (d .points) (sound-arranged d s)) (valid-is (stateOf d) .1 (s .valid))
+          and-both (coded.arranged (d .points)) (valid (stateOf d)) (arranged-passes (d .points) (sound-arranged d s)) (valid-is (stateOf d) .1 (s .valid .state))
 
   module _ (e : r .ok ≡ true) where
     test : T (validPoints (d .points))
@@ -122,15 +123,15 @@ module _ (d : Deck) (r : Checked) (c : Checks (validPoints (d .points)) (d .poin
     pub points-order : work.InOrder (r .working)
     points-order = c .inOrder test
 
-    pub points-state : work.stateOf (r .working) ≡ stateOf d
-    points-state = ap coded.stateOf (c .same test)
+    pub points-contents : work.contentsOf (r .working) ≡ contentsOf d
+    points-contents = ap (λ (q : Points). ofState (coded.stateOf q)) (c .same test)
 
-    pub edges-fail : (a : Deck) → a ≡ deckOf (work.stateOf (r .working)) → ¬ T (sameList (d .ends) (a .ends)) → ¬ T (sound d)
+    pub edges-fail : (a : Deck) → a ≡ deckOf (work.contentsOf (r .working)) → ¬ T (sameList (d .ends) (a .ends)) → ¬ T (sound d)
     edges-fail a is n t =
         n (subst (λ (l : List ℕ). T (sameList (d .ends) l))
-        ((λ i. sound-is d .0 t .same i .ends) ∙ sym (λ i. deckOf (points-state i) .ends) ∙ sym (λ i. is i .ends)) (same-refl (d .ends)))
+        ((λ i. sound-is d .0 t .same i .ends) ∙ sym (λ i. deckOf (points-contents i) .ends) ∙ sym (λ i. is i .ends)) (same-refl (d .ends)))
 
-    pub edges-pass : (a : Deck) → a ≡ deckOf (work.stateOf (r .working)) → T (sameList (d .ends) (a .ends)) → Checks (sound d) (d .points) r
+    pub edges-pass : (a : Deck) → a ≡ deckOf (work.contentsOf (r .working)) → T (sameList (d .ends) (a .ends)) → Checks (sound d) (d .points) r
     edges-pass a is t = accepted (sound d) (d .points) r e (sound-is d .1 whole) points-order (c .same test)
       where
         arranged : coded.Arranged (d .points)
@@ -139,11 +140,11 @@ module _ (d : Deck) (r : Checked) (c : Checks (validPoints (d .points)) (d .poin
         whole : Sound d
         whole =
             record {
-              valid = valid-is (stateOf d) .0 (and-parts (coded.arranged (d .points)) (valid (stateOf d)) test .1);
+              valid = record { state = valid-is (stateOf d) .0 (and-parts (coded.arranged (d .points)) (valid (stateOf d)) test .1) };
               same =
                   unfold deckOf in
                   (λ i. record {
                     points = arranged-coded (d .points) arranged i;
-                    ends = (same-eq (d .ends) (a .ends) t ∙ (λ k. is k .ends) ∙ (λ k. deckOf (points-state k) .ends)) i;
+                    ends = (same-eq (d .ends) (a .ends) t ∙ (λ k. is k .ends) ∙ (λ k. deckOf (points-contents k) .ends)) i;
                   });
             }

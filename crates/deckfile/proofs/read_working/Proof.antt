@@ -4,7 +4,8 @@ use mathlib.Core.Bool.{true}
 use mathlib.Core.List.{List}
 use Prim.Native.Nat.{ℕ}
 use Rattle.arrays.proofs.Test.{of-true}
-use Rattle.model.specs.File.{headed, laidOut, whole}
+use Rattle.model.specs.Sections.{laidOut}
+use Rattle.model.specs.File.{headed, whole}
 use Rattle.deckfile.proofs.Checks.{passed, failed, long-enough, sections-of, few-pins, refused-1, refused-2, refused-3, refused-4, refused-5, all-passed}
 use Rattle.deckfile.proofs.reader.LastCheck.{read-as}
 use native.Mathlib.Omega.{arith}
@@ -48,8 +49,8 @@ returns-3 c =
     let other = failed (at-is-whole .is-whole .ensures) (c .before .if3 .taken) in
     read-as (refused-3 (file at-header-test) (head at-header-test) (layout at-layout-test) other) (c .refuse3 .ensures)
 
-number4-requires : tie.Need-number4-requires
-number4-requires c κs =
+size-requires : tie.Need-size-requires
+size-requires c κs =
     let at-layout-test = c .before .before in
     let at-header-test = at-layout-test .before .before in
     let long = long-enough (file at-header-test) (head at-header-test) in
@@ -57,12 +58,12 @@ number4-requires c κs =
 
 returns-4 : tie.Need-returns-4
 returns-4 c =
-    let at-number4 = c .before .before in
-    let at-whole-test = at-number4 .before in
+    let at-size = c .before .before in
+    let at-whole-test = at-size .before in
     let at-layout-test = at-whole-test .before .before in
     let at-header-test = at-layout-test .before .before in
     let many = refused-4 (file at-header-test) (head at-header-test) (layout at-layout-test) (wholes at-whole-test) in
-    read-as (many _ (at-number4 .number4 .ensures .0) (c .before .if4 .taken)) (c .refuse4 .ensures)
+    read-as (many _ (at-size .size .ensures .0) (c .before .if4 .taken)) (c .refuse4 .ensures)
 
 decode-points-requires : tie.Need-decode-points-requires
 decode-points-requires c κs =
@@ -73,7 +74,7 @@ decode-points-requires c κs =
     let h = head at-header-test in
     let l = layout at-layout-test in
     let w = wholes at-whole-test in
-    (sections-of b h l w, few-pins b h l w _ (c .before .number4 .ensures .0) (c .if4 .left))
+    (sections-of b h l w, few-pins b h l w _ (c .before .size .ensures .0) (c .if4 .left))
 
 returns-5 : tie.Need-returns-5
 returns-5 c =
@@ -84,7 +85,7 @@ returns-5 c =
     let at-header-test = at-layout-test .before .before in
     let other = failed (at-decode-points .decode-points .ensures .ok) (c .before .if5 .taken) in
     let misplaced = refused-5 (file at-header-test) (head at-header-test) (layout at-layout-test) (wholes at-whole-test) in
-    read-as (misplaced _ (at-pins-test .before .number4 .ensures .0) (at-pins-test .if4 .left) other) (c .refuse5 .ensures)
+    read-as (misplaced _ (at-pins-test .before .size .ensures .0) (at-pins-test .if4 .left) other) (c .refuse5 .ensures)
 
 working-of-file-requires : tie.Need-working-of-file-requires
 working-of-file-requires c κs =
@@ -97,7 +98,7 @@ working-of-file-requires c κs =
     let h = head at-header-test in
     let l = layout at-layout-test in
     let w = wholes at-whole-test in
-    let few = few-pins b h l w _ (at-pins-test .before .number4 .ensures .0) (at-pins-test .if4 .left) in
+    let few = few-pins b h l w _ (at-pins-test .before .size .ensures .0) (at-pins-test .if4 .left) in
     let found = at-decode-points .decode-points .ensures in
     (sections-of b h l w, (few, (found, of-true (passed (found .ok) (c .if5 .left)))))
 
@@ -110,7 +111,7 @@ returns-6 c =
     let at-header-test = at-layout-test .before .before in
     let points = passed (at-decode-points .decode-points .ensures .ok) (c .before .if5 .left) in
     let all = all-passed (file at-header-test) (head at-header-test) (layout at-layout-test) (wholes at-whole-test) in
-    read-as (all _ (at-pins-test .before .number4 .ensures .0) (at-pins-test .if4 .left) points) (c .working-of-file .ensures)
+    read-as (all _ (at-pins-test .before .size .ensures .0) (at-pins-test .if4 .left) points) (c .working-of-file .ensures)
 
 pub read-working-spec : {M : Type 1} → statement M
 read-working-spec =
@@ -125,7 +126,7 @@ read-working-spec =
     (λ c κs. let at-header-test = c .before .before in long-enough (file at-header-test) (head at-header-test))
     (λ c κs. search needs)
     returns-3
-    number4-requires
+    size-requires
     (λ c κs. search needs)
     returns-4
     decode-points-requires

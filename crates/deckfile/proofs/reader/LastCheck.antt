@@ -10,8 +10,10 @@ use lib.ListN.{length, take, drop, replicate, length-take, length-drop, length-m
 use Rattle.arrays.specs.Test.{if}
 use Rattle.arrays.proofs.Test.{and-parts, and-both, same-test, of-true, false-of}
 use Rattle.model.specs.State.{State, empty, Placed, placed, Valid, valid}
+use Rattle.model.specs.Contents.{ofState}
 use Rattle.arrays.specs.Same.{sameList}
-use Rattle.model.specs.File.{Read, deck, refusal, offset, size, section, fileState, plain, runSection}
+use Rattle.model.specs.Sections.{offset, size, section}
+use Rattle.model.specs.File.{Read, deck, refusal, fileState, fileContents, plain, runSection}
 use Rattle.model.proofs.Validity.{placed-is, valid-is}
 use Rattle.model.proofs.FileSize.{steiner-few}
 use Rattle.arrays.proofs.same.Alike.{same-eq}
@@ -29,7 +31,7 @@ use Rattle.calls.specs.declared.Changed.{Changed}
 use Rattle.calls.specs.declared.Reply.the-variants.{Done, Refused}
 use Rattle.points.specs.declared.Points.{Points}
 use Rattle.working.specs.declared.Working.{Working}
-use Rattle.working.specs.InOrder.{InOrder, stateOf}
+use Rattle.working.specs.InOrder.{InOrder, stateOf, contentsOf}
 use Rattle.working.specs.Edges.{edgeRow}
 use Rattle.arrays.specs.Paste.{Pasted}
 use Rattle.arrays.proofs.paste.Parts.{front-is}
@@ -39,7 +41,7 @@ use Rattle.sections.specs.Bytes.{edgeBytes}
 use Rattle.sections.specs.Codes.{filePlaces, Decodes}
 use Rattle.sections.specs.Layout.{Sections, FewPins}
 use Rattle.deckfile.specs.Reading.{readOutcome}
-use Rattle.deckfile.specs.ReadWorking.{stateRead, replyRead, ReadTo, WorkingFor, lastAnswer}
+use Rattle.deckfile.specs.ReadWorking.{contentsRead, replyRead, ReadTo, WorkingFor, lastAnswer}
 use Rattle.sections.proofs.codes.Placed.{pins-count, steiner-count}
 use Rattle.deckfile.proofs.Runs.{edges-are, edges-long}
 
@@ -48,23 +50,23 @@ pub read-as : {r t : Read} {x : Changed} → r ≡ t → ReadTo r x → ReadTo t
 read-as {x = x} e = subst (λ (z : Read). ReadTo z x) e
 
 pub read-outcome : (r : Read) (c : Changed) → ReadTo r c → called.outcomeOf c ≡ readOutcome r
-unfolding stateRead replyRead readOutcome
-read-outcome r c e = (λ i. record { next = deckOf (e .state i); reply = e .reply i }) ∙ by-cases r
+unfolding contentsRead replyRead readOutcome
+read-outcome r c e = (λ i. record { next = deckOf (e .contents i); reply = e .reply i }) ∙ by-cases r
   where
-    by-cases : (r : Read) → record { next = deckOf (stateRead r); reply = replyRead r } ≡ readOutcome r
-    by-cases (deck s) = refl
+    by-cases : (r : Read) → record { next = deckOf (contentsRead r); reply = replyRead r } ≡ readOutcome r
+    by-cases (deck c) = refl
     by-cases (refusal n) = refl
 
 -- A refusal hands back the working form of an empty deck.
 pub refused-read : (n : ℕ) (w : Working) (q : Points) → q ≡ coded empty → InOrder w × (w .points ≡ q)
     → ReadTo (refusal n) (record { working = w; reply = Refused n })
-unfolding stateRead replyRead
+unfolding contentsRead replyRead
 refused-read n w q e a =
-    record { inOrder = a .0; state = ap points.stateOf (a .1 ∙ e) ∙ state-coded empty (empty-valid .placed); reply = refl }
+    record { inOrder = a .0; contents = ap ofState (ap points.stateOf (a .1 ∙ e) ∙ state-coded empty (empty-valid .placed)); reply = refl }
 
-pub accepted-read : (w : Working) → InOrder w → ReadTo (deck (stateOf w)) (record { working = w; reply = Done })
-unfolding stateRead replyRead
-accepted-read w p = record { inOrder = p; state = refl; reply = refl }
+pub accepted-read : (w : Working) → InOrder w → ReadTo (deck (contentsOf w)) (record { working = w; reply = Done })
+unfolding contentsRead replyRead
+accepted-read w p = record { inOrder = p; contents = refl; reply = refl }
 
 -- The points of a placed state are those of a valid one exactly if the state is valid.
 tests : (s : State) → Placed s → validPoints (coded s) ≡ valid s
@@ -117,7 +119,7 @@ module _ (b : List ℕ) (d : Sections b) (p : T (placed (fileState b))) where
 
   -- Whether the file shows a deck, by three tests.
   pick : Bool → Bool → Bool → Read
-  pick bare ok same = if (bare || (ok && same)) (λ _. deck s) (λ _. refusal 6)
+  pick bare ok same = if (bare || (ok && same)) (λ _. deck (fileContents b)) (λ _. refusal 6)
 
   same-edges : Bool
   same-edges = sameList (section b 2) (runSection s)
@@ -160,15 +162,15 @@ module _ (b : List ℕ) (d : Sections b) (p : T (placed (fileState b))) where
         let t : T (valid s) = of-true (ok-valid true e) in
         (c .inOrder t, subst⁻¹ Valid (c .state t) (valid-is s .0 t))
 
-    accepted : r .ok ≡ true → (x : Changed) → ReadTo (deck (stateOf (r .working))) x → deck s ≡ lastAnswer b → ReadTo (lastAnswer b) x
-    accepted e x g is = read-as (ap deck (c .state (of-true (ok-valid true e))) ∙ is) g
+    accepted : r .ok ≡ true → (x : Changed) → ReadTo (deck (contentsOf (r .working))) x → deck (fileContents b) ≡ lastAnswer b → ReadTo (lastAnswer b) x
+    accepted e x g is = read-as (ap (λ (z : State). deck (ofState z)) (c .state (of-true (ok-valid true e))) ∙ is) g
 
     pub last-invalid : r .ok ≡ false → refusal 6 ≡ lastAnswer b
     unfolding pick
     last-invalid e =
         by-tests (false-of (plain b) (λ t. subst T (ok-valid false e) (plain-valid few t))) (ok-valid false e) refl
 
-    pub last-plain : r .ok ≡ true → plain b ≡ true → (x : Changed) → ReadTo (deck (stateOf (r .working))) x → ReadTo (lastAnswer b) x
+    pub last-plain : r .ok ≡ true → plain b ≡ true → (x : Changed) → ReadTo (deck (contentsOf (r .working))) x → ReadTo (lastAnswer b) x
     unfolding pick
     last-plain e f x g = accepted e x g (by-tests f refl refl)
 
@@ -181,7 +183,7 @@ module _ (b : List ℕ) (d : Sections b) (p : T (placed (fileState b))) where
       unfolding pick
       last-other g = by-tests f (ok-valid true e) (compared false g)
 
-      pub last-same : sameList (section b 2) (runSection (stateOf (r .working))) ≡ true → (x : Changed) → ReadTo (deck (stateOf (r .working))) x
+      pub last-same : sameList (section b 2) (runSection (stateOf (r .working))) ≡ true → (x : Changed) → ReadTo (deck (contentsOf (r .working))) x
           → ReadTo (lastAnswer b) x
       unfolding pick
       last-same g x h = accepted e x h (by-tests f (ok-valid true e) (compared true g))
@@ -189,7 +191,7 @@ module _ (b : List ℕ) (d : Sections b) (p : T (placed (fileState b))) where
 -- The third section and the edges of a working form.
 module _ (b : List ℕ) (d : Sections b) (w : Working) (p : InOrder w) (v : Valid (stateOf w)) where
   third-length : length (section b 2) ≡ size b 2
-  third-length = omega (arith, length-take (size b 2) (drop (offset b 2) b), length-drop (offset b 2) b, d .offset₂, d .total)
+  third-length = omega (arith, length-take (size b 2) (drop (offset b 2) b), length-drop (offset b 2) b, d .follow)
 
   pub edges-other : (u : ℕ) → u ≡ size b 2 → ¬ (u ≡ 2 * w .nkeys) → false ≡ sameList (section b 2) (runSection (stateOf w))
   edges-other u e g =

@@ -1,17 +1,19 @@
--- The parts of a working form, one behind the other, are the file of its state.
+-- The parts of a working form, one behind the other, are the file of its contents.
 use mathlib.Core.Path.{_≡_, refl, sym, ap, _∙_}
-use mathlib.Core.List.{List, [], _∷_, _++_, map}
+use mathlib.Core.List.{List, [], _∷_, _++_, map, flatten, append-nil}
 use Prim.Native.Nat.{ℕ, _+_, _-_, _*_, _≤_}
 use native.Mathlib.Omega.{arith}
 use lib.ListN.{length, take}
 use Rattle.plane.specs.Code.{pointOf}
-use Rattle.model.specs.State.{State, Valid}
-use Rattle.model.specs.File.{sectionOf, runSection, header, fileOf}
+use Rattle.model.specs.State.{State}
+use Rattle.model.specs.Contents.{Contents, ValidContents}
+use Rattle.model.specs.Sections.{headerSize, header, sectionFile}
+use Rattle.model.specs.File.{fewestSections, sectionOf, runSection, fileOf}
 use Rattle.model.proofs.Bytes.{section-length}
 use Rattle.model.proofs.FileSize.{file-length, steiner-few}
 use Rattle.points.proofs.Coded.{pins-count, steiner-count}
 use Rattle.working.specs.declared.Working.{Working}
-use Rattle.working.specs.InOrder.{InOrder, stateOf}
+use Rattle.working.specs.InOrder.{InOrder, stateOf, contentsOf}
 use Rattle.working.specs.Edges.{edgeRow}
 use Rattle.working.proofs.edges.Numbers.{edge-count}
 use Rattle.arrays.specs.Paste.{each}
@@ -25,7 +27,10 @@ unfolding each sectionOf
 section-is [] = refl
 section-is (k ∷ l) = ap (λ (bs : List ℕ). codeBytes k ++ bs) (section-is l)
 
-module _ (w : Working) (p : InOrder w) (v : Valid (stateOf w)) where
+module _ (w : Working) (p : InOrder w) (v : ValidContents (contentsOf w)) where
+  abbrev c : Contents
+  c = contentsOf w
+
   abbrev s : State
   s = stateOf w
 
@@ -35,10 +40,10 @@ module _ (w : Working) (p : InOrder w) (v : Valid (stateOf w)) where
   abbrev m : ℕ
   m = w .points .nsteiner
 
-  pub file-parts : fileParts (w .points .pins) n (w .points .steiner) m (edgeRow s) ≡ fileOf s
-  unfolding fileOf
+  pub file-parts : fileParts (w .points .pins) n (w .points .steiner) m (edgeRow s) ≡ fileOf c
+  unfolding fileOf sectionFile flatten
   file-parts =
-      λ i. header (pins-long i) (steiner-long i) (runs-long i)
+      λ i. header (pins-long i ∷ steiner-long i ∷ runs-long i ∷ [])
       ++ (section-is (take n (w .points .pins)) i ++ (section-is (take m (w .points .steiner)) i ++ runs i))
     where
       pins-long : 4 * n ≡ length (sectionOf (s .pins))
@@ -48,27 +53,27 @@ module _ (w : Working) (p : InOrder w) (v : Valid (stateOf w)) where
       steiner-long = ap (λ (z : ℕ). 4 * z) (sym (steiner-count (w .points) (p .arranged))) ∙ sym (section-length (s .steiner))
 
       runs-long : 2 * (n + m - 1) ≡ length (runSection s)
-      runs-long = ap (λ (z : ℕ). 2 * z) (sym (count-is w p v)) ∙ sym (edges-long w p v)
+      runs-long = ap (λ (z : ℕ). 2 * z) (sym (count-is w p (v .state))) ∙ sym (edges-long w p (v .state))
 
-      runs : edgeBytes (take (n + m - 1) (edgeRow s)) ≡ runSection s
-      runs = ap (λ (z : ℕ). edgeBytes (take z (edgeRow s))) (sym (count-is w p v)) ∙ edges-are w p v
+      runs : edgeBytes (take (n + m - 1) (edgeRow s)) ≡ runSection s ++ []
+      runs = ap (λ (z : ℕ). edgeBytes (take z (edgeRow s))) (sym (count-is w p (v .state))) ∙ edges-are w p (v .state) ∙ sym (append-nil (runSection s))
 
-  pub file-long : 30 + 4 * n + 4 * m + 2 * (n + m - 1) ≡ length (fileOf s)
+  pub file-long : headerSize fewestSections + 4 * n + 4 * m + 2 * (n + m - 1) ≡ length (fileOf c)
   file-long =
       omega (
         arith,
-        file-length s (v .placed),
+        file-length c (v .state .placed),
         edge-count w p,
-        count-is w p v,
+        count-is w p (v .state),
         pins-count (w .points) (p .arranged),
         steiner-count (w .points) (p .arranged),
       )
 
   pub few : (n ≤ 64) × (m ≤ 62)
-  few = (p .arranged .pinCodes .few, omega (arith, steiner-few s v, steiner-count (w .points) (p .arranged)))
+  few = (p .arranged .pinCodes .few, omega (arith, steiner-few s (v .state), steiner-count (w .points) (p .arranged)))
 
   -- The arrays, and room for the file.
-  pub parts-kept : {row : List ℕ} → row ≡ edgeRow s → length row ≡ 128 → (out : List ℕ) → length (fileOf s) ≤ length out
+  pub parts-kept : {row : List ℕ} → row ≡ edgeRow s → length row ≡ 128 → (out : List ℕ) → length (fileOf c) ≤ length out
       → PartsFit (w .points .pins) n (w .points .steiner) m row out
   parts-kept e l out fits =
       record {

@@ -8,7 +8,7 @@ use lib.ListN.{length}
 use borrow.Author.Tests.{le-leb}
 use Rattle.io.specs.Counts.{Counts}
 use Rattle.arrays.specs.Test.{if}
-use Rattle.model.specs.State.{State}
+use Rattle.model.specs.Contents.{Contents}
 use Rattle.model.specs.Call as call
 use Rattle.model.specs.File.{Read, deck, refusal, readFile}
 use Rattle.model.specs.Listing.{listing, refusedLine, listingOfFile}
@@ -36,9 +36,8 @@ unfolding refusalNumber replyRead
 printed-refusal b n r e h = go (readFile b) refl (e ∙ ap refusalNumber (r .reply))
   where
     go : (r : Read) → readFile b ≡ r → n ≡ refusalNumber (replyRead r) → refusedLine n ≡ listingOfFile b
-    go (deck s) f q = absurd (h q)
+    go (deck c) f q = absurd (h q)
     go (refusal k) f q = ap refusedLine q ∙ text-refused b k f
 
-pub printed-deck : (b : List ℕ) (s t : State) → readFile b ≡ deck s → t ≡ call.step s call.runToEnd .next → listing t ≡ listingOfFile b
-unfolding call.step
-printed-deck b s t f e = ap listing e ∙ text-deck b s f
+pub printed-deck : (b : List ℕ) (c d : Contents) → readFile b ≡ deck c → d ≡ call.step c call.runToEnd .next → listing d ≡ listingOfFile b
+printed-deck b c d f e = ap listing e ∙ text-deck b c f

@@ -12,7 +12,7 @@ use Rattle.model.specs.File.{fileOf}
 use Rattle.model.proofs.FileSize.{file-size}
 use Rattle.deck.specs.declared.Deck.{Deck}
 use Rattle.questions.specs.declared.Answer.the-variants as answer
-use Rattle.deck.specs.Form.{stateOf, sound}
+use Rattle.deck.specs.Form.{contentsOf, sound}
 use Rattle.deckfile.specs.declared.Written.{Written}
 use Rattle.deckfile.specs.declared.Written.the-variants.{Refused, Length}
 use Rattle.deckfile.specs.Writing.{written, bufferAfter}
@@ -24,25 +24,25 @@ use Rattle.deckplay.specs.Play.{writeText}
 -- By the two tests of writing.
 module _ (d : Deck) (l : List ℕ) where
   text : Bool → Bool → List ℕ
-  text a b = if a (λ _. if b (λ _. fileText (fileOf (stateOf d))) (λ _. answerText (answer.Refused 12))) (λ _. answerText (answer.Refused 11))
+  text a b = if a (λ _. if b (λ _. fileText (fileOf (contentsOf d))) (λ _. answerText (answer.Refused 12))) (λ _. answerText (answer.Refused 11))
 
   writtenBy : Bool → Bool → Written
-  writtenBy a b = if a (λ _. if b (λ _. Length (length (fileOf (stateOf d)))) (λ _. Refused 12)) (λ _. Refused 11)
+  writtenBy a b = if a (λ _. if b (λ _. Length (length (fileOf (contentsOf d)))) (λ _. Refused 12)) (λ _. Refused 11)
 
   pub refused-text : (k : ℕ) → written d l ≡ Refused k → answerText (answer.Refused k) ≡ writeText d (length l)
   unfolding written writeText text writtenBy
-  refused-text k e = go (sound d) (leb (length (fileOf (stateOf d))) (length l)) e
+  refused-text k e = go (sound d) (leb (length (fileOf (contentsOf d))) (length l)) e
     where
       go : (a b : Bool) → writtenBy a b ≡ Refused k → answerText (answer.Refused k) ≡ text a b
       go true true q = let z : _≡_ {A = ℕ} 0 1 = cc in absurd (omega arith)
       go true false q = let e : k ≡ 12 = cc in ap (λ (n : ℕ). answerText (answer.Refused n)) e
       go false b q = let e : k ≡ 11 = cc in ap (λ (n : ℕ). answerText (answer.Refused n)) e
 
-  pub stored-text : (n : ℕ) → written d l ≡ Length n → fileText (fileOf (stateOf d)) ≡ writeText d (length l)
+  pub stored-text : (n : ℕ) → written d l ≡ Length n → fileText (fileOf (contentsOf d)) ≡ writeText d (length l)
   unfolding written writeText text writtenBy
-  stored-text n e = go (sound d) (leb (length (fileOf (stateOf d))) (length l)) e
+  stored-text n e = go (sound d) (leb (length (fileOf (contentsOf d))) (length l)) e
     where
-      go : (a b : Bool) → writtenBy a b ≡ Length n → fileText (fileOf (stateOf d)) ≡ text a b
+      go : (a b : Bool) → writtenBy a b ≡ Length n → fileText (fileOf (contentsOf d)) ≡ text a b
       go true true q = refl
       go true false q = let z : _≡_ {A = ℕ} 0 1 = cc in absurd (omega arith)
       go false b q = let z : _≡_ {A = ℕ} 0 1 = cc in absurd (omega arith)
@@ -60,18 +60,18 @@ module _ (d : Deck) (l held rest : List ℕ) (r : Written) (n : ℕ) (w : r ≡ 
 
   long : n ≤ length held
   long =
-      omega (arith, done .count, ap length (e ∙ done .front), length-append (fileOf (stateOf d)) (drop (length (fileOf (stateOf d))) l))
+      omega (arith, done .count, ap length (e ∙ done .front), length-append (fileOf (contentsOf d)) (drop (length (fileOf (contentsOf d))) l))
 
   pub stored-within : (n ≤ length (held ++ rest)) × (n ≡ length (take n (held ++ rest)))
   stored-within =
       let h : n ≤ length (held ++ rest) = omega (arith, long, length-append held rest) in
       (h, sym (length-take-le n (held ++ rest) h))
 
-  stored-file : take n (held ++ rest) ≡ fileOf (stateOf d)
+  stored-file : take n (held ++ rest) ≡ fileOf (contentsOf d)
   stored-file = take-append-le n held rest long ∙ ap (take n) e ∙ wrote-file d l n done
 
   pub stored-room : 64 + 2 * length (take n (held ++ rest)) ≤ 24576
-  stored-room = omega (arith, stored-within .1, done .count, file-size (stateOf d) (done .sound .valid) .1)
+  stored-room = omega (arith, stored-within .1, done .count, file-size (contentsOf d) (done .sound .valid) .1)
 
   pub stored-answer : fileText (take n (held ++ rest)) ≡ writeText d (length l)
   stored-answer = ap fileText stored-file ∙ stored-text d l n (sym w ∙ is)

@@ -8,7 +8,7 @@ use lib.ListN.{length, take, drop, set, length-append}
 use lib.Seq.{length-take-le, take-at, set-split}
 use borrow.Author.Tests.{eq-eqb, ne-eqb, lt-ltb, le-ltb}
 use Rattle.arrays.specs.Test.{if}
-use Rattle.model.specs.State.{empty}
+use Rattle.model.specs.Contents.{emptyContents}
 use Rattle.deck.specs.declared.Deck.{Deck}
 use Rattle.deck.specs.Form.{deckOf}
 use Rattle.deckplay.specs.declared.answer.Played.{Played}
@@ -16,7 +16,7 @@ use Rattle.deckplay.specs.declared.lines.Reader.{Reader}
 use Rattle.deckplay.specs.Play.{played, Plays}
 use Rattle.deckplay.specs.Lines.{Script, ended, more, taken, scriptOf, Reads, Fresh, Ends, Takes}
 
-pub fresh : (d : Deck) (l : List ℕ) → d ≡ deckOf empty → Fresh (record { deck = d; line = l; size = 0 })
+pub fresh : (d : Deck) (l : List ℕ) → d ≡ deckOf emptyContents → Fresh (record { deck = d; line = l; size = 0 })
 fresh d l e = record { within = omega arith; script = λ i. record { deck = e i; line = [] } }
 
 pub line-ends : (r : Reader) {before after : List ℕ} (p : Played) → Plays (played (r .deck) (take (r .size) (r .line))) before after p

@@ -1,6 +1,6 @@
 -- `planner::planner_plan` meets its contract: a refusal of the file, or its working form run to the end and written.
 -- (must-fail/deck_as_read.edit changes a line that names the place `run`.)
-use Rattle.model.specs.Call.{stateAfter}
+use Rattle.model.specs.Call.{contentsAfter}
 use Rattle.model.specs.File.{readFile}
 use Rattle.model.proofs.FileAnswer.{read-possible}
 use Rattle.deckfile.proofs.answer.Entry.{read-refused, read-taken, changed-valid, answer-stored}
@@ -28,7 +28,7 @@ write-working-requires c κs =
     changed-valid (taken .2) (run .run-to-end .ensures)
 
 returns-2 : tie.Need-returns-2
-unfolding stateAfter
+unfolding contentsAfter
 returns-2 c =
     let write = c .before .before .before in
     let run = write .before .before in

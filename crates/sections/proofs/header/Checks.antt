@@ -1,14 +1,17 @@
 -- The checks of the header, by the numbers read from it: each is a test after the other.
 use mathlib.Core.Path.{_≡_, refl, sym, ap, ap₂, _∙_}
-use mathlib.Core.Bool.{true, false}
+use mathlib.Core.Bool.{true, false, _&&_}
 use mathlib.Core.List.{List}
-use Prim.Native.Nat.{ℕ, _+_, _%_, _≤_, _<_}
+use Prim.Native.Nat.{ℕ, suc, _+_, _*_, _-_, _%_, _≤_, _<_}
+use native.Mathlib.Numerals.{add-one}
+use native.Mathlib.Omega.{arith}
 use lib.Dec.{leb, eqb}
 use lib.ListN.{length, take}
 use borrow.Author.Tests.{le-leb, lt-leb, eq-eqb, ne-eqb}
 use Rattle.arrays.specs.Same.{sameList}
 use Rattle.arrays.specs.Number.{number2}
-use Rattle.model.specs.File.{magic, offset, size, headed, laidOut, whole, plain}
+use Rattle.model.specs.Sections.{magic, countPlace, headerSize, sectionCount, offset, size, follow, laidOut}
+use Rattle.model.specs.File.{fewestSections, longest, headed, whole, plain}
 use Rattle.arrays.proofs.Test.{and-no, and-yes}
 
 -- A test of two numbers that are those of the file.
@@ -23,48 +26,76 @@ test e f = ap₂ eqb e f
 
 module _ (b : List ℕ) where
   -- Check 1.
-  pub head-short : length b < 30 → false ≡ headed b
-  head-short h = and-no (leb 30 (length b)) _ (lt-leb 30 (length b) h)
+  abbrev shortest : ℕ
+  shortest = headerSize fewestSections
 
-  module _ (h : 30 ≤ length b) where
-    pub head-long : 784 < length b → false ≡ headed b
-    head-long k = and-yes (leb 30 (length b)) _ _ (le-leb 30 (length b) h) (and-no (leb (length b) 784) _ (lt-leb (length b) 784 k))
+  pub head-short : length b < shortest → false ≡ headed b
+  head-short h = and-no (leb shortest (length b)) _ (lt-leb shortest (length b) h)
 
-    pub head-other : length b ≤ 784 → sameList (take 4 b) magic ≡ false → false ≡ headed b
+  module _ (h : shortest ≤ length b) where
+    pub head-long : longest < length b → false ≡ headed b
+    head-long k = and-yes (leb shortest (length b)) _ _ (le-leb shortest (length b) h) (and-no (leb (length b) longest) _ (lt-leb (length b) longest k))
+
+    pub head-other : length b ≤ longest → sameList (take countPlace b) magic ≡ false → false ≡ headed b
     head-other k e =
-        and-yes (leb 30 (length b)) _ _ (le-leb 30 (length b) h)
-        (and-yes (leb (length b) 784) _ _ (le-leb (length b) 784 k) (and-no (sameList (take 4 b) magic) _ e))
+        and-yes (leb shortest (length b)) _ _ (le-leb shortest (length b) h)
+        (and-yes (leb (length b) longest) _ _ (le-leb (length b) longest k) (and-no (sameList (take countPlace b) magic) _ e))
 
-    pub head-count : length b ≤ 784 → sameList (take 4 b) magic ≡ true → (n : ℕ) → n ≡ number2 b 4 → eqb n 3 ≡ headed b
+    pub head-count : length b ≤ longest → sameList (take countPlace b) magic ≡ true → (n : ℕ) → n ≡ sectionCount b → eqb n fewestSections ≡ headed b
     head-count k e n f =
-        and-yes (leb 30 (length b)) _ _ (le-leb 30 (length b) h)
-        (and-yes (leb (length b) 784) _ _ (le-leb (length b) 784 k) (and-yes (sameList (take 4 b) magic) _ _ e (test f refl)))
+        and-yes (leb shortest (length b)) _ _ (le-leb shortest (length b) h)
+        (and-yes (leb (length b) longest) _ _ (le-leb (length b) longest k) (and-yes (sameList (take countPlace b) magic) _ _ e (test f refl)))
 
-  -- Check 2.
-  module _ (first second third pins : ℕ) (e₀ : first ≡ offset b 0) (e₁ : second ≡ offset b 1) (e₂ : third ≡ offset b 2) where
-    pub layout-first : ¬ (first ≡ 30) → false ≡ laidOut b
-    layout-first n = and-no (eqb (offset b 0) 30) _ (differ e₀ refl n)
+  -- Check 2 on a file of n sections: the first k stand one behind the other, up to place `at`, and the others decide.
+  pub record Passed (n at k : ℕ) : Type 0 where
+    pub within : k ≤ n
+    pub few : at ≤ headerSize n + 4294967296 * k
+    pub left : follow b at k (n - k) ≡ laidOut b
 
-    module _ (f₀ : first ≡ 30) (p : pins ≡ size b 0) where
-      sum₁ : 30 + pins ≡ offset b 0 + size b 0
-      sum₁ = ap₂ _+_ (sym f₀ ∙ e₀) p
+  -- `first` is the place behind the pairs.
+  module _ (n first : ℕ) (count : n ≡ sectionCount b) (behind : first ≡ headerSize n) where
+    abbrev all : ℕ
+    all = headerSize (sectionCount b)
 
-      pub layout-second : ¬ (second ≡ 30 + pins) → false ≡ laidOut b
-      layout-second n =
-          and-yes (eqb (offset b 0) 30) _ _ (agree e₀ refl f₀) (and-no (eqb (offset b 1) (offset b 0 + size b 0)) _ (differ e₁ sum₁ n))
+    pub pairs-missing : length b < first → false ≡ laidOut b
+    unfolding laidOut
+    pairs-missing h = and-no (leb all (length b)) _ (lt-leb all (length b) (omega arith))
 
-      module _ (f₁ : second ≡ 30 + pins) (steiner : ℕ) (t : steiner ≡ size b 1) where
-        pub layout-third : ¬ (third ≡ second + steiner) → false ≡ laidOut b
-        layout-third n =
-            and-yes (eqb (offset b 0) 30) _ _ (agree e₀ refl f₀)
-            (and-yes (eqb (offset b 1) (offset b 0 + size b 0)) _ _ (agree e₁ sum₁ f₁)
-            (and-no (eqb (offset b 2) (offset b 1 + size b 1)) _ (differ e₂ (ap₂ _+_ e₁ t) n)))
+    pub none-passed : first ≤ length b → Passed n first 0
+    unfolding laidOut
+    none-passed h =
+        let same : first ≡ all = omega arith in
+        let none : n - 0 ≡ sectionCount b = omega arith in
+        record {
+          within = omega arith;
+          few = omega arith;
+          left = ap₂ (λ (z y : ℕ). follow b z 0 y) same none ∙ and-yes (leb all (length b)) _ _ (le-leb all (length b) (omega arith)) refl;
+        }
 
-        pub layout-end : third ≡ second + steiner → (edges : ℕ) → edges ≡ size b 2 → eqb (length b) (third + edges) ≡ laidOut b
-        layout-end f₂ edges r =
-            and-yes (eqb (offset b 0) 30) _ _ (agree e₀ refl f₀)
-            (and-yes (eqb (offset b 1) (offset b 0 + size b 0)) _ _ (agree e₁ sum₁ f₁)
-            (and-yes (eqb (offset b 2) (offset b 1 + size b 1)) _ _ (agree e₂ (ap₂ _+_ e₁ t) f₂) (test refl (ap₂ _+_ e₂ r))))
+  module _ (n : ℕ) {at k : ℕ} (p : Passed n at k) where
+    one-left : k < n → {o : ℕ} → o ≡ offset b k → (eqb o at && follow b (at + size b k) (k + 1) (n - (k + 1))) ≡ laidOut b
+    unfolding follow
+    one-left h {o} e =
+        let more : n - k ≡ suc (n - (k + 1)) = omega arith in
+        ap₂ (λ (z y : ℕ). eqb z at && follow b (at + size b k) y (n - (k + 1))) e (add-one k)
+        ∙ ap (follow b at k) (sym more) ∙ p .left
+
+    pub next-passed : k < n → {o s : ℕ} → o ≡ offset b k → o ≡ at → s ≡ size b k → s < 4294967296 → Passed n (at + s) (k + 1)
+    next-passed h {o} {s} e same f few =
+        record {
+          within = omega arith;
+          few = omega (arith, p .few);
+          left =
+              ap (λ (z : ℕ). follow b (at + z) (k + 1) (n - (k + 1))) f
+              ∙ and-yes (eqb o at) _ _ (eq-eqb o at same) refl ∙ one-left h e;
+        }
+
+    pub apart : k < n → {o : ℕ} → o ≡ offset b k → ¬ (o ≡ at) → false ≡ laidOut b
+    apart h {o} e other = and-no (eqb o at) _ (ne-eqb o at other) ∙ one-left h e
+
+    pub all-passed : n ≤ k → eqb at (length b) ≡ laidOut b
+    unfolding follow
+    all-passed h = let none : n - k ≡ 0 = omega (arith, p .within) in ap (follow b at k) (sym none) ∙ p .left
 
   -- Check 3.
   module _ (pins : ℕ) (p : pins ≡ size b 0) where

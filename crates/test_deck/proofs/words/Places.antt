@@ -8,7 +8,7 @@ use lib.Seq.{length-take-le, take-at, take-all, getD-at, drop-length, drop-appen
 use Rattle.arrays.specs.Paste.{Pasted}
 use Rattle.arrays.proofs.paste.Parts.{pasted-one, pasted-then, pasted-length, front-is}
 use Rattle.deck.specs.declared.Deck.{Deck}
-use Rattle.test_deck.specs.Words.{deckIn, wordsOf}
+use Rattle.test_deck.specs.Words.{pinPlaces, steinerPlaces, endPlaces, pinCountWord, steinerWord, steinerCountWord, endsWord, wordCount, deckIn, wordsOf}
 
 -- Items put over a whole array are the array.
 whole : {items before after : List ℕ} {r : ℕ} → Pasted items before after 0 r → length before ≡ length items → after ≡ items
@@ -30,9 +30,9 @@ then-one {items} {before} {after} {r} at n p h b =
 
 -- The arrays of a deck are as long as their types say.
 pub record Sized (d : Deck) : Type 0 where
-  pub pins : length (d .points .pins) ≡ 64
-  pub steiner : length (d .points .steiner) ≡ 128
-  pub ends : length (d .ends) ≡ 128
+  pub pins : length (d .points .pins) ≡ pinPlaces
+  pub steiner : length (d .points .steiner) ≡ steinerPlaces
+  pub ends : length (d .ends) ≡ endPlaces
 
 module _ (d : Deck) (sized : Sized d) where
   abbrev p : List ℕ
@@ -50,13 +50,13 @@ module _ (d : Deck) (sized : Sized d) where
   abbrev rest : List ℕ
   rest = s ++ m ∷ d .ends
 
-  drop-pins : (k : ℕ) → drop (64 + k) (wordsOf d) ≡ drop k (n ∷ rest)
+  drop-pins : (k : ℕ) → drop (pinPlaces + k) (wordsOf d) ≡ drop k (n ∷ rest)
   drop-pins k = ap (λ (z : ℕ). drop (z + k) (wordsOf d)) (sym (sized .pins)) ∙ drop-append-add p (n ∷ rest) k
 
-  behind-pins : (k : ℕ) → getD (wordsOf d) (64 + k) 0 ≡ getD (n ∷ rest) k 0
+  behind-pins : (k : ℕ) → getD (wordsOf d) (pinPlaces + k) 0 ≡ getD (n ∷ rest) k 0
   behind-pins k = ap (λ (z : ℕ). getD (wordsOf d) (z + k) 0) (sym (sized .pins)) ∙ getD-append-add p (n ∷ rest) k 0
 
-  drop-steiner : drop 129 rest ≡ d .ends
+  drop-steiner : drop (steinerPlaces + 1) rest ≡ d .ends
   drop-steiner = ap (λ (z : ℕ). drop (z + 1) rest) (sym (sized .steiner)) ∙ drop-append-add s (m ∷ d .ends) 1
 
   -- The words of a deck hold that deck: each part is read from its place.
@@ -64,17 +64,17 @@ module _ (d : Deck) (sized : Sized d) where
   deck-in-words i =
       record {
         points = record {
-          pins = take-at p (n ∷ rest) 64 (sized .pins) i;
-          npins = getD-at p n rest 0 64 (sized .pins) i;
-          steiner = (ap (take 128) (drop-pins 1) ∙ take-at s (m ∷ d .ends) 128 (sized .steiner)) i;
-          nsteiner = (behind-pins 129 ∙ getD-at s m (d .ends) 0 128 (sized .steiner)) i;
+          pins = take-at p (n ∷ rest) pinPlaces (sized .pins) i;
+          npins = getD-at p n rest 0 pinCountWord (sized .pins) i;
+          steiner = (ap (take steinerPlaces) (drop-pins 1) ∙ take-at s (m ∷ d .ends) steinerPlaces (sized .steiner)) i;
+          nsteiner = (behind-pins (1 + steinerPlaces) ∙ getD-at s m (d .ends) 0 steinerPlaces (sized .steiner)) i;
         };
-        ends = (ap (take 128) (drop-pins 130 ∙ drop-steiner) ∙ take-all 128 (d .ends) (omega (arith, sized .ends))) i;
+        ends = (ap (take endPlaces) (drop-pins (2 + steinerPlaces) ∙ drop-steiner) ∙ take-all endPlaces (d .ends) (omega (arith, sized .ends))) i;
       }
 
-  -- The parts put one behind the other into an array of 322 words are the words of the deck.
-  pub laid-out : {before a b after : List ℕ} {i j k : ℕ} → length before ≡ 322 → Pasted p before a 0 i → Pasted s (set a 64 n) b 65 j
-      → Pasted (d .ends) (set b 193 m) after 194 k → after ≡ wordsOf d
+  -- The parts put one behind the other into an array for all words are the words of the deck.
+  pub laid-out : {before a b after : List ℕ} {i j k : ℕ} → length before ≡ wordCount → Pasted p before a 0 i → Pasted s (set a pinCountWord n) b steinerWord j
+      → Pasted (d .ends) (set b steinerCountWord m) after endsWord k → after ≡ wordsOf d
   laid-out {before} {a} {b} size x y z =
       whole (pasted-then second (omega arith) z)
       (omega (arith, short, sized .ends, length-append (p₁ ++ s) (m ∷ []), length-append (p₁ ++ s ++ m ∷ []) (d .ends)))
@@ -83,11 +83,11 @@ module _ (d : Deck) (sized : Sized d) where
       p₁ : List ℕ
       p₁ = p ++ n ∷ []
 
-      first : Pasted p₁ before (set a 64 n) 0 65
-      first = then-one 64 n x (sized .pins) (omega arith)
+      first : Pasted p₁ before (set a pinCountWord n) 0 steinerWord
+      first = then-one pinCountWord n x (sized .pins) (omega arith)
 
-      short : length (p₁ ++ s) ≡ 193
+      short : length (p₁ ++ s) ≡ steinerCountWord
       short = length-append p₁ s ∙ omega (arith, sized .pins, sized .steiner, length-append p (n ∷ []))
 
-      second : Pasted (p₁ ++ s ++ m ∷ []) before (set b 193 m) 0 194
-      second = then-one 193 m (pasted-then first (omega arith) y) short (omega arith)
+      second : Pasted (p₁ ++ s ++ m ∷ []) before (set b steinerCountWord m) 0 endsWord
+      second = then-one steinerCountWord m (pasted-then first (omega arith) y) short (omega arith)

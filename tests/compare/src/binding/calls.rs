@@ -1,13 +1,14 @@
 //! The proved calls, as `test_deck` has them. They take every deck, so each
 //! function around them is safe.
 
-use super::deck::{Deck, WORDS};
+use super::deck::Deck;
 use super::parts::{coordinate, Parts};
+use super::places::WORDS;
 use super::untouched::UNTOUCHED;
 use reference::session::Call;
 
 mod library {
-    use crate::binding::deck::WORDS;
+    use crate::binding::places::WORDS;
 
     unsafe extern "C" {
         /// The empty deck.

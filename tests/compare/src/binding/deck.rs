@@ -1,5 +1,6 @@
 //! A deck in the proved form: one array of words.
 
+use super::places::{ENDS, PINS, PIN_COUNT, STEINER, STEINER_COUNT, WORDS};
 use reference::plane::Point;
 use reference::session::{is_valid, State};
 use reference::tree::listing_order;
@@ -8,21 +9,12 @@ use std::ops::Range;
 /// What is added to a coordinate in the code of a point.
 const BIAS: i64 = 30_000;
 
-/// The number of words of a deck.
-pub const WORDS: usize = 322;
-
-/// Where the pins stand in the words.
-pub const PIN_PLACES: Range<usize> = 0..64;
-/// Where the number of pins stands.
-pub const PIN_COUNT: usize = 64;
-
-/// Where the Steiner points stand.
-pub const STEINER_PLACES: Range<usize> = 65..193;
-/// Where the number of Steiner points stands.
-pub const STEINER_COUNT: usize = 193;
-
-/// Where the ends of the edges stand.
-pub const END_PLACES: Range<usize> = 194..WORDS;
+/// The words of the pins.
+pub const PIN_WORDS: Range<usize> = PINS..PIN_COUNT;
+/// The words of the Steiner points.
+pub const STEINER_WORDS: Range<usize> = STEINER..STEINER_COUNT;
+/// The words of the ends of the edges.
+pub const END_WORDS: Range<usize> = ENDS..WORDS;
 
 /// The words of a deck, with any values.
 #[derive(Clone, Copy, Debug, PartialEq, Eq)]
@@ -60,11 +52,11 @@ impl Deck {
     /// The deck with each list at the front of its places and zeros behind.
     pub fn with_lists(pins: &[u64], steiner: &[u64], ends: &[u64]) -> Deck {
         let mut words = [0; WORDS];
-        words[PIN_PLACES][..pins.len()].copy_from_slice(pins);
+        words[PIN_WORDS][..pins.len()].copy_from_slice(pins);
         words[PIN_COUNT] = pins.len() as u64;
-        words[STEINER_PLACES][..steiner.len()].copy_from_slice(steiner);
+        words[STEINER_WORDS][..steiner.len()].copy_from_slice(steiner);
         words[STEINER_COUNT] = steiner.len() as u64;
-        words[END_PLACES][..ends.len()].copy_from_slice(ends);
+        words[END_WORDS][..ends.len()].copy_from_slice(ends);
         Deck { words }
     }
 
@@ -87,15 +79,15 @@ impl Deck {
 
     /// The places for the ends of edges.
     pub fn ends(&self) -> &[u64] {
-        &self.words[END_PLACES]
+        &self.words[END_WORDS]
     }
 
     /// The points of the deck as they stand, where its counts are not too large.
     pub fn points(&self) -> Option<State> {
         let points = |codes: &[u64]| codes.iter().map(|&k| point(k)).collect::<Vec<_>>();
         Some(State {
-            pins: points(self.words[PIN_PLACES].get(..self.npins())?),
-            steiner: points(self.words[STEINER_PLACES].get(..self.nsteiner())?),
+            pins: points(self.words[PIN_WORDS].get(..self.npins())?),
+            steiner: points(self.words[STEINER_WORDS].get(..self.nsteiner())?),
         })
     }
 

@@ -7,6 +7,7 @@ pub mod deck;
 pub mod display;
 pub mod entries;
 pub mod parts;
+pub mod places;
 pub mod programs;
 pub mod questions;
 pub mod tree;

@@ -5,7 +5,7 @@ use super::deck::Deck;
 use super::parts::Parts;
 
 mod library {
-    use crate::binding::deck::WORDS;
+    use crate::binding::places::WORDS;
 
     unsafe extern "C" {
         /// Whether a deck is sound.

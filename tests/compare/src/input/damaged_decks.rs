@@ -1,8 +1,9 @@
 //! Decks damaged in one part: the counts, the points, the places that are
 //! not used, and every word. A damage may happen to give a sound deck.
 
-use crate::binding::deck::{code, Deck, END_PLACES, WORDS};
-use crate::binding::deck::{PIN_COUNT, PIN_PLACES, STEINER_COUNT, STEINER_PLACES};
+use crate::binding::deck::{code, Deck, PIN_WORDS, STEINER_WORDS};
+use crate::binding::places::{ENDS, PIN_COUNT, STEINER_COUNT, WORDS};
+use crate::binding::places::{END_PLACES, PIN_PLACES, STEINER_PLACES};
 use reference::generate::Random;
 use reference::plane::{Point, LIMIT};
 use std::ops::Range;
@@ -41,7 +42,7 @@ struct Points {
 }
 
 const PINS: Points = Points {
-    places: PIN_PLACES,
+    places: PIN_WORDS,
     count: PIN_COUNT,
     moved: "pin moved",
     doubled: "pin doubled",
@@ -50,7 +51,7 @@ const PINS: Points = Points {
 };
 
 const STEINER: Points = Points {
-    places: STEINER_PLACES,
+    places: STEINER_WORDS,
     count: STEINER_COUNT,
     moved: "Steiner point moved",
     doubled: "Steiner point doubled",
@@ -110,14 +111,14 @@ pub fn unused(deck: &Deck) -> Vec<Damaged> {
     let edges = (deck.npins() + deck.nsteiner()).saturating_sub(1);
     let mut damaged = Vec::new();
     for value in [1, some, u64::MAX] {
-        for i in deck.npins()..64 {
+        for i in deck.npins()..PIN_PLACES {
             damaged.push(("unused pin", PINS.with(deck, |a| a[i] = value)));
         }
-        for i in deck.nsteiner()..64 {
+        for i in deck.nsteiner()..STEINER_PLACES {
             damaged.push(("unused Steiner point", STEINER.with(deck, |a| a[i] = value)));
         }
-        for i in edges..128 {
-            damaged.push(("unused edge", deck.with(END_PLACES.start + i, value)));
+        for i in edges..END_PLACES {
+            damaged.push(("unused edge", deck.with(ENDS + i, value)));
         }
     }
     damaged

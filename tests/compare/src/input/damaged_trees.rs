@@ -2,7 +2,7 @@
 //! happen to give a sound deck.
 
 use super::damaged_decks::Damaged;
-use crate::binding::deck::{code, Deck, END_PLACES};
+use crate::binding::deck::{code, Deck, END_WORDS};
 use reference::generate::Random;
 use reference::plane::Point;
 use reference::session::{is_valid, State};
@@ -18,7 +18,7 @@ fn ends_of(deck: &Deck, count: usize) -> Ends {
 /// The deck with these edges, as they stand.
 fn with(deck: &Deck, ends: &Ends) -> Deck {
     let mut damaged = *deck;
-    let words = &mut damaged.words[END_PLACES];
+    let words = &mut damaged.words[END_WORDS];
     words.fill(0);
     for (word, &(a, b)) in words.iter_mut().zip(ends) {
         *word = 128 * a + b;

@@ -1,6 +1,6 @@
 -- `buffer::file::put_parts` meets its contract: one part behind the other.
 use native.Mathlib.Omega.{arith}
-use Rattle.buffer.proofs.Parts.{pins-end, steiner-end, parts-put}
+use Rattle.buffer.proofs.Parts.{header-end, pins-end, steiner-end, parts-put}
 use borrow.Author.Needs.{needs}
 use Rattle.buffer.proofs.file.put_parts.Statement.{statement}
 use Rattle.buffer.proofs.file.put_parts.Tie as tie
@@ -11,13 +11,19 @@ entry-of at-edges-of =
     let at-ends = at-edges-of .before .before in
     at-ends .before .before .before
 
+put-points-requires : tie.Need-put-points-requires
+put-points-requires c κs =
+    let at-put-header = c .before .before .before in
+    let kept = entry-of (at-put-header .before .before) .pre in
+    (kept .inPins, omega (arith, header-end kept _ (at-put-header .put-file-header .ensures), kept .room))
+
 put-points-requires-2 : tie.Need-put-points-requires-2
 put-points-requires-2 c κs =
     let at-put-points = c .before .before .before in
     let at-put-points-arg = at-put-points .before in
     let at-put-header = at-put-points-arg .before .before .before in
     let kept = entry-of (at-put-header .before .before) .pre in
-    (kept .inSteiner, omega (arith, at-put-header .put-header .ensures .next, pins-end kept (at-put-points .put-points .ensures), kept .room))
+    (kept .inSteiner, omega (arith, header-end kept _ (at-put-header .put-file-header .ensures), pins-end kept (at-put-points .put-points .ensures), kept .room))
 
 put-edges-requires : tie.Need-put-edges-requires
 put-edges-requires c κs =
@@ -31,7 +37,7 @@ put-edges-requires c κs =
     let steiner = pins-end kept (at-put-points .put-points .ensures) in
     let edges = steiner-end kept (at-put-points2 .put-points2 .ensures) in
     let count = at-edges-of .edges-of .ensures in
-    (omega (arith, count, kept .inEnds), omega (arith, at-put-header .put-header .ensures .next, steiner, edges, count, kept .room))
+    (omega (arith, count, kept .inEnds), omega (arith, header-end kept _ (at-put-header .put-file-header .ensures), steiner, edges, count, kept .room))
 
 returns : tie.Need-returns
 returns c =
@@ -44,7 +50,7 @@ returns c =
     let at-put-header = at-put-points-arg .before .before .before in
     let at-edges-of = at-put-header .before .before in
     parts-put (entry-of at-edges-of .pre) (at-edges-of .edges-of .ensures)
-    (at-put-header .put-header .ensures) (at-put-points .put-points .ensures) (at-put-points2 .put-points2 .ensures) (at-put-edges .put-edges .ensures)
+    (at-put-header .put-file-header .ensures) (at-put-points .put-points .ensures) (at-put-points2 .put-points2 .ensures) (at-put-edges .put-edges .ensures)
 
 pub put-parts-spec : {M : Type 1} → statement M
 put-parts-spec =
@@ -52,11 +58,8 @@ put-parts-spec =
     (tie.spec
     (λ c. search needs)
     (λ c κs. search needs)
-    (λ c. search needs)
-    (λ c. search needs)
-    (λ c. search needs)
     (λ c κs. search needs)
-    (λ c κs. search needs)
+    put-points-requires
     put-points-requires-2
     put-edges-requires
     (λ c. search needs)

@@ -7,19 +7,19 @@ use Rattle.deckfile.proofs.reader.has_edges.Tie as tie
 
 returns : tie.Need-returns
 returns c =
-    let at-number4 = c .before .before in
-    let entry = at-number4 .before .before in
-    edges-other (entry .args .b .now) (entry .pre .0) _ (entry .pre .1 .0) (entry .pre .1 .1) _ (at-number4 .number4 .ensures .0) (c .if1 .taken)
+    let at-size = c .before .before in
+    let entry = at-size .before .before in
+    edges-other (entry .args .b .now) (entry .pre .0) _ (entry .pre .1 .0) (entry .pre .1 .1) _ (at-size .size .ensures .0) (c .if1 .taken)
 
 returns-2 : tie.Need-returns-2
 returns-2 c =
-    let at-number42 = c .before .before in
-    let at-test = at-number42 .before .before in
-    let at-number4 = at-test .before .before in
-    let entry = at-number4 .before .before in
+    let at-offset = c .before .before in
+    let at-test = at-offset .before .before in
+    let at-size = at-test .before .before in
+    let entry = at-size .before .before in
     c .same-edges .ensures
-    ∙ edges-same (entry .args .b .now) (entry .pre .0) _ (entry .pre .1 .0) (entry .pre .1 .1) _ _ _ (at-number4 .number4 .ensures .0) (at-test .if1 .left)
-    (at-number42 .number42 .ensures .0) (at-number42 .before .edge-numbers .ensures)
+    ∙ edges-same (entry .args .b .now) (entry .pre .0) _ (entry .pre .1 .0) (entry .pre .1 .1) _ _ _ (at-size .size .ensures .0) (at-test .if1 .left)
+    (at-offset .offset .ensures .0) (at-offset .before .edge-numbers .ensures)
 
 pub has-edges-spec : {M : Type 1} → statement M
 has-edges-spec =

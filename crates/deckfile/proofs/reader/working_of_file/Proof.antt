@@ -10,20 +10,20 @@ use Rattle.deckfile.proofs.reader.working_of_file.Tie as tie
 -- The entry, seen from the call of `points_working`.
 abbrev entry-of : tie.After-points-working → tie.Start
 entry-of at-points-working =
-    let at-number4 = at-points-working .before .before in
-    at-number4 .before .before
+    let at-size = at-points-working .before .before in
+    at-size .before .before
 
 returns : tie.Need-returns
 returns c =
-    let at-number4 = c .before .before in
-    let entry = at-number4 .before .before in
-    read-as (last-many (entry .args .b .now) (entry .pre .0) (entry .pre .1 .1 .1) _ (at-number4 .number4 .ensures .0) (c .before .if1 .taken))
+    let at-size = c .before .before in
+    let entry = at-size .before .before in
+    read-as (last-many (entry .args .b .now) (entry .pre .0) (entry .pre .1 .1 .1) _ (at-size .size .ensures .0) (c .before .if1 .taken))
     (c .refuse .ensures)
 
 points-working-requires : tie.Need-points-working-requires
 points-working-requires c κs =
     let entry = c .before .before .before in
-    (entry .pre .0, (entry .pre .1 .1 .0, (entry .pre .1 .1 .1, omega (arith, c .before .number4 .ensures .0))))
+    (entry .pre .0, (entry .pre .1 .1 .0, (entry .pre .1 .1 .1, omega (arith, c .before .size .ensures .0))))
 
 returns-2 : tie.Need-returns-2
 returns-2 c =

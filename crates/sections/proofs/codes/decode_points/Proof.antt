@@ -1,18 +1,32 @@
 -- `sections::codes::decode_points` meets its contract: the points decoded are those that the file shows.
-use Rattle.sections.proofs.codes.Placed.{decodes}
+use Rattle.sections.proofs.codes.Placed.{pins-section, steiner-section, steiner-room, decodes}
+use native.Mathlib.Omega.{arith}
 use borrow.Author.Needs.{needs}
 use Rattle.sections.proofs.codes.decode_points.Statement.{statement}
 use Rattle.sections.proofs.codes.decode_points.Tie as tie
 
+decode-section-requires : tie.Need-decode-section-requires
+decode-section-requires c κs =
+    let entry = c .before .before .before .before in
+    (omega arith, (pins-section _ (entry .pre .0), omega (arith, entry .pre .1)))
+
+decode-section-requires-2 : tie.Need-decode-section-requires-2
+decode-section-requires-2 c κs =
+    let at-pins = c .before .before in
+    let at-size2 = at-pins .before .before in
+    let entry = at-size2 .before .before .before in
+    (omega arith, (steiner-section _ (entry .pre .0), steiner-room _ (entry .pre .0)))
+
 returns : tie.Need-returns
 returns c =
-    let at-steiner = c .before in
-    let at-decode2 = at-steiner .before .before .before in
-    let at-decode = at-decode2 .before .before .before in
-    let at-number42 = at-decode .before .before in
-    let entry = at-number42 .before .before .before in
-    decodes (entry .args .b .now) (entry .pre .0) _ _ (at-number42 .before .number4 .ensures .0) (at-number42 .number42 .ensures .0)
-    (at-decode .decode .ensures .0) (at-decode2 .decode2 .ensures .0) (at-decode .decode .ensures .1) (at-decode2 .decode2 .ensures .1) (c .are-placed .ensures)
+    let at-steiner = c .before .before .before .before in
+    let at-pins = at-steiner .before .before .before in
+    let at-size2 = at-pins .before .before in
+    let at-size = at-size2 .before in
+    let entry = at-size .before .before in
+    decodes (entry .args .b .now) (entry .pre .0) _ _ (at-size .size .ensures .0) (at-size2 .size2 .ensures .0)
+    (at-pins .decode-section .ensures .0) (at-steiner .decode-section2 .ensures .0) (at-pins .decode-section .ensures .1)
+    (at-steiner .decode-section2 .ensures .1) (c .are-placed .ensures)
 
 pub decode-points-spec : {M : Type 1} → statement M
 decode-points-spec =
@@ -21,10 +35,9 @@ decode-points-spec =
     (λ c κs. search needs)
     (λ c κs. search needs)
     (λ c. search needs)
-    (λ c κs. search needs)
+    decode-section-requires
     (λ c. search needs)
-    (λ c. search needs)
-    (λ c κs. search needs)
+    decode-section-requires-2
     (λ c. search needs)
     (λ c. search needs)
     (λ c κs. search needs)

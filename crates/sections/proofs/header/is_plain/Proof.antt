@@ -7,13 +7,13 @@ use Rattle.sections.proofs.header.is_plain.Tie as tie
 
 returns : tie.Need-returns
 returns c =
-    plain-steiner (c .before .before .before .args .b .now) _ (c .before .number4 .ensures .0) (c .if1 .taken)
+    plain-steiner (c .before .before .before .args .b .now) _ (c .before .size .ensures .0) (c .if1 .taken)
 
 returns-2 : tie.Need-returns-2
 returns-2 c =
-    let at-number4 = c .before .before in
-    let entry = at-number4 .before .before in
-    plain-edges (entry .args .b .now) _ (at-number4 .number4 .ensures .0) (omega arith) _ (c .number42 .ensures .0)
+    let at-size = c .before .before in
+    let entry = at-size .before .before in
+    plain-edges (entry .args .b .now) _ (at-size .size .ensures .0) (omega arith) _ (c .size2 .ensures .0)
 
 pub is-plain-spec : {M : Type 1} → statement M
 is-plain-spec = tie.close (tie.spec (λ c κs. search needs) returns (λ c κs. search needs) returns-2)

@@ -2,12 +2,13 @@
 use mathlib.Core.Path.{_≡_, refl}
 use native.Mathlib.Omega.{arith}
 use lib.ListN.{length, getD}
+use Rattle.test_deck.specs.Words.{pinPlaces, steinerPlaces, endPlaces, pinCountWord, steinerWord, steinerCountWord, endsWord, wordCount}
 use Rattle.test_deck.proofs.words.Places.{part-copied}
 use borrow.Author.Needs.{needs}
 use Rattle.test_deck.proofs.words.deck_in.Statement.{statement}
 use Rattle.test_deck.proofs.words.deck_in.Tie as tie
 
-size : (s : tie.Start) → length (s .args .t1) ≡ 322
+size : (s : tie.Start) → length (s .args .t1) ≡ wordCount
 size s = search needs
 
 returns : tie.Need-returns
@@ -20,11 +21,11 @@ returns c =
     let at-put-numbers-arg = at-put-numbers .before in
     let entry = at-put-numbers-arg .before .before .before in
     let w = entry .args .t1 in
-    let pins = part-copied w 0 64 (at-put-numbers .put-numbers .ensures) (omega (arith, size entry)) refl in
-    let steiner = part-copied w 65 128 (at-put-numbers2 .put-numbers2 .ensures) (omega (arith, size entry)) refl in
-    let ends = part-copied w 194 128 (at-put-numbers3 .put-numbers3 .ensures) (omega (arith, size entry)) refl in
+    let pins = part-copied w 0 pinPlaces (at-put-numbers .put-numbers .ensures) (omega (arith, size entry)) refl in
+    let steiner = part-copied w steinerWord steinerPlaces (at-put-numbers2 .put-numbers2 .ensures) (omega (arith, size entry)) refl in
+    let ends = part-copied w endsWord endPlaces (at-put-numbers3 .put-numbers3 .ensures) (omega (arith, size entry)) refl in
     λ i. record {
-      points = record { pins = pins i; npins = getD w 64 0; steiner = steiner i; nsteiner = getD w 193 0 };
+      points = record { pins = pins i; npins = getD w pinCountWord 0; steiner = steiner i; nsteiner = getD w steinerCountWord 0 };
       ends = ends i;
     }
 

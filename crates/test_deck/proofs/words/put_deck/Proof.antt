@@ -3,7 +3,7 @@
 use mathlib.Core.Path.{refl, ap, _∙_}
 use native.Mathlib.Omega.{arith}
 use lib.ListN.{length-set}
-use Rattle.test_deck.specs.Words.{deckIn}
+use Rattle.test_deck.specs.Words.{pinCountWord, steinerCountWord, deckIn}
 use Rattle.test_deck.proofs.words.Places.{Sized, laid-out, deck-in-words}
 use borrow.Author.Needs.{needs}
 use Rattle.test_deck.proofs.words.put_deck.Statement.{statement}
@@ -26,7 +26,7 @@ put-numbers-requires-2 c κs =
     omega (
       arith,
       sized s .steiner,
-      length-set (at-put-numbers .put-numbers .last .0) 64 (s .args .d .points .npins),
+      length-set (at-put-numbers .put-numbers .last .0) pinCountWord (s .args .d .points .npins),
       at-put-numbers .put-numbers .kept .0,
     )
 
@@ -40,7 +40,7 @@ put-numbers-requires-3 c κs =
     omega (
       arith,
       sized s .ends,
-      length-set (at-put-numbers2 .put-numbers2 .last .0) 193 (s .args .d .points .nsteiner),
+      length-set (at-put-numbers2 .put-numbers2 .last .0) steinerCountWord (s .args .d .points .nsteiner),
       at-put-numbers2 .put-numbers2 .kept .0,
     )
 

@@ -1,0 +1,23 @@
+// Where the parts of a deck stand in the array of words that tests hand over. This list is the only one: the entries here use it, and the
+// bindings in Rust include this file, so it keeps to what both languages read.
+
+// How many words there are for pins, for Steiner points and for the ends of edges.
+pub const PIN_PLACES: usize = 64;
+
+pub const STEINER_PLACES: usize = 128;
+
+pub const END_PLACES: usize = 128;
+
+// The first word of each part, behind the part in front of it: the pins, their number, the Steiner points, their number, the ends of edges.
+pub const PINS: usize = 0;
+
+pub const PIN_COUNT: usize = PINS + PIN_PLACES;
+
+pub const STEINER: usize = PIN_COUNT + 1;
+
+pub const STEINER_COUNT: usize = STEINER + STEINER_PLACES;
+
+pub const ENDS: usize = STEINER_COUNT + 1;
+
+// The number of words of a deck.
+pub const WORDS: usize = ENDS + END_PLACES;
