@@ -7,11 +7,11 @@ use lib.ListN.{take}
 use Rattle.arrays.specs.Paste.{Pasted, each}
 use Rattle.arrays.proofs.paste.Lines.{each-next}
 use Rattle.arrays.proofs.paste.Parts.{pasted-same, pasted-then}
-use Rattle.model.specs.Sections.{headerSize, header}
-use Rattle.model.specs.File.{fewestSections}
+use Rattle.model.specs.Sections.{header}
+use Rattle.model.specs.File.{shortest, sizesOf}
 use Rattle.model.proofs.Sections.{header-length}
 use Rattle.sections.specs.Bytes.{endsBytes, codeBytes}
-use Rattle.buffer.specs.Parts.{sizesOf, fileParts, PartsFit}
+use Rattle.buffer.specs.Parts.{fileParts, PartsFit}
 
 module _ {pins : List ℕ} {n : ℕ} {steiner : List ℕ} {m : ℕ} {ends old : List ℕ} (k : PartsFit pins n steiner m ends old) where
   -- The place behind the pins, and behind the Steiner points.
@@ -22,7 +22,7 @@ module _ {pins : List ℕ} {n : ℕ} {steiner : List ℕ} {m : ℕ} {ends old : 
   steiner-end p = each-next codeBytes 4 (λ _. refl) steiner m (k .inSteiner) p
 
   -- The place behind the header.
-  pub header-end : (e : ℕ) {l o : List ℕ} {r : ℕ} → Pasted (header (sizesOf n m e)) l o 0 r → r ≡ headerSize fewestSections
+  pub header-end : (e : ℕ) {l o : List ℕ} {r : ℕ} → Pasted (header (sizesOf n m e)) l o 0 r → r ≡ shortest
   header-end e p = omega (arith, p .next, header-length (sizesOf n m e))
 
   pub parts-put : {e : ℕ} → e ≡ n + m - 1 → {o₁ o₂ o₃ o₄ : List ℕ} {a b c r : ℕ} → Pasted (header (sizesOf n m e)) old o₁ 0 a

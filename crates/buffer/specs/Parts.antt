@@ -1,22 +1,13 @@
 -- The header and the sections of a file, one behind the other.
-use mathlib.Core.List.{List, [], _∷_, _++_}
-use Prim.Native.Nat.{ℕ, _+_, _*_, _-_, _≤_}
+use mathlib.Core.List.{List, _++_}
+use Prim.Native.Nat.{ℕ, _+_, _-_, _≤_}
 use lib.ListN.{length, take}
 use Rattle.model.specs.State.{maxPins}
-use Rattle.model.specs.Sections.{headerSize, header}
-use Rattle.model.specs.File.{fewestSections}
+use Rattle.model.specs.Sections.{header, fileSize}
+use Rattle.model.specs.File.{sizesOf}
 use Rattle.points.specs.Coded.{maxSteiner}
 use Rattle.arrays.specs.Paste.{each}
 use Rattle.sections.specs.Bytes.{endsBytes, codeBytes}
-
--- The sum of some numbers.
-unfoldable pub sum : List ℕ → ℕ
-sum [] = 0
-sum (n ∷ l) = n + sum l
-
--- The lengths of the sections of n pins, m Steiner points and e edges.
-abbrev pub sizesOf : ℕ → ℕ → ℕ → List ℕ
-sizesOf n m e = 4 * n ∷ 4 * m ∷ 2 * e ∷ []
 
 -- The file of n pins and m Steiner points kept as codes, and of the edges of their tree kept as numbers.
 abbrev pub fileParts : List ℕ → ℕ → List ℕ → ℕ → List ℕ → List ℕ
@@ -31,4 +22,4 @@ pub record PartsFit (pins : List ℕ) (n : ℕ) (steiner : List ℕ) (m : ℕ) (
   pub inPins : n ≤ length pins
   pub inSteiner : m ≤ length steiner
   pub inEnds : n + m - 1 ≤ length ends
-  pub room : headerSize fewestSections + 4 * n + 4 * m + 2 * (n + m - 1) ≤ length out
+  pub room : fileSize (sizesOf n m (n + m - 1)) ≤ length out

@@ -7,26 +7,26 @@ use sections::header::POINT_SIZE;
 use sections::header::SHORTEST;
 use tree::list::edges_of;
 ghost use mathlib.Core.Path.{_≡_};
-ghost use Prim.Native.Nat.{_+_, _*_, _-_, _≤_};
+ghost use Prim.Native.Nat.{_+_, _-_, _≤_};
 ghost use lib.ListN.{length};
 ghost use Rattle.arrays.specs.Paste.{Pasted};
 ghost use Rattle.model.specs.State.{maxPins};
-ghost use Rattle.model.specs.Sections.{headerSize, header};
-ghost use Rattle.model.specs.File.{fewestSections};
+ghost use Rattle.model.specs.Sections.{header, fileSize};
+ghost use Rattle.model.specs.File.{shortest, sizesOf};
 ghost use Rattle.points.specs.Coded.{maxSteiner};
-ghost use Rattle.buffer.specs.Parts.{sizesOf, fileParts, PartsFit};
+ghost use Rattle.buffer.specs.Parts.{fileParts, PartsFit};
 
 // Returns how many bytes the file of n pins and m Steiner points has.
 pub fn length_for(n: usize, m: usize) -> usize
     requires { ⌜ (n ≤ maxPins) × (m ≤ maxSteiner) ⌝ }
-    ensures { λ r. ⌜ r ≡ headerSize fewestSections + 4 * n + 4 * m + 2 * (n + m - 1) ⌝ }
+    ensures { λ r. ⌜ r ≡ fileSize (sizesOf n m (n + m - 1)) ⌝ }
 {
     SHORTEST + POINT_SIZE * n + POINT_SIZE * m + EDGE_SIZE * edges_of(n + m)
 }
 
 // Puts the header of the file of n pins, m Steiner points and e edges. Returns the place behind it.
 fn put_file_header(n: usize, m: usize, e: usize, out: &mut [u8]) -> usize
-    requires { ⌜ headerSize fewestSections ≤ length (now out) ⌝ }
+    requires { ⌜ shortest ≤ length (now out) ⌝ }
     requires { ⌜ (n ≤ maxPins) × (m ≤ maxSteiner) × (e ≤ maxPins + maxSteiner) ⌝ }
     ensures { λ r. ⌜ Pasted (header (sizesOf n m e)) (now (out .entry)) (now (out .exit)) 0 r ⌝ }
 {

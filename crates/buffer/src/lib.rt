@@ -15,9 +15,8 @@ ghost use Prim.Native.Nat.{_+_, _*_, _≤_, _<_};
 ghost use lib.ListN.{length, take};
 ghost use Rattle.arrays.specs.Number.{bytes4};
 ghost use Rattle.arrays.specs.Paste.{Pasted, each};
-ghost use Rattle.model.specs.Sections.{headerSize, pairsFrom, header};
+ghost use Rattle.model.specs.Sections.{headerSize, pairsFrom, header, sumOf, fileSize};
 ghost use Rattle.sections.specs.Bytes.{endsBytes, codeBytes};
-ghost use Rattle.buffer.specs.Parts.{sum};
 
 // Puts the pair of offset and length of a section.
 fn put_pair(offset: usize, size: usize, out: &mut [u8], at: usize) -> usize
@@ -32,7 +31,7 @@ fn put_pair(offset: usize, size: usize, out: &mut [u8], at: usize) -> usize
 // Returns the place behind the pairs.
 fn put_pairs(sizes: &[usize], start: usize, out: &mut [u8], at: usize) -> usize
     requires { ⌜ at + 8 * length (now sizes) ≤ length (now out) ⌝ }
-    requires { ⌜ start + sum (now sizes) < 4294967296 ⌝ }
+    requires { ⌜ start + sumOf (now sizes) < 4294967296 ⌝ }
     ensures { λ r. ⌜ Pasted (pairsFrom start (now (sizes .entry))) (now (out .entry)) (now (out .exit)) at r ⌝ }
 {
     let mut offset = start;
@@ -50,7 +49,7 @@ fn put_pairs(sizes: &[usize], start: usize, out: &mut [u8], at: usize) -> usize
 // Puts the header of sections of these lengths at the front. Returns the place behind it.
 pub fn put_header(sizes: &[usize], out: &mut [u8]) -> usize
     requires { ⌜ headerSize (length (now sizes)) ≤ length (now out) ⌝ }
-    requires { ⌜ (length (now sizes) < 65536) × (sum (now sizes) < 4294000000) ⌝ }
+    requires { ⌜ fileSize (now sizes) < 4294967296 ⌝ }
     ensures { λ r. ⌜ Pasted (header (now (sizes .entry))) (now (out .entry)) (now (out .exit)) 0 r ⌝ }
 {
     let count = put_bytes(out, 0, b"DECK");

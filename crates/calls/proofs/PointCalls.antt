@@ -40,7 +40,11 @@ pub done-is : (w : Working) (c : call.Call) (v : Working) (s : State) → InOrde
     → ChangedBy w c (record { working = v; reply = Done })
 unfolding replyOf
 done-is w c v s p f e =
-    record { inOrder = p; next = ap (keeping (contentsOf w)) f ∙ ap (λ (o : call.Outcome). o .next) (sym e); reply = ap (λ (o : call.Outcome). replyOf (o .reply)) (sym e) }
+    record {
+      inOrder = p;
+      next = ap (keeping (contentsOf w)) f ∙ ap (λ (o : call.Outcome). o .next) (sym e);
+      reply = ap (λ (o : call.Outcome). replyOf (o .reply)) (sym e);
+    }
 
 -- The same call by equal points.
 pub by-point : (w : Working) (f : Point → call.Call) (p q : Point) → p ≡ q → (r : Changed) → ChangedBy w (f p) r → ChangedBy w (f q) r

@@ -35,7 +35,8 @@ checked-sound d r c e =
     t : T (sound d)
     t = of-true (sym (c .ok) ∙ e)
 
-pub checked-valid : (d : Deck) (r : Checked) → Checks (sound d) (d .points) r → r .ok ≡ true → work.InOrder (r .working) × ValidContents (work.contentsOf (r .working))
+pub checked-valid : (d : Deck) (r : Checked) → Checks (sound d) (d .points) r → r .ok ≡ true
+    → work.InOrder (r .working) × ValidContents (work.contentsOf (r .working))
 checked-valid d r c e = let k = checked-sound d r c e in (k .1, subst⁻¹ ValidContents (k .2) (k .0 .valid))
 
 -- A call by whether the deck is sound.

@@ -1,20 +1,17 @@
 -- Decks and contents correspond: the contents of the deck of valid contents are these, two sound decks with the same contents are equal, and
 -- soundness is decided by the test.
 use mathlib.Core.Path.{_≡_, sym, ap, _∙_, subst, subst⁻¹}
-use mathlib.Core.Logic.{_↔_, ⊎-elim}
-use Prim.Native.Nat.{_≤_}
-use native.Mathlib.Omega.{arith}
+use mathlib.Core.Logic.{_↔_}
 use lib.Dec.{T, eqb, eqb→eq, eqb-refl}
 use Rattle.arrays.specs.Same.{sameList}
 use Rattle.arrays.proofs.Test.{and-parts, and-both}
 use Rattle.arrays.proofs.same.Alike.{same-refl, same-eq}
 use Rattle.model.specs.State.{Placed}
 use Rattle.model.specs.Contents.{Contents, ofState, ValidContents, validContents}
-use Rattle.model.proofs.Prune.{few-steiner}
 use Rattle.model.proofs.Validity.{valid-contents-is}
 use Rattle.points.specs.declared.Points.{Points}
 use Rattle.points.specs.Coded.{Arranged}
-use Rattle.points.proofs.Coded.{state-coded, valid-arranged, pins-count, steiner-count}
+use Rattle.points.proofs.Coded.{state-coded, valid-arranged}
 use Rattle.working.specs.Edges.{edgeRow}
 use Rattle.deck.specs.declared.Deck.{Deck}
 use Rattle.deck.specs.Form.{deckOf, contentsOf, stateOf, Sound, samePoints, sameDeck, sound}
@@ -34,7 +31,7 @@ deck-sound c v =
 pub sound-unique : (d e : Deck) → Sound d → Sound e → contentsOf d ≡ contentsOf e → d ≡ e
 sound-unique d e s t q = s .same ∙ ap deckOf q ∙ sym (t .same)
 
--- What soundness gives: edges in the listing order, and points arranged, few enough.
+-- What soundness gives: edges in the listing order, and points arranged.
 module _ (d : Deck) (s : Sound d) where
   pub ends-are : d .ends ≡ edgeRow (stateOf d)
   unfolding deckOf
@@ -43,15 +40,6 @@ module _ (d : Deck) (s : Sound d) where
   pub sound-arranged : Arranged (d .points)
   unfolding deckOf
   sound-arranged = subst⁻¹ Arranged (λ i. s .same i .points) (valid-arranged (stateOf d) (s .valid .state))
-
-  pub sound-few : d .points .npins ≤ 64
-  sound-few = sound-arranged .pinCodes .few
-
-  pub sound-left : d .points .nsteiner ≤ 62
-  sound-left =
-      let n = pins-count (d .points) sound-arranged in
-      let m = steiner-count (d .points) sound-arranged in
-      ⊎-elim (λ e. omega (arith, m, e)) (λ h. omega (arith, n, m, h, sound-few)) (few-steiner (stateOf d) (s .valid .state))
 
 same-points : (q r : Points) → T (samePoints q r) → q ≡ r
 same-points q r t =

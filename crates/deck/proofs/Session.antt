@@ -12,6 +12,7 @@ use Rattle.model.specs.Call as call
 use Rattle.model.specs.Session as model
 use Rattle.model.proofs.Round.{round-valid}
 use Rattle.model.proofs.Step.{step-valid, after-valid}
+use Rattle.model.proofs.Validity.{keeping-valid}
 use Rattle.model.proofs.Session.{start-valid, valid-contents}
 use Rattle.arrays.proofs.Test.{true-of}
 use Rattle.deck.specs.declared.Outcome.{Outcome}
@@ -86,7 +87,7 @@ unfolding replyOf
 rounds-deck c v (model.ended e) = ended (finish-deck c v .1 e)
 rounds-deck c {r} v (model.added {k = k} e m) =
     added {e = deckOf (keeping c r)} {k = k} (round-reply c v ∙ ap (λ (a : RoundAnswer). replyOf (call.answered a)) e)
-    (rw (round-next c v) (rounds-deck (keeping c (round (c .state) .next)) (record { state = round-valid (c .state) (v .state) }) m))
+    (rw (round-next c v) (rounds-deck (keeping c (round (c .state) .next)) (keeping-valid v (round-valid (c .state) (v .state))) m))
 
 pub valid-deck : (c : Contents) → ValidContents c → SessionDeck (deckOf c) c
 unfolding call.step replyOf

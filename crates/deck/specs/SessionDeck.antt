@@ -11,11 +11,10 @@ use Rattle.model.specs.Call as call
 use Rattle.model.specs.Session as model
 use Rattle.deck.specs.declared.Deck.{Deck}
 use Rattle.calls.specs.declared.Reply.the-variants.{Finished, Rounds}
-use Rattle.questions.specs.declared.Answer.the-variants.{Length}
 use Rattle.deck.specs.Form.{deckOf, contentsOf, Sound}
 use Rattle.deck.specs.Calls.{called}
 use Rattle.deck.specs.Questions.{asked}
-use Rattle.questions.specs.Answers.{edgeAtAnswer, ofLength, ofEdge}
+use Rattle.questions.specs.Answers.{lengthAnswer, edgeAtAnswer, ofLength, ofEdge}
 use Rattle.deck.specs.Session.{deckAfter, replies, reckoned, DeckRoundsTo}
 
 -- What holds of a deck d that a list of calls leads to, c being the contents reckoned.
@@ -26,7 +25,7 @@ pub record SessionDeck (d : Deck) (c : Contents) : Type 0 where
   -- of them: the tree is least among all trees over them (`least`), and the rest of the model's claim
   pub session : model.SessionContents c
   -- the deck's tree is that tree: its length and its edges, as the questions answer them
-  pub lengthIs : asked d ofLength ≡ Length (question.lengthOfState (c .state))
+  pub lengthIs : asked d ofLength ≡ lengthAnswer c
   pub edge : (i : ℕ) → asked d (ofEdge i) ≡ edgeAtAnswer i c
   -- a round answers finished exactly if no one more point anywhere on the integer plane would shorten the tree
   pub finish-exact : (called d call.oneRound .reply ≡ Finished) ↔ ((q : Point) → ¬ List·Memᴰ q (points (c .state)) → model.NoShorter (c .state) q)

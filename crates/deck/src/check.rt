@@ -61,7 +61,7 @@ pub fn working_of(q: Points) -> Checked
     }
 }
 
-// Check 11: returns whether the deck is that of a valid state, places that are not used included, and then its working form.
+// Check 11: returns whether the deck is that of valid contents, places that are not used included, and then its working form.
 pub fn check(d: Deck) -> Checked
     ensures { λ r. ⌜ Checks (sound d) (d .points) r ⌝ }
 {

@@ -1,20 +1,20 @@
 -- Reading, one check after the other: what the checks passed say of the file, and what is answered where one fails.
-use mathlib.Core.Path.{_≡_, refl, sym, _∙_, subst, subst⁻¹}
+use mathlib.Core.Path.{_≡_, refl, sym, _∙_}
 use mathlib.Core.Bool.{Bool, true, false, not}
 use mathlib.Core.List.{List, [], _∷_}
-use Prim.Native.Nat.{ℕ, _+_, _/_, _%_, _≤_, _<_}
+use Prim.Native.Nat.{ℕ, _/_, _%_, _≤_, _<_}
 use native.Mathlib.Omega.{arith}
-use lib.Dec.{T, leb, leb→le, eqb, eqb→eq}
-use lib.ListN.{length, take}
+use lib.Dec.{leb, eqb, eqb→eq}
+use lib.ListN.{length}
 use borrow.Author.Tests.{le-leb, lt-leb, not-true, not-false}
 use Rattle.arrays.specs.Test.{if}
-use Rattle.arrays.specs.Same.{sameList}
-use Rattle.arrays.proofs.Test.{and-parts}
+use Rattle.arrays.proofs.Test.{and-parts, of-true}
 use Rattle.model.specs.Refusal.{check, firstFailed}
 use Rattle.model.specs.State.{maxPins, placed}
-use Rattle.model.specs.Sections.{magic, countPlace, headerSize, sectionCount, size, Follow, laidOut}
-use Rattle.model.specs.File.{fewestSections, longest, Read, deck, refusal, readBy, readFile, headed, whole, fileState, fileContents, holdsDeck}
+use Rattle.model.specs.Sections.{size, laidOut}
+use Rattle.model.specs.File.{shortest, Read, deck, refusal, readBy, readFile, headed, whole, fileState, fileContents, holdsDeck}
 use Rattle.model.proofs.Sections.{laid-out-is}
+use Rattle.model.proofs.FileValid.{headed-is}
 use Rattle.sections.specs.Layout.{Sections}
 use Rattle.deckfile.specs.ReadWorking.{lastAnswer}
 use Rattle.sections.proofs.codes.Placed.{pins-count}
@@ -28,24 +28,19 @@ passed {a} e f = sym e ∙ not-false a f
 
 module _ (b : List ℕ) where
   -- What the header says once its checks passed.
-  abbrev shortest : ℕ
-  shortest = headerSize fewestSections
-
   pub long-enough : headed b ≡ true → shortest ≤ length b
-  long-enough h = leb→le shortest (length b) (and-parts (leb shortest (length b)) _ (subst⁻¹ T h tt) .0)
+  long-enough h = headed-is b .0 (of-true h) .long
 
   pub sections-of : headed b ≡ true → laidOut b ≡ true → whole b ≡ true → Sections b
   sections-of h l w =
-      let h₁ = and-parts (leb shortest (length b)) _ (subst⁻¹ T h tt) in
-      let h₂ = and-parts (leb (length b) longest) _ (h₁ .1) in
-      let h₃ = and-parts (sameList (take countPlace b) magic) _ (h₂ .1) in
-      let count : sectionCount b ≡ fewestSections = eqb→eq (sectionCount b) fewestSections (h₃ .1) in
-      let w₁ = and-parts (eqb (size b 0 % 4) 0) _ (subst⁻¹ T w tt) in
+      let head = headed-is b .0 (of-true h) in
+      let w₁ = and-parts (eqb (size b 0 % 4) 0) _ (of-true w) in
       let w₂ = and-parts (eqb (size b 1 % 4) 0) _ (w₁ .1) in
       record {
-        long = leb→le shortest (length b) (h₁ .0);
-        short = leb→le (length b) longest (h₂ .0);
-        follow = subst (λ (n : ℕ). Follow b (headerSize n) 0 n) count (laid-out-is b .0 (subst⁻¹ T l tt) .1);
+        long = head .long;
+        short = head .short;
+        count = head .count;
+        follow = laid-out-is b .0 (of-true l) .1;
         whole₀ = eqb→eq (size b 0 % 4) 0 (w₁ .0);
         whole₁ = eqb→eq (size b 1 % 4) 0 (w₂ .0);
         whole₂ = eqb→eq (size b 2 % 2) 0 (w₂ .1);

@@ -3,7 +3,7 @@ use mathlib.Core.Path.{_≡_, refl, sym, ap, _∙_, subst, subst⁻¹}
 use mathlib.Core.Logic.{_⊎_, inl, inr, ⊎-elim}
 use mathlib.Core.Bool.{Bool, true, false, not}
 use mathlib.Core.List.{List, _++_}
-use Prim.Native.Nat.{ℕ, _+_, _*_, _≤_, _<_}
+use Prim.Native.Nat.{ℕ, _≤_}
 use native.Mathlib.Omega.{arith}
 use lib.Dec.{T, not-T, leb, leb→le, eqb, eqb→eq}
 use lib.ListN.{length, take, drop}
@@ -14,8 +14,8 @@ use Rattle.model.specs.State.{points}
 use Rattle.model.specs.Contents.{Contents, emptyContents, ValidContents}
 use Rattle.model.specs.Question.{listed}
 use Rattle.points.proofs.Coded.{pins-count}
-use Rattle.model.specs.File.{Read, deck, refusal, readFile, plain, runSection, sectionsOf, fileOf}
-use Rattle.model.specs.Sections.{size, sectionFile}
+use Rattle.model.specs.File.{Read, deck, refusal, readFile, plain, sectionsOf, fileOf}
+use Rattle.model.specs.Sections.{size}
 use Rattle.model.proofs.FileSize.{file-size, runs-length}
 use Rattle.model.proofs.Sections.{file-laid}
 use Rattle.model.proofs.FileValid.{file-valid}

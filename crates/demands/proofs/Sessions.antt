@@ -80,7 +80,7 @@ module _ (d : Deck) (c : Contents) (m : SessionDeck d c) where
   pub bounds : Bounds s
   bounds =
       record {
-        steiner = few-steiner s (m .session .state .valid);
+        steiner = few-steiner s (m .session .valid .state);
         held = m .session .state .points-few;
         joined = m .session .state .round-few;
         long = m .session .state .length-fits;

@@ -75,7 +75,8 @@ module _ (p q r : Point) (hp : T (inRange p)) (hq : T (inRange q)) (hr : T (inRa
   added : PinsAre (deckAfter (deckOf emptyContents) adds) p q r
   unfolding adds
   added u =
-      subst⁻¹ (λ (c : Contents). List·Memᴰ u (c .state .pins) ↔ List·Memᴰ u (p ∷ q ∷ r ∷ [])) (ap contentsOf is-deck ∙ contents-deck _ (adds-valid .state .placed))
+      subst⁻¹ (λ (c : Contents). List·Memᴰ u (c .state .pins) ↔ List·Memᴰ u (p ∷ q ∷ r ∷ []))
+      (ap contentsOf is-deck ∙ contents-deck _ (adds-valid .state .placed))
       (λ i. ⊎-elim (λ j. j) (λ j. absurd (not-nil j)) (pins .0 i), λ i. pins .1 (inl i))
     where
       pins : List·Memᴰ u (call.contentsAfter emptyContents adds .state .pins) ↔ (List·Memᴰ u (p ∷ q ∷ r ∷ []) ⊎ List·Memᴰ u [])

@@ -60,7 +60,8 @@ module _ (c : Contents) (p : Point) where
               (here refl (λ t. let k : length (c .state .pins) < 64 = ltb→lt (length (c .state .pins)) 64 t in omega (arith, k, h .2))))),
         );
         taken = (
-          λ e. let a = add-taken c p .0 e in (a .0, has-not lower lower-order p (c .state .pins) .0 (a .1 .0), ltb→lt (length (c .state .pins)) 64 (a .1 .1 .0)),
+          λ e. let a = add-taken c p .0 e in
+              (a .0, has-not lower lower-order p (c .state .pins) .0 (a .1 .0), ltb→lt (length (c .state .pins)) 64 (a .1 .1 .0)),
           λ h. add-taken c p .1 (h .0, (has-not lower lower-order p (c .state .pins) .1 (h .1), (lt→ltb (length (c .state .pins)) 64 (h .2), tt))),
         );
         others = λ n e. ⊎-elim (λ h. inl (h .0)) (λ r. inr (⊎-elim (λ h. inl (h .0)) (λ h. inr (h .0)) r)) (refused-as n e);

@@ -1,29 +1,28 @@
 -- Written out and read in is the same deck; a full file read in and written out is the same file. The file of valid contents is accepted, since
 -- its sections are read back (Sections); an accepted file is made of its sections, which are those of its contents.
-use mathlib.Core.Path.{_≡_, refl, sym, ap, ap₂, _∙_, subst, subst⁻¹}
+use mathlib.Core.Path.{_≡_, refl, sym, ap, ap₂, _∙_, subst⁻¹}
 use mathlib.Core.Logic.{_⊎_, inr, ⊎-elim}
 use mathlib.Core.Bool.{not}
 use mathlib.Core.List.{List, [], _∷_, List·Memᴰ}
-use Prim.Native.Nat.{ℕ, _+_, _%_, _≤_, _<_}
+use Prim.Native.Nat.{ℕ, _%_, _≤_, _<_}
 use native.Mathlib.Omega.{arith}
-use lib.Dec.{T, T-not, leb, leb→le, le→leb, eqb, eqb→eq}
+use lib.Dec.{T, T-not, eqb, eqb→eq}
 use lib.Ieee.Fits.{eq→eqb}
-use lib.ListN.{length, take}
-use Rattle.plane.specs.Point.{Point}
+use lib.ListN.{length}
 use Rattle.arrays.proofs.Test.{and-parts, and-both}
 use Rattle.model.specs.State.{points}
 use Rattle.model.specs.Contents.{Contents, holding, ValidContents}
 use Rattle.model.specs.Question.{listed}
 use Rattle.arrays.specs.Same.{sameList}
-use Rattle.model.specs.Sections.{magic, countPlace, headerSize, sectionFile, sectionCount, offset, size, section, Follow}
-use Rattle.model.specs.File.{fewestSections, longest, plain, sectionOf, pointsOf, runSection, sectionsOf, fileOf, deck, readFile}
+use Rattle.model.specs.Sections.{headerSize, sectionFile, sectionCount, offset, size, section, Follow}
+use Rattle.model.specs.File.{fewestSections, shortest, plain, sectionOf, pointsOf, runSection, sectionsOf, fileOf, deck, readFile}
 use Rattle.model.proofs.Prune.{points-rise}
 use Rattle.model.proofs.Bounds.{points-count, edges-fewer}
 use Rattle.model.proofs.Bytes.{points-section, section-points, section-length}
 use Rattle.model.proofs.FileSize.{file-size, listed-count, runs-length}
 use Rattle.arrays.proofs.same.Alike.{same-refl, same-eq}
-use Rattle.model.proofs.Sections.{laid-out-is, Laid, file-laid, shows-follow, part-bytes, part-length, sectionsFrom, file-made}
-use Rattle.model.proofs.FileValid.{Accepted, accepted, accept, file-valid}
+use Rattle.model.proofs.Sections.{laid-out-is, section-within, Laid, file-laid, shows-follow, part-bytes, part-length, sectionsFrom, file-made}
+use Rattle.model.proofs.FileValid.{Headed, headed-is, Accepted, accepted, accept, file-valid}
 
 -- A file of the sections of valid contents shows them.
 laid-accepted : (b : List ℕ) (c : Contents) → ValidContents c → 30 ≤ length b → length b ≤ 784 → Laid b (sectionsOf c) → Accepted b c
@@ -32,15 +31,11 @@ laid-accepted b c v long short h =
     let taps = pins .3 in
     let runs = taps .3 in
     record {
-      header =
-          and-both (leb (headerSize fewestSections) (length b)) _ (le→leb (headerSize fewestSections) (length b) long)
-          (and-both (leb (length b) longest) _ (le→leb (length b) longest short)
-          (and-both (sameList (take countPlace b) magic) _ (subst⁻¹ (λ (l : List ℕ). T (sameList l magic)) (h .magicFirst) (same-refl magic))
-          (eq→eqb (h .count))));
+      header = headed-is b .1 (record { long = long; short = short; letters = h .letters; count = h .count });
       layout =
           laid-out-is b .1
           (subst⁻¹ (λ (n : ℕ). (headerSize n ≤ length b) × Follow b (headerSize n) 0 n) (h .count)
-          (long, shows-follow b (sectionsOf c) 0 (headerSize fewestSections) (h .parts)));
+          (long, shows-follow b (sectionsOf c) 0 shortest (h .parts)));
       wholes =
           and-both (eqb (size b 0 % 4) 0) _ (eq→eqb {a = size b 0 % 4} {b = 0} (omega (arith, pins .1, section-length (c .state .pins))))
           (and-both (eqb (size b 1 % 4) 0) _ (eq→eqb {a = size b 1 % 4} {b = 0} (omega (arith, taps .1, section-length (c .state .steiner))))
@@ -64,36 +59,27 @@ no-byte : (l : List ℕ) → length l ≡ 0 → l ≡ []
 no-byte [] e = refl
 no-byte (a ∷ l) e = absurd (omega arith)
 
--- What the checks of an accepted file say of its header and its sections.
-record Header (b : List ℕ) : Type 0 where
-  magicFirst : take countPlace b ≡ magic
-  count : sectionCount b ≡ fewestSections
-  long : headerSize (sectionCount b) ≤ length b
+-- What the checks of an accepted file say of its sections.
+record Parted (b : List ℕ) : Type 0 where
+  headed : Headed b
+  room : headerSize (sectionCount b) ≤ length b
   follow : Follow b (headerSize (sectionCount b)) 0 (sectionCount b)
-  length₀ : length (section b 0) ≡ size b 0
-  length₁ : length (section b 1) ≡ size b 1
-  length₂ : length (section b 2) ≡ size b 2
+  lengths : (k : ℕ) → k < fewestSections → length (section b k) ≡ size b k
   whole₀ : size b 0 % 4 ≡ 0
   whole₁ : size b 1 % 4 ≡ 0
 
-header-of : (b : List ℕ) (c : Contents) → Accepted b c → Header b
-header-of b c a =
-    let h₁ = and-parts (leb (headerSize fewestSections) (length b)) _ (a .header) in
-    let h₂ = and-parts (leb (length b) longest) _ (h₁ .1) in
-    let h₃ = and-parts (sameList (take countPlace b) magic) _ (h₂ .1) in
+parted : (b : List ℕ) (c : Contents) → Accepted b c → Parted b
+parted b c a =
+    let h = headed-is b .0 (a .header) in
+    let layout = laid-out-is b .0 (a .layout) in
     let w₁ = and-parts (eqb (size b 0 % 4) 0) _ (a .wholes) in
     let w₂ = and-parts (eqb (size b 1 % 4) 0) _ (w₁ .1) in
-    let count : sectionCount b ≡ fewestSections = eqb→eq (sectionCount b) fewestSections (h₃ .1) in
-    let layout = laid-out-is b .0 (a .layout) in
-    let f : Follow b (headerSize fewestSections) 0 fewestSections = subst (λ (n : ℕ). Follow b (headerSize n) 0 n) count (layout .1) in
     record {
-      magicFirst = same-eq (take countPlace b) magic (h₃ .0);
-      count = count;
-      long = layout .0;
+      headed = h;
+      room = layout .0;
       follow = layout .1;
-      length₀ = part-length b (offset b 0) (size b 0) (omega (arith, f));
-      length₁ = part-length b (offset b 1) (size b 1) (omega (arith, f));
-      length₂ = part-length b (offset b 2) (size b 2) (omega (arith, f));
+      lengths = λ k l. part-length b (offset b k) (size b k)
+          (section-within b (sectionCount b) _ 0 (layout .1) k (omega arith) (omega (arith, h .count)) .1);
       whole₀ = eqb→eq (size b 0 % 4) 0 (w₁ .0);
       whole₁ = eqb→eq (size b 1 % 4) 0 (w₂ .0);
     }
@@ -104,24 +90,24 @@ pub full-written-back : (b : List ℕ) (c : Contents) → ((x : ℕ) → List·M
 unfolding fileOf
 full-written-back b c h e full =
     ap sectionFile
-    ((λ i. pins i ∷ taps i ∷ runs full i ∷ []) ∙ ap (sectionsFrom b 0) (sym (d .count)))
-    ∙ file-made b h (d .magicFirst) (d .long) (d .follow)
+    ((λ i. pins i ∷ taps i ∷ runs full i ∷ []) ∙ ap (sectionsFrom b 0) (sym (d .headed .count)))
+    ∙ file-made b h (d .headed .letters) (d .room) (d .follow)
   where
     a : Accepted b c
     a = accepted b c e
 
-    d : Header b
-    d = header-of b c a
+    d : Parted b
+    d = parted b c a
 
     pins : sectionOf (c .state .pins) ≡ section b 0
     pins =
         ap (λ (r : Contents). sectionOf (r .state .pins)) (sym (a .same))
-        ∙ section-points (section b 0) (part-bytes b (offset b 0) (size b 0) h) (omega (arith, d .length₀, d .whole₀))
+        ∙ section-points (section b 0) (part-bytes b (offset b 0) (size b 0) h) (omega (arith, d .lengths 0 (omega arith), d .whole₀))
 
     taps : sectionOf (c .state .steiner) ≡ section b 1
     taps =
         ap (λ (r : Contents). sectionOf (r .state .steiner)) (sym (a .same))
-        ∙ section-points (section b 1) (part-bytes b (offset b 1) (size b 1) h) (omega (arith, d .length₁, d .whole₁))
+        ∙ section-points (section b 1) (part-bytes b (offset b 1) (size b 1) h) (omega (arith, d .lengths 1 (omega arith), d .whole₁))
 
     -- With at most one pin and no tap there is no run.
     bare : T (plain b) → length (c .state .pins) ≤ 1 → runSection (c .state) ≡ section b 2
@@ -136,9 +122,9 @@ full-written-back b c h e full =
           runs-length (points s) (listed s),
           listed-count s (a .points),
           edges-fewer (points s) 0 (points-rise s (a .points .steinerRise))
-              (omega (arith, points-count s (file-valid b c e .state), section-length (s .steiner), ap length taps, d .length₁)),
+              (omega (arith, points-count s (file-valid b c e .state), section-length (s .steiner), ap length taps, d .lengths 1 (omega arith))),
         ))
-        ∙ sym (no-byte (section b 2) (d .length₂ ∙ z₂))
+        ∙ sym (no-byte (section b 2) (d .lengths 2 (omega arith) ∙ z₂))
 
     runs : T (not (plain b)) ⊎ (length (c .state .pins) ≤ 1) → runSection (c .state) ≡ section b 2
     runs k =

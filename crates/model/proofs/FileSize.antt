@@ -1,14 +1,14 @@
--- How long the file of a valid state is: at most 64 pins, 62 taps and 125 runs make at most 784 bytes. The numbers of points in
+-- How long the file of valid contents is: at most 64 pins, 62 taps and 125 runs make at most 784 bytes. The numbers of points in
 -- the runs section are below 126, and every number of a file is a byte.
 use mathlib.Core.Path.{_≡_, refl, sym, ap, _∙_, subst, subst⁻¹}
 use mathlib.Core.Logic.{⊎-elim}
 use mathlib.Core.Bool.{Bool, not}
-use mathlib.Core.List.{List, [], _∷_, _++_, map, flatten, List·Memᴰ, List·Memᴰ·head as head, List·Memᴰ·tail as tail, List·Memᴰ·cases-cons as cases}
+use mathlib.Core.List.{List, [], _∷_, map, flatten, List·Memᴰ, List·Memᴰ·head as head, List·Memᴰ·tail as tail, List·Memᴰ·cases-cons as cases}
 use mathlib.Core.List.{List·Memᴰ·not-nil as not-nil}
-use Prim.Native.Nat.{ℕ, suc, _+_, _*_, _≤_, _<_}
+use Prim.Native.Nat.{ℕ, suc, _*_, _≤_, _<_}
 use native.Mathlib.Omega.{arith}
 use lib.Dec.{T}
-use lib.ListN.{length, length-append}
+use lib.ListN.{length}
 use Rattle.arrays.specs.Order.{StrictTotal, Sorted}
 use Rattle.arrays.proofs.Members.{Distinct, sorted-distinct}
 use Rattle.arrays.specs.Test.{if}
@@ -22,14 +22,14 @@ use Rattle.model.specs.State.{State, points, Placed, Valid}
 use Rattle.model.specs.Contents.{Contents, ValidContents}
 use Rattle.model.specs.Question.{listed, treeOf, pinCount, steinerCount, edgeCount}
 use Rattle.arrays.proofs.number.Bytes.{Bytes, bytes-none, bytes-append}
-use Rattle.model.specs.Sections.{headerSize, header, sectionFile}
-use Rattle.model.specs.File.{fewestSections, sectionOf, numberOf, runBytes, runSection, sectionsOf, fileOf}
+use Rattle.model.specs.Sections.{header, sectionFile, fileSize}
+use Rattle.model.specs.File.{sizesOf, sectionOf, numberOf, runBytes, runSection, sectionsOf, fileOf}
 use Rattle.arrays.proofs.Set.{put-length, set-of-in, tie-eq, no-tie}
 use Rattle.model.proofs.Tree.{mst-run-tree}
 use Rattle.model.proofs.Prune.{points-rise, few-steiner}
 use Rattle.model.proofs.Bounds.{points-few, edges-fewer}
 use Rattle.model.proofs.Bytes.{section-length, section-bytes}
-use Rattle.model.proofs.Sections.{file-length as sections-length, header-bytes}
+use Rattle.model.proofs.Sections.{sections-length, header-bytes}
 
 -- A set is as long as its list, where that has no repeats.
 set-of-length : {A : Type 0} (less : A → A → Bool) → StrictTotal (λ (a b : A). T (less a b)) → (l : List A) → Distinct l → length (setOf less l) ≡ length l
@@ -102,27 +102,21 @@ run-numbers s v =
     (λ e i. tree-of s (v .placed) .tree .ends e (set-of-in listedBefore listed-order (treeOf s) e .0 i))
 
 -- The length of the file, by the counts of pins, taps and runs.
-pub file-length : (c : Contents) → Placed (c .state)
-    → length (fileOf c) ≡ headerSize fewestSections + 4 * pinCount (c .state) + 4 * steinerCount (c .state) + 2 * edgeCount (c .state)
-unfolding fileOf flatten
-file-length c h =
+pub sizes-are : (c : Contents) → Placed (c .state) → map length (sectionsOf c) ≡ sizesOf (pinCount (c .state)) (steinerCount (c .state)) (edgeCount (c .state))
+sizes-are c h =
     let s = c .state in
-    omega (
-      arith,
-      sections-length (sectionsOf c),
-      length-append (sectionOf (s .pins)) (sectionOf (s .steiner) ++ (runSection s ++ [])),
-      length-append (sectionOf (s .steiner)) (runSection s ++ []),
-      length-append (runSection s) [],
-      section-length (s .pins),
-      section-length (s .steiner),
-      runs-length (points s) (listed s),
-      listed-count s h,
-    )
+    let runs : length (runSection s) ≡ 2 * edgeCount s = omega (arith, runs-length (points s) (listed s), listed-count s h) in
+    λ i. section-length (s .pins) i ∷ section-length (s .steiner) i ∷ runs i ∷ []
+
+pub file-length : (c : Contents) → Placed (c .state)
+    → length (fileOf c) ≡ fileSize (sizesOf (pinCount (c .state)) (steinerCount (c .state)) (edgeCount (c .state)))
+unfolding fileOf
+file-length c h = sections-length (sectionsOf c) ∙ ap fileSize (sizes-are c h)
 
 pub file-size : (c : Contents) → ValidContents c → (30 ≤ length (fileOf c)) × (length (fileOf c) ≤ 784)
 file-size c v =
     let e = file-length c (v .state .placed) in
-    (omega arith, omega (arith, v .state .few, steiner-few (c .state) (v .state), edges-few (c .state) (v .state)))
+    (omega (arith, e), omega (arith, e, v .state .few, steiner-few (c .state) (v .state), edges-few (c .state) (v .state)))
 
 pub file-bytes : (c : Contents) → ValidContents c → Bytes (fileOf c)
 unfolding fileOf sectionFile flatten

@@ -1,20 +1,22 @@
 -- An accepted file shows valid contents. Reading passes all its tests before it answers a deck; a plain file shows no Steiner
 -- point, and any other passes the test of validity.
 use mathlib.Core.Path.{_≡_, refl, sym, ap, _∙_, subst, subst⁻¹}
-use mathlib.Core.Logic.{_⊎_, inl, inr, ⊎-elim}
+use mathlib.Core.Logic.{_⊎_, inl, inr, ⊎-elim, _↔_}
 use mathlib.Core.Bool.{Bool, true, false, _&&_, _||_}
 use mathlib.Core.List.{List, [], _∷_, List·Memᴰ, List·Memᴰ·not-nil as not-nil}
 use Prim.Native.Nat.{ℕ, zero, suc, _≤_}
 use native.Mathlib.Omega.{arith}
 use lib.Dec.{T, leb, leb→le, le→leb, eqb, eqb→eq}
+use lib.Ieee.Fits.{eq→eqb}
 use lib.ListN.{length, take, drop}
 use Rattle.arrays.proofs.Test.{and-parts, and-both}
 use Rattle.model.specs.Refusal.{Pass}
 use Rattle.model.specs.State.{maxPins, Placed, Valid, placed, valid}
 use Rattle.model.specs.Contents.{Contents, ValidContents}
 use Rattle.arrays.specs.Same.{sameList}
-use Rattle.model.specs.Sections.{section, offset, size, laidOut}
-use Rattle.model.specs.File.{deck, fileChecks, readFile, fileState, fileContents, headed, whole, plain, pointsOf, runSection}
+use Rattle.arrays.proofs.same.Alike.{same-refl, same-eq}
+use Rattle.model.specs.Sections.{magic, countPlace, sectionCount, section, offset, size, laidOut}
+use Rattle.model.specs.File.{fewestSections, shortest, longest, deck, fileChecks, readFile, fileState, fileContents, headed, whole, plain, pointsOf, runSection}
 use Rattle.model.proofs.Refusal.{file-taken}
 use Rattle.model.proofs.Validity.{placed-is, valid-is}
 
@@ -26,6 +28,30 @@ either-of : (a b : Bool) → T a ⊎ T b → T (a || b)
 either-of true b t = tt
 either-of false b (inl t) = absurd t
 either-of false b (inr t) = t
+
+-- Check 1, one test by one.
+pub record Headed (b : List ℕ) : Type 0 where
+  pub long : shortest ≤ length b
+  pub short : length b ≤ longest
+  pub letters : take countPlace b ≡ magic
+  pub count : sectionCount b ≡ fewestSections
+
+pub headed-is : (b : List ℕ) → T (headed b) ↔ Headed b
+headed-is b = (
+  λ t. let h = and-parts (leb shortest (length b)) _ t in
+      let k = and-parts (leb (length b) longest) _ (h .1) in
+      let l = and-parts (sameList (take countPlace b) magic) _ (k .1) in
+      record {
+        long = leb→le shortest (length b) (h .0);
+        short = leb→le (length b) longest (k .0);
+        letters = same-eq (take countPlace b) magic (l .0);
+        count = eqb→eq (sectionCount b) fewestSections (l .1);
+      },
+  λ h. and-both (leb shortest (length b)) _ (le→leb shortest (length b) (h .long))
+      (and-both (leb (length b) longest) _ (le→leb (length b) longest (h .short))
+      (and-both (sameList (take countPlace b) magic) _ (subst⁻¹ (λ (l : List ℕ). T (sameList l magic)) (h .letters) (same-refl magic))
+      (eq→eqb {a = sectionCount b} {b = fewestSections} (h .count)))),
+)
 
 -- What reading a file to a deck asks of the file.
 pub record Accepted (b : List ℕ) (c : Contents) : Type 0 where

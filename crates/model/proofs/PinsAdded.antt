@@ -56,7 +56,8 @@ module _ (c : Contents) (v : ValidContents c) (p : Point) (range : T (inRange p)
   now-pins u =
       subst⁻¹ (λ (l : List Point). List·Memᴰ u l ↔ ((u ≡ p) ⊎ List·Memᴰ u (s .pins))) add-pins (put-in lower lower-order p u (s .pins))
 
-pub added-pins : (ps : List Point) (c : Contents) → ValidContents c → ((u : Point) → List·Memᴰ u ps → T (inRange u)) → length (c .state .pins) + length ps ≤ maxPins
+pub added-pins : (ps : List Point) (c : Contents) → ValidContents c → ((u : Point) → List·Memᴰ u ps → T (inRange u))
+    → length (c .state .pins) + length ps ≤ maxPins
     → (u : Point) → List·Memᴰ u (contentsAfter c (map add ps) .state .pins) ↔ (List·Memᴰ u ps ⊎ List·Memᴰ u (c .state .pins))
 unfolding contentsAfter
 added-pins [] c v range room u = (inr, ⊎-elim (λ i. absurd (not-nil i)) (λ i. i))

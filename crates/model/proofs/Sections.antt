@@ -4,6 +4,7 @@ use mathlib.Core.Path.{_≡_, refl, sym, ap, ap₂, _∙_, subst}
 use mathlib.Core.Logic.{_↔_}
 use mathlib.Core.List.{List, [], _∷_, _++_, map, flatten, List·Memᴰ, Memᴰ·append-left, Memᴰ·append-right}
 use Prim.Native.Nat.{ℕ, zero, suc, _+_, _*_, _≤_, _<_}
+use native.Mathlib.Decide.{decLe}
 use native.Mathlib.Omega.{arith}
 use lib.Dec.{T, leb, leb→le, le→leb, eqb, eqb→eq}
 use lib.Ieee.Fits.{eq→eqb}
@@ -14,7 +15,7 @@ use Rattle.arrays.proofs.Test.{and-parts, and-both}
 use Rattle.arrays.proofs.number.Bytes.{Bytes, bytes-none, bytes-cons, bytes-append, bytes2-bytes, bytes4-bytes}
 use Rattle.arrays.proofs.number.Bytes.{number2-bytes2, number4-at, split2, split4}
 use Rattle.model.specs.Sections.{magic, countPlace, headerSize, pairsFrom, header, sectionFile, sectionCount, offset, size, section}
-use Rattle.model.specs.Sections.{Follow, follow, laidOut}
+use Rattle.model.specs.Sections.{sumOf, fileSize, Follow, follow, laidOut}
 
 -- How long pairs, a header and a file are.
 pairs-length : (at : ℕ) (sizes : List ℕ) → length (pairsFrom at sizes) ≡ 8 * length sizes
@@ -26,9 +27,17 @@ pub header-length : (sizes : List ℕ) → length (header sizes) ≡ headerSize 
 unfolding header
 header-length sizes = omega (arith, pairs-length (headerSize (length sizes)) sizes)
 
-pub file-length : (l : List (List ℕ)) → length (sectionFile l) ≡ headerSize (length l) + length (flatten l)
+file-long : (l : List (List ℕ)) → length (sectionFile l) ≡ headerSize (length l) + length (flatten l)
 unfolding sectionFile
-file-length l = omega (arith, length-append (header (map length l)) (flatten l), header-length (map length l), length-map l length)
+file-long l = omega (arith, length-append (header (map length l)) (flatten l), header-length (map length l), length-map l length)
+
+flatten-length : (l : List (List ℕ)) → length (flatten l) ≡ sumOf (map length l)
+unfolding flatten
+flatten-length [] = refl
+flatten-length (s ∷ l) = omega (arith, length-append s (flatten l), flatten-length l)
+
+pub sections-length : (l : List (List ℕ)) → length (sectionFile l) ≡ fileSize (map length l)
+sections-length l = omega (arith, file-long l, flatten-length l, length-map l length)
 
 -- Their bytes are bytes.
 pairs-bytes : (at : ℕ) (sizes : List ℕ) → Bytes (pairsFrom at sizes)
@@ -44,7 +53,7 @@ header-bytes sizes =
     (bytes-append (bytes2 (length sizes)) (bytes2-bytes (length sizes)) (pairs-bytes (headerSize (length sizes)) sizes))
 
 -- Check 2 as a test and as a type.
-pub follow-is : (b : List ℕ) (n at k : ℕ) → T (follow b at k n) ↔ Follow b at k n
+follow-is : (b : List ℕ) (n at k : ℕ) → T (follow b at k n) ↔ Follow b at k n
 unfolding follow
 follow-is b zero at k = (eqb→eq at (length b), eq→eqb {a = at} {b = length b})
 follow-is b (suc n) at k =
@@ -63,9 +72,23 @@ laid-out-is b =
       λ p. and-both (leb n (length b)) _ (le→leb n (length b) (p .0)) (f .1 (p .1)),
     )
 
-pub follow-within : (b : List ℕ) (n at k : ℕ) → Follow b at k n → at ≤ length b
+follow-within : (b : List ℕ) (n at k : ℕ) → Follow b at k n → at ≤ length b
 follow-within b zero at k f = omega (arith, f)
 follow-within b (suc n) at k f = omega (arith, follow-within b n (at + size b k) (suc k) (f .1))
+
+-- Each of the n sections from number k on starts at `at` or behind it, and ends within the file.
+pub section-within : (b : List ℕ) (n at k : ℕ) → Follow b at k n → (i : ℕ) → k ≤ i → i < k + n → (at ≤ offset b i) × (offset b i + size b i ≤ length b)
+section-within b zero at k f i h l = absurd (omega arith)
+section-within b (suc n) at k f i h l =
+    go (λ m. section-within b n (at + size b k) (suc k) (f .1) i m (omega arith)) (decLe (suc k) i)
+  where
+    go : (suc k ≤ i → (at + size b k ≤ offset b i) × (offset b i + size b i ≤ length b)) → Dec (suc k ≤ i)
+        → (at ≤ offset b i) × (offset b i + size b i ≤ length b)
+    go rest (yes m) = let r = rest m in (omega (arith, r .0), r .1)
+    go rest (no m) =
+        let same : k ≡ i = omega arith in
+        subst (λ (z : ℕ). (at ≤ offset b z) × (offset b z + size b z ≤ length b)) same
+        (omega (arith, f .0), omega (arith, f .0, follow-within b n (at + size b k) (suc k) (f .1)))
 
 -- The sections l are those of the file from number k on, the first of which starts at `at`, and with them the file ends.
 abbrev pub Shows : List ℕ → ℕ → ℕ → List (List ℕ) → Type 0
@@ -97,7 +120,7 @@ shows b (s ∷ l) k at rest e f n h =
 
 -- What a file of sections says.
 pub record Laid (b : List ℕ) (l : List (List ℕ)) : Type 0 where
-  pub magicFirst : take countPlace b ≡ magic
+  pub letters : take countPlace b ≡ magic
   pub count : sectionCount b ≡ length l
   pub parts : Shows b 0 (headerSize (length l)) l
 
@@ -107,11 +130,11 @@ file-laid l few fits =
     let sizes = map length l in
     let same : length (map length l) ≡ length l = length-map l length in
     record {
-      magicFirst = refl;
+      letters = refl;
       count = number2-bytes2 (length sizes) [] (omega (arith, same)) ∙ same;
       parts =
           shows (sectionFile l) l 0 (headerSize (length l)) (flatten l) (ap (λ (n : ℕ). pairsFrom (headerSize n) sizes ++ flatten l) same)
-          (drop-at (header sizes) (flatten l) (headerSize (length l)) (header-length sizes ∙ ap headerSize same)) (sym (file-length l)) fits;
+          (drop-at (header sizes) (flatten l) (headerSize (length l)) (header-length sizes ∙ ap headerSize same)) (sym (file-long l)) fits;
     }
 
 -- The bytes of a part are bytes, and there are as many as are asked for where the list has them.

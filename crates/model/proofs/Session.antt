@@ -18,6 +18,7 @@ use Rattle.model.proofs.Round.{round-finished, finish-rounds}
 use Rattle.model.proofs.Step.{after-valid}
 use Rattle.model.proofs.Bounds.{points-few, length-bound, held-range, round-few, round-fits}
 use Rattle.model.proofs.FileValid.{file-valid}
+use Rattle.model.proofs.Validity.{of-state-valid}
 
 pub empty-valid : Valid empty
 empty-valid =
@@ -35,7 +36,7 @@ empty-valid =
     }
 
 pub empty-contents : ValidContents emptyContents
-empty-contents = record { state = empty-valid }
+empty-contents = of-state-valid empty-valid
 
 pub start-valid : (c : Contents) → StartContents c → ValidContents c
 start-valid c fresh = empty-contents
@@ -45,7 +46,6 @@ pub valid-session : (s : State) → Valid s → SessionState s
 unfolding treeLength
 valid-session s v =
     record {
-      valid = v;
       tree = mst-run-tree (points s) rise .tree;
       least = mst-least (points s) rise;
       finish-exact = round-finished s v;

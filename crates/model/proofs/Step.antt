@@ -12,10 +12,12 @@ use Rattle.plane.proofs.Order.{lower-order}
 use Rattle.arrays.specs.Set.{out}
 use Rattle.model.specs.State.{State, Placed, Valid, withPin, insert, remove, maxPins}
 use Rattle.model.specs.Contents.{Contents, keeping, ValidContents}
-use Rattle.model.specs.Call.{addChecks, withdrawChecks, insertRefusal, removeRefusal, Call, add, withdraw, oneRound, runToEnd, unless, step, contentsAfter}
+use Rattle.model.specs.Call.{addChecks, withdrawChecks, insertRefusal, removeRefusal}
+use Rattle.model.specs.Call.{Call, add, withdraw, oneRound, runToEnd, unless, step, contentsAfter}
 use Rattle.arrays.proofs.Set.{put-in, put-sorted, put-length, out-in, out-sorted, out-length, has-in, has-not}
 use Rattle.model.proofs.Prune.{prune-valid}
 use Rattle.model.proofs.Refusal.{all-passed}
+use Rattle.model.proofs.Validity.{keeping-valid}
 use Rattle.model.proofs.Round.{round-valid, finish-rounds, rounds-valid}
 
 -- Adding is not refused: the point is in range, no pin stands there, and there is room.
@@ -68,12 +70,12 @@ pub step-valid : (c : Contents) (k : Call) → ValidContents c → ValidContents
 unfolding step
 step-valid c (add p) v =
     unless-valid (insertRefusal p (c .state)) c (λ _. keeping c (insert p (c .state))) v
-    (λ e. let a = insert-allowed p (c .state) e in record { state = insert-valid p (c .state) (v .state) (a .0) (a .1) (a .2) })
+    (λ e. let a = insert-allowed p (c .state) e in keeping-valid v (insert-valid p (c .state) (v .state) (a .0) (a .1) (a .2)))
 step-valid c (withdraw p) v =
     unless-valid (removeRefusal p (c .state)) c (λ _. keeping c (remove p (c .state))) v
-    (λ e. record { state = remove-valid p (c .state) (v .state) (remove-allowed p (c .state) e) })
-step-valid c oneRound v = record { state = round-valid (c .state) (v .state) }
-step-valid c runToEnd v = record { state = rounds-valid (finish-rounds (c .state) (v .state) .0) (v .state) }
+    (λ e. keeping-valid v (remove-valid p (c .state) (v .state) (remove-allowed p (c .state) e)))
+step-valid c oneRound v = keeping-valid v (round-valid (c .state) (v .state))
+step-valid c runToEnd v = keeping-valid v (rounds-valid (finish-rounds (c .state) (v .state) .0) (v .state))
 
 pub after-valid : (calls : List Call) (c : Contents) → ValidContents c → ValidContents (contentsAfter c calls)
 unfolding contentsAfter

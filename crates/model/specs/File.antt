@@ -3,7 +3,7 @@
 use mathlib.Core.Bool.{Bool, _&&_, _||_}
 use mathlib.Core.Option.{Option, none, some}
 use mathlib.Core.List.{List, [], _∷_, _++_}
-use Prim.Native.Nat.{ℕ, suc, _%_}
+use Prim.Native.Nat.{ℕ, suc, _*_, _%_}
 use lib.Dec.{leb, eqb}
 use lib.ListN.{length, take}
 use Rattle.arrays.specs.Number.{bytes2}
@@ -23,7 +23,10 @@ use Rattle.model.specs.Sections.{magic, countPlace, headerSize, sectionF
 abbrev pub fewestSections : ℕ
 fewestSections = 3
 
--- The length of the longest file (SPEC 7.5).
+-- The lengths of the shortest and of the longest file (SPEC 7.5, 10.1).
+abbrev pub shortest : ℕ
+shortest = headerSize fewestSections
+
 abbrev pub longest : ℕ
 longest = 784
 
@@ -54,6 +57,10 @@ runSection s = runBytes (points s) (listed s)
 abbrev pub sectionsOf : Contents → List (List ℕ)
 sectionsOf c = let s = c .state in sectionOf (s .pins) ∷ sectionOf (s .steiner) ∷ runSection s ∷ []
 
+-- The lengths of the sections of n pins, m taps and e runs.
+abbrev pub sizesOf : ℕ → ℕ → ℕ → List ℕ
+sizesOf n m e = 4 * n ∷ 4 * m ∷ 2 * e ∷ []
+
 -- The file of contents: a full file, with every run (SPEC 7.4, 7.5).
 unfoldable pub fileOf : Contents → List ℕ
 fileOf c = sectionFile (sectionsOf c)
@@ -74,7 +81,7 @@ pointsOf (a ∷ b ∷ c ∷ d ∷ l) = record { x = signed16 a b; y = signed16 c
 -- Check 1 (SPEC 8.2): the length of the file, its first four bytes and its number of sections.
 abbrev pub headed : List ℕ → Bool
 headed b =
-    leb (headerSize fewestSections) (length b)
+    leb shortest (length b)
     && (leb (length b) longest && (sameList (take countPlace b) magic && eqb (sectionCount b) fewestSections))
 
 -- Check 3 (SPEC 8.2): sections of whole points and whole runs.

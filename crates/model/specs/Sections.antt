@@ -2,7 +2,7 @@
 -- sections one behind the other.
 use mathlib.Core.Path.{_≡_}
 use mathlib.Core.Bool.{Bool, _&&_}
-use mathlib.Core.List.{List, [], _∷_, _++_, map, flatten}
+use mathlib.Core.List.{List, [], _∷_, _++_, map, flatten, foldr}
 use Prim.Native.Nat.{ℕ, zero, suc, _+_, _*_}
 use lib.Dec.{leb, eqb}
 use lib.ListN.{length, take, drop}
@@ -34,6 +34,13 @@ header sizes = magic ++ (bytes2 (length sizes) ++ pairsFrom (headerSize (length 
 -- The file of sections.
 unfoldable pub sectionFile : List (List ℕ) → List ℕ
 sectionFile l = header (map length l) ++ flatten l
+
+-- How long the file of sections of these lengths is: its header, and all of them.
+abbrev pub sumOf : List ℕ → ℕ
+sumOf sizes = foldr _+_ 0 sizes
+
+abbrev pub fileSize : List ℕ → ℕ
+fileSize sizes = headerSize (length sizes) + sumOf sizes
 
 -- The count of sections that a file says.
 abbrev pub sectionCount : List ℕ → ℕ

@@ -9,7 +9,7 @@ use Rattle.plane.specs.Point.{Point, lower}
 use Rattle.plane.specs.Edge.{Edge, planar}
 use Rattle.arrays.specs.Set.{put}
 use Rattle.model.specs.Tree.{lengthOf, treeLength}
-use Rattle.model.specs.State.{State, points, Valid}
+use Rattle.model.specs.State.{State, points}
 use Rattle.model.specs.Contents.{Contents, emptyContents, ValidContents}
 use Rattle.model.specs.Round.{finished, tap, candidates, round, finish}
 use Rattle.model.specs.Call.{Call, contentsAfter}
@@ -39,8 +39,7 @@ longestTree = 15120000
 
 -- What holds of a state that a list of calls leads to.
 pub record SessionState (s : State) : Type 0 where
-  -- it is valid, its tree is a tree over its points, and every tree over them is at least as long
-  pub valid : Valid s
+  -- its tree is a tree over its points, and every tree over them is at least as long
   pub tree : Tree planar (points s) (treeOf s)
   pub least : (t : List Edge) → Tree planar (points s) t → lengthOf (treeOf s) ≤ lengthOf t
   -- the round is finished exactly if no one more point anywhere on the integer plane would shorten the tree

@@ -54,7 +54,7 @@ pub enum Command {
 // The most bytes of a line; a longer one is an error.
 pub const LINE_LIMIT: usize = 4000;
 
-// The most bytes of a deck file, the capacity of `write` where none is given.
+// The most bytes of a deck file, the capacity of `write` where none is given (SPEC 9.3). A line knows no deck, so the number stands here too.
 pub const LONGEST_FILE: u32 = 784;
 
 // The smallest and the largest number of 16 bits.

@@ -10,8 +10,7 @@ use Rattle.plane.specs.Point.{Point, inRange}
 use Rattle.plane.specs.Coordinate.{signed16}
 use Rattle.arrays.specs.Set.{rising}
 use Rattle.model.specs.State.{maxPins, placed}
-use Rattle.model.specs.Sections.{headerSize}
-use Rattle.model.specs.File.{fewestSections, longest, pointsOf, fileState}
+use Rattle.model.specs.File.{shortest, longest, pointsOf, fileState}
 use Rattle.points.specs.Coded.{padded}
 use Rattle.sections.specs.declared.codes.FilePoints.{FilePoints}
 use Rattle.plane.specs.Code.{code}
@@ -40,7 +39,7 @@ placedCodes pins steiner = rising ltb pins && (rising ltb steiner && noneIn stei
 
 -- Places for all points that a file can show.
 abbrev pub filePlaces : ℕ
-filePlaces = (longest - headerSize fewestSections) / 4
+filePlaces = (longest - shortest) / 4
 
 -- Check 5, and the codes of the points that the file shows where it passes.
 pub record Decodes (b : List ℕ) (r : FilePoints) : Type 0 where

@@ -3,8 +3,8 @@ use mathlib.Core.Path.{_≡_}
 use mathlib.Core.List.{List}
 use Prim.Native.Nat.{ℕ, suc, _+_, _%_, _≤_}
 use lib.ListN.{length}
-use Rattle.model.specs.Sections.{headerSize, offset, size, Follow}
-use Rattle.model.specs.File.{fewestSections, longest}
+use Rattle.model.specs.Sections.{headerSize, sectionCount, offset, size, Follow}
+use Rattle.model.specs.File.{fewestSections, shortest, longest}
 
 -- Section k lies within the file, as its pair does, and consists of whole points.
 pub record PointSection (b : List ℕ) (k : ℕ) : Type 0 where
@@ -14,9 +14,10 @@ pub record PointSection (b : List ℕ) (k : ℕ) : Type 0 where
 
 -- What checks 1 to 3 leave: the places and lengths of the sections.
 pub record Sections (b : List ℕ) : Type 0 where
-  pub long : headerSize fewestSections ≤ length b
+  pub long : shortest ≤ length b
   pub short : length b ≤ longest
-  pub follow : Follow b (headerSize fewestSections) 0 fewestSections
+  pub count : sectionCount b ≡ fewestSections
+  pub follow : Follow b (headerSize (sectionCount b)) 0 (sectionCount b)
   pub whole₀ : size b 0 % 4 ≡ 0
   pub whole₁ : size b 1 % 4 ≡ 0
   pub whole₂ : size b 2 % 2 ≡ 0

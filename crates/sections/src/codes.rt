@@ -11,17 +11,17 @@ use plane::codes::locate;
 use plane::from_bytes;
 use points::MAX_PINS;
 ghost use mathlib.Core.Path.{_≡_};
-ghost use Prim.Native.Nat.{_+_, _*_, _/_, _≤_, _<_};
+ghost use Prim.Native.Nat.{_+_, _*_, _/_, _≤_};
 ghost use lib.ListN.{length, take};
 ghost use Rattle.plane.specs.Point.{inRange};
 ghost use Rattle.plane.specs.Code.{located};
 ghost use Rattle.arrays.specs.Set.{all};
-ghost use Rattle.model.specs.Sections as sections;
+ghost use Rattle.model.specs.Sections as model;
 ghost use Rattle.model.specs.File.{sectionPoints};
 ghost use Rattle.sections.specs.Codes.{pointIn, pointsIn, decoded, placedCodes, Decodes};
 ghost use Rattle.sections.specs.Layout.{PointSection, Sections, FewPins};
 
-// Room for all Steiner points that a file can show, also more than a deck has.
+// Room for all points that a file can show, also more Steiner points than a deck has.
 const FILE_PLACES: usize = (LONGEST - SHORTEST) / POINT_SIZE;
 
 // Where the point in the four bytes from place i on is.
@@ -56,9 +56,8 @@ fn decode(b: &[u8], at: usize, n: usize, out: &mut [u64]) -> bool
 
 // Whether the points of section k are in range, with their codes as `decode` puts them.
 fn decode_section(b: &[u8], k: usize, out: &mut [u64]) -> bool
-    requires { ⌜ k < 65536 ⌝ }
     requires { ⌜ PointSection (now b) k ⌝ }
-    requires { ⌜ sections.size (now b) k / 4 ≤ length (now out) ⌝ }
+    requires { ⌜ model.size (now b) k / 4 ≤ length (now out) ⌝ }
     ensures { λ r. ⌜ r ≡ all inRange (sectionPoints (now (b .entry)) k) ⌝ }
     ensures { λ _. ⌜ now (out .exit) ≡ decoded (sectionPoints (now (b .entry)) k) (now (out .entry)) ⌝ }
 {

@@ -1,11 +1,13 @@
 // The header of a file: the four letters, the count of sections, and a pair of offset and length for each; checks 1 to 3.
 use arrays::number::number2;
 use arrays::number::number4;
+use points::MAX_PINS;
+use points::MAX_STEINER;
 ghost use mathlib.Core.Path.{_≡_};
 ghost use Prim.Native.Nat.{suc, _≤_, _<_};
 ghost use lib.ListN.{length};
-ghost use Rattle.model.specs.Sections as sections;
-ghost use Rattle.model.specs.File.{fewestSections, headed, whole, plain};
+ghost use Rattle.model.specs.Sections as model;
+ghost use Rattle.model.specs.File.{shortest, headed, whole, plain};
 
 // The bytes of an offset or a length, of a pair of them, and of the count.
 const NUMBER_SIZE: usize = 4;
@@ -28,7 +30,7 @@ pub const EDGES: usize = 2;
 
 pub const SECTIONS: usize = 3;
 
-// The shortest file: the header, and nothing in its sections.
+// The shortest file: the header, and nothing in its model.
 pub const SHORTEST: usize = PAIRS + PAIR_SIZE * SECTIONS;
 
 // Bytes of a point and of an edge.
@@ -36,29 +38,33 @@ pub const POINT_SIZE: usize = 4;
 
 pub const EDGE_SIZE: usize = 2;
 
-// The longest file: the header, 64 pins and 62 Steiner points, and the 125 edges of their tree.
-pub const LONGEST: usize = SHORTEST + 64 * POINT_SIZE + 62 * POINT_SIZE + 125 * EDGE_SIZE;
+// The most points of a file, and the edges of their tree. The longest file has them all.
+const MOST_POINTS: usize = MAX_PINS + MAX_STEINER;
+
+const MOST_EDGES: usize = MOST_POINTS - 1;
+
+pub const LONGEST: usize = SHORTEST + MOST_POINTS * POINT_SIZE + MOST_EDGES * EDGE_SIZE;
 
 // Returns how many bytes the header of n sections has. The first section starts behind it.
 pub fn header_size(n: usize) -> usize
-    requires { ⌜ n < 65536 ⌝ }
-    ensures { λ r. ⌜ r ≡ sections.headerSize n ⌝ }
+    requires { ⌜ model.headerSize n < 18446744073709551616 ⌝ }
+    ensures { λ r. ⌜ r ≡ model.headerSize n ⌝ }
 {
     PAIRS + PAIR_SIZE * n
 }
 
 // Returns the offset of section k, whose pair is there.
 pub fn offset(b: &[u8], k: usize) -> usize
-    requires { ⌜ (k < 65536) × (sections.headerSize (suc k) ≤ length (now b)) ⌝ }
-    ensures { λ r. ⌜ (r ≡ sections.offset (now (b .entry)) k) × (r < 4294967296) ⌝ }
+    requires { ⌜ model.headerSize (suc k) ≤ length (now b) ⌝ }
+    ensures { λ r. ⌜ (r ≡ model.offset (now (b .entry)) k) × (r < 4294967296) ⌝ }
 {
     number4(b, header_size(k))
 }
 
 // Returns the length of section k, whose pair is there.
 pub fn size(b: &[u8], k: usize) -> usize
-    requires { ⌜ (k < 65536) × (sections.headerSize (suc k) ≤ length (now b)) ⌝ }
-    ensures { λ r. ⌜ (r ≡ sections.size (now (b .entry)) k) × (r < 4294967296) ⌝ }
+    requires { ⌜ model.headerSize (suc k) ≤ length (now b) ⌝ }
+    ensures { λ r. ⌜ (r ≡ model.size (now (b .entry)) k) × (r < 4294967296) ⌝ }
 {
     number4(b, header_size(k) + NUMBER_SIZE)
 }
@@ -82,8 +88,8 @@ pub fn is_headed(b: &[u8]) -> bool
 // Check 2 (SPEC 8.2): returns whether there are bytes for all the pairs, and the sections follow the header and one another, up to the end
 // of the file.
 pub fn is_laid_out(b: &[u8]) -> bool
-    requires { ⌜ sections.headerSize fewestSections ≤ length (now b) ⌝ }
-    ensures { λ r. ⌜ r ≡ sections.laidOut (now (b .entry)) ⌝ }
+    requires { ⌜ shortest ≤ length (now b) ⌝ }
+    ensures { λ r. ⌜ r ≡ model.laidOut (now (b .entry)) ⌝ }
 {
     let n = number2(b, COUNT);
     let mut at = header_size(n);
@@ -103,7 +109,7 @@ pub fn is_laid_out(b: &[u8]) -> bool
 
 // Check 3 (SPEC 8.2): returns whether the sections consist of whole points and whole runs.
 pub fn is_whole(b: &[u8]) -> bool
-    requires { ⌜ sections.headerSize fewestSections ≤ length (now b) ⌝ }
+    requires { ⌜ shortest ≤ length (now b) ⌝ }
     ensures { λ r. ⌜ r ≡ whole (now (b .entry)) ⌝ }
 {
     if size(b, PINS) % POINT_SIZE != 0 {
@@ -117,7 +123,7 @@ pub fn is_whole(b: &[u8]) -> bool
 
 // Returns whether the file is plain (SPEC 7.4): it has no taps and no runs.
 pub fn is_plain(b: &[u8]) -> bool
-    requires { ⌜ sections.headerSize fewestSections ≤ length (now b) ⌝ }
+    requires { ⌜ shortest ≤ length (now b) ⌝ }
     ensures { λ r. ⌜ r ≡ plain (now (b .entry)) ⌝ }
 {
     if size(b, STEINER) != 0 {

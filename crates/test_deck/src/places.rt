@@ -1,5 +1,5 @@
-// Where the parts of a deck stand in the array of words that tests hand over. This list is the only one: the entries here use it, and the
-// bindings in Rust include this file, so it keeps to what both languages read.
+// Where the parts of a deck stand in the array of words that tests hand over. The entries here use this list, and the bindings in Rust include
+// this very file, so it keeps to what both languages read. The contracts hold it against the places of the definition (specs/Words.antt).
 
 // How many words there are for pins, for Steiner points and for the ends of edges.
 pub const PIN_PLACES: usize = 64;

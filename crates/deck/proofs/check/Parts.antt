@@ -16,7 +16,7 @@ use Rattle.model.specs.Tree.{mst, edgesAt}
 use Rattle.model.specs.State.{State, points, Valid, valid, lowestWeak}
 use Rattle.model.specs.Contents.{ofState}
 use Rattle.model.proofs.Prune.{LowestWeakView, all-strong, weak, lowest-weak-view}
-use Rattle.model.proofs.Validity.{valid-is}
+use Rattle.model.proofs.Validity.{valid-is, of-state-valid}
 use Rattle.points.specs.declared.Points.{Points}
 use Rattle.points.specs.Coded as coded
 use Rattle.points.proofs.Codes.{codes-full}
@@ -114,7 +114,8 @@ module _ (d : Deck) (r : Checked) (c : Checks (validPoints (d .points)) (d .poin
     where
       passed : Sound d → T (validPoints (d .points))
       passed s =
-          and-both (coded.arranged (d .points)) (valid (stateOf d)) (arranged-passes (d .points) (sound-arranged d s)) (valid-is (stateOf d) .1 (s .valid .state))
+          and-both (coded.arranged (d .points)) (valid (stateOf d)) (arranged-passes (d .points) (sound-arranged d s))
+          (valid-is (stateOf d) .1 (s .valid .state))
 
   module _ (e : r .ok ≡ true) where
     test : T (validPoints (d .points))
@@ -123,7 +124,7 @@ module _ (d : Deck) (r : Checked) (c : Checks (validPoints (d .points)) (d .poin
     pub points-order : work.InOrder (r .working)
     points-order = c .inOrder test
 
-    pub points-contents : work.contentsOf (r .working) ≡ contentsOf d
+    points-contents : work.contentsOf (r .working) ≡ contentsOf d
     points-contents = ap (λ (q : Points). ofState (coded.stateOf q)) (c .same test)
 
     pub edges-fail : (a : Deck) → a ≡ deckOf (work.contentsOf (r .working)) → ¬ T (sameList (d .ends) (a .ends)) → ¬ T (sound d)
@@ -140,7 +141,7 @@ module _ (d : Deck) (r : Checked) (c : Checks (validPoints (d .points)) (d .poin
         whole : Sound d
         whole =
             record {
-              valid = record { state = valid-is (stateOf d) .0 (and-parts (coded.arranged (d .points)) (valid (stateOf d)) test .1) };
+              valid = of-state-valid (valid-is (stateOf d) .0 (and-parts (coded.arranged (d .points)) (valid (stateOf d)) test .1));
               same =
                   unfold deckOf in
                   (λ i. record {

@@ -2,11 +2,11 @@
 use mathlib.Core.Path.{_≡_, refl, sym, ap, ap₂, _∙_, subst, subst⁻¹}
 use mathlib.Core.Bool.{Bool, true, false, _&&_, _||_}
 use mathlib.Core.List.{List, [], _∷_, _++_, map, List·Memᴰ, List·Memᴰ·not-nil as not-nil}
-use Prim.Native.Nat.{ℕ, _+_, _-_, _*_, _/_, _≤_, _<_}
+use Prim.Native.Nat.{ℕ, _+_, _*_, _/_, _≤_, _<_}
 use native.Mathlib.Omega.{arith}
 use lib.Dec.{T, eqb, eqb→eq}
 use lib.Seq.{length-take-le}
-use lib.ListN.{length, take, drop, replicate, length-take, length-drop, length-map}
+use lib.ListN.{length, take, drop, replicate, length-map}
 use Rattle.arrays.specs.Test.{if}
 use Rattle.arrays.proofs.Test.{and-parts, and-both, same-test, of-true, false-of}
 use Rattle.model.specs.State.{State, empty, Placed, placed, Valid, valid}
@@ -42,7 +42,8 @@ use Rattle.sections.specs.Codes.{filePlaces, Decodes}
 use Rattle.sections.specs.Layout.{Sections, FewPins}
 use Rattle.deckfile.specs.Reading.{readOutcome}
 use Rattle.deckfile.specs.ReadWorking.{contentsRead, replyRead, ReadTo, WorkingFor, lastAnswer}
-use Rattle.sections.proofs.codes.Placed.{pins-count, steiner-count}
+use Rattle.model.proofs.Sections.{part-length}
+use Rattle.sections.proofs.codes.Placed.{inside, pins-count, steiner-count}
 use Rattle.deckfile.proofs.Runs.{edges-are, edges-long}
 
 -- What was read, by an equation of what reading gives.
@@ -191,7 +192,10 @@ module _ (b : List ℕ) (d : Sections b) (p : T (placed (fileState b))) where
 -- The third section and the edges of a working form.
 module _ (b : List ℕ) (d : Sections b) (w : Working) (p : InOrder w) (v : Valid (stateOf w)) where
   third-length : length (section b 2) ≡ size b 2
-  third-length = omega (arith, length-take (size b 2) (drop (offset b 2) b), length-drop (offset b 2) b, d .follow)
+  third-length = part-length b (offset b 2) (size b 2) (inside b d 2 (omega arith) .1)
+
+  pub third-within : (u at : ℕ) → u ≡ size b 2 → u ≡ 2 * w .nkeys → at ≡ offset b 2 → at + 2 * w .nkeys ≤ length b
+  third-within u at e g h = omega (arith, inside b d 2 (omega arith) .1)
 
   pub edges-other : (u : ℕ) → u ≡ size b 2 → ¬ (u ≡ 2 * w .nkeys) → false ≡ sameList (section b 2) (runSection (stateOf w))
   edges-other u e g =

@@ -1,16 +1,16 @@
 -- The parts of a working form, one behind the other, are the file of its contents.
 use mathlib.Core.Path.{_≡_, refl, sym, ap, _∙_}
 use mathlib.Core.List.{List, [], _∷_, _++_, map, flatten, append-nil}
-use Prim.Native.Nat.{ℕ, _+_, _-_, _*_, _≤_}
+use Prim.Native.Nat.{ℕ, _+_, _-_, _≤_}
 use native.Mathlib.Omega.{arith}
 use lib.ListN.{length, take}
 use Rattle.plane.specs.Code.{pointOf}
 use Rattle.model.specs.State.{State}
 use Rattle.model.specs.Contents.{Contents, ValidContents}
-use Rattle.model.specs.Sections.{headerSize, header, sectionFile}
-use Rattle.model.specs.File.{fewestSections, sectionOf, runSection, fileOf}
-use Rattle.model.proofs.Bytes.{section-length}
-use Rattle.model.proofs.FileSize.{file-length, steiner-few}
+use Rattle.model.specs.Sections.{header, sectionFile, fileSize}
+use Rattle.model.specs.File.{sectionOf, runSection, sectionsOf, sizesOf, fileOf}
+use Rattle.model.proofs.Sections.{sections-length}
+use Rattle.model.proofs.FileSize.{sizes-are, steiner-few}
 use Rattle.points.proofs.Coded.{pins-count, steiner-count}
 use Rattle.working.specs.declared.Working.{Working}
 use Rattle.working.specs.InOrder.{InOrder, stateOf, contentsOf}
@@ -19,7 +19,7 @@ use Rattle.working.proofs.edges.Numbers.{edge-count}
 use Rattle.arrays.specs.Paste.{each}
 use Rattle.sections.specs.Bytes.{codeBytes, edgeBytes}
 use Rattle.buffer.specs.Parts.{fileParts, PartsFit}
-use Rattle.deckfile.proofs.Runs.{count-is, edges-are, edges-long}
+use Rattle.deckfile.proofs.Runs.{count-is, edges-are}
 
 -- The points of codes, in bytes.
 section-is : (l : List ℕ) → each codeBytes l ≡ sectionOf (map pointOf l)
@@ -40,34 +40,27 @@ module _ (w : Working) (p : InOrder w) (v : ValidContents (contentsOf w)) where
   abbrev m : ℕ
   m = w .points .nsteiner
 
+  -- The lengths of the sections.
+  sizes : sizesOf n m (n + m - 1) ≡ map length (sectionsOf c)
+  sizes =
+      let pins = sym (pins-count (w .points) (p .arranged)) in
+      let taps = sym (steiner-count (w .points) (p .arranged)) in
+      (λ i. sizesOf (pins i) (taps i) ((sym (count-is w p (v .state)) ∙ edge-count w p) i)) ∙ sym (sizes-are c (v .state .placed))
+
   pub file-parts : fileParts (w .points .pins) n (w .points .steiner) m (edgeRow s) ≡ fileOf c
   unfolding fileOf sectionFile flatten
   file-parts =
-      λ i. header (pins-long i ∷ steiner-long i ∷ runs-long i ∷ [])
+      λ i. header (sizes i)
       ++ (section-is (take n (w .points .pins)) i ++ (section-is (take m (w .points .steiner)) i ++ runs i))
     where
-      pins-long : 4 * n ≡ length (sectionOf (s .pins))
-      pins-long = ap (λ (z : ℕ). 4 * z) (sym (pins-count (w .points) (p .arranged))) ∙ sym (section-length (s .pins))
-
-      steiner-long : 4 * m ≡ length (sectionOf (s .steiner))
-      steiner-long = ap (λ (z : ℕ). 4 * z) (sym (steiner-count (w .points) (p .arranged))) ∙ sym (section-length (s .steiner))
-
-      runs-long : 2 * (n + m - 1) ≡ length (runSection s)
-      runs-long = ap (λ (z : ℕ). 2 * z) (sym (count-is w p (v .state))) ∙ sym (edges-long w p (v .state))
-
       runs : edgeBytes (take (n + m - 1) (edgeRow s)) ≡ runSection s ++ []
-      runs = ap (λ (z : ℕ). edgeBytes (take z (edgeRow s))) (sym (count-is w p (v .state))) ∙ edges-are w p (v .state) ∙ sym (append-nil (runSection s))
+      runs =
+          ap (λ (z : ℕ). edgeBytes (take z (edgeRow s))) (sym (count-is w p (v .state)))
+          ∙ edges-are w p (v .state) ∙ sym (append-nil (runSection s))
 
-  pub file-long : headerSize fewestSections + 4 * n + 4 * m + 2 * (n + m - 1) ≡ length (fileOf c)
-  file-long =
-      omega (
-        arith,
-        file-length c (v .state .placed),
-        edge-count w p,
-        count-is w p (v .state),
-        pins-count (w .points) (p .arranged),
-        steiner-count (w .points) (p .arranged),
-      )
+  pub file-long : fileSize (sizesOf n m (n + m - 1)) ≡ length (fileOf c)
+  unfolding fileOf
+  file-long = ap fileSize sizes ∙ sym (sections-length (sectionsOf c))
 
   pub few : (n ≤ 64) × (m ≤ 62)
   few = (p .arranged .pinCodes .few, omega (arith, steiner-few s (v .state), steiner-count (w .points) (p .arranged)))

@@ -3,7 +3,7 @@
 use mathlib.Core.Path.{_≡_, refl, sym, ap, ap₂, _∙_}
 use mathlib.Core.Bool.{Bool, true, false, not, _&&_}
 use mathlib.Core.List.{List, [], _∷_, _++_, map, List·Memᴰ·head as head, List·Memᴰ·tail as tail}
-use Prim.Native.Nat.{ℕ, _+_, _*_, _/_, _≤_}
+use Prim.Native.Nat.{ℕ, _+_, _*_, _/_, _≤_, _<_}
 use native.Mathlib.Omega.{arith}
 use lib.Dec.{ltb}
 use lib.ListN.{length, take, drop, replicate, length-map}
@@ -17,8 +17,9 @@ use Rattle.model.specs.State.{maxPins, placed}
 use Rattle.model.proofs.Validity.{placed-is}
 use Rattle.points.specs.Coded.{padded}
 use Rattle.points.proofs.Codes.{drop-zeros}
-use Rattle.model.specs.Sections.{offset, size}
-use Rattle.model.specs.File.{pointsOf, sectionPoints, fileState}
+use Rattle.model.specs.Sections.{headerSize, sectionCount, offset, size}
+use Rattle.model.specs.File.{fewestSections, shortest, pointsOf, sectionPoints, fileState}
+use Rattle.model.proofs.Sections.{section-within}
 use Rattle.arrays.proofs.Set.{all-in}
 use Rattle.arrays.specs.Array.{noneIn}
 use Rattle.plane.proofs.codes.Sets.{points-has, points-rising}
@@ -27,7 +28,7 @@ use Rattle.sections.specs.Layout.{PointSection, Sections}
 use Rattle.sections.proofs.codes.InFront.{points-count}
 
 -- Where all points are in range, their codes are decoded.
-pub codes-all : (l : List Point) → AllInRange l → codesInFront l ≡ map code l
+codes-all : (l : List Point) → AllInRange l → codesInFront l ≡ map code l
 unfolding codesInFront
 codes-all [] r = refl
 codes-all (p ∷ l) r = rw (true-of (inRange p) (r p (head refl))) (ap (λ k. code p ∷ k) (codes-all l (λ q i. r q (tail i))))
@@ -67,15 +68,21 @@ module _ (b : List ℕ) (k : ℕ) (h : PointSection b k) where
   pub section-read : {i n : ℕ} → i ≡ offset b k → n ≡ size b k → pointsIn b i (n / 4) ≡ sectionPoints b k
   section-read e f = ap₂ (λ (z y : ℕ). pointsIn b z (y / 4)) e f ∙ points-of-section
 
-  pub section-within : {i n : ℕ} → i ≡ offset b k → n ≡ size b k → i + 4 * (n / 4) ≤ length b
-  section-within e f = omega (arith, h .within)
+  pub section-fits : {i n : ℕ} → i ≡ offset b k → n ≡ size b k → i + 4 * (n / 4) ≤ length b
+  section-fits e f = omega (arith, h .within)
 
 module _ (b : List ℕ) (d : Sections b) where
+  -- Each section lies behind the header and within the file.
+  pub inside : (k : ℕ) → k < fewestSections → (shortest ≤ offset b k) × (offset b k + size b k ≤ length b)
+  inside k h =
+      let r = section-within b (sectionCount b) (headerSize (sectionCount b)) 0 (d .follow) k (omega arith) (omega (arith, d .count)) in
+      (omega (arith, r .0, d .count), r .1)
+
   pub pins-section : PointSection b 0
-  pins-section = record { pair = omega (arith, d .long); within = omega (arith, d .follow); whole = d .whole₀ }
+  pins-section = record { pair = omega (arith, d .long); within = inside 0 (omega arith) .1; whole = d .whole₀ }
 
   pub steiner-section : PointSection b 1
-  steiner-section = record { pair = omega (arith, d .long); within = omega (arith, d .follow); whole = d .whole₁ }
+  steiner-section = record { pair = omega (arith, d .long); within = inside 1 (omega arith) .1; whole = d .whole₁ }
 
   pub pins-count : length (fileState b .pins) ≡ size b 0 / 4
   pins-count = points-in-section b 0 pins-section
@@ -85,7 +92,7 @@ module _ (b : List ℕ) (d : Sections b) where
 
   -- The Steiner points that a file shows have room in the places for them.
   pub steiner-room : size b 1 / 4 ≤ filePlaces
-  steiner-room = omega (arith, d .follow, d .short)
+  steiner-room = let r = inside 1 (omega arith) in omega (arith, r .0, r .1, d .short)
 
   -- Check 5: in range, and the tests on codes.
   module _ (u v : ℕ) (e : u ≡ size b 0) (f : v ≡ size b 1) where
@@ -116,10 +123,10 @@ module _ (b : List ℕ) (d : Sections b) where
           steiner = λ t. es ∙ codes-padded filePlaces (fileState b .steiner) (placed-is (fileState b) .0 t .steinerRange);
         }
       where
-        inside : (l : List Point) → all inRange l ≡ true → AllInRange l
-        inside l t = all-in inRange l .0 (of-true t)
+        ranges : (l : List Point) → all inRange l ≡ true → AllInRange l
+        ranges l t = all-in inRange l .0 (of-true t)
 
         by-range : (s t : Bool) → all inRange (fileState b .pins) ≡ s → all inRange (fileState b .steiner) ≡ t → s && (t && z) ≡ s && (t && apart)
-        by-range true true h k = ez ∙ tests _ _ ep es (inside (fileState b .pins) h) (inside (fileState b .steiner) k)
+        by-range true true h k = ez ∙ tests _ _ ep es (ranges (fileState b .pins) h) (ranges (fileState b .steiner) k)
         by-range true false h k = refl
         by-range false t h k = refl

@@ -9,9 +9,8 @@ use lib.Dec.{leb, eqb}
 use lib.ListN.{length, take}
 use borrow.Author.Tests.{le-leb, lt-leb, eq-eqb, ne-eqb}
 use Rattle.arrays.specs.Same.{sameList}
-use Rattle.arrays.specs.Number.{number2}
 use Rattle.model.specs.Sections.{magic, countPlace, headerSize, sectionCount, offset, size, follow, laidOut}
-use Rattle.model.specs.File.{fewestSections, longest, headed, whole, plain}
+use Rattle.model.specs.File.{fewestSections, shortest, longest, headed, whole, plain}
 use Rattle.arrays.proofs.Test.{and-no, and-yes}
 
 -- A test of two numbers that are those of the file.
@@ -26,9 +25,6 @@ test e f = ap₂ eqb e f
 
 module _ (b : List ℕ) where
   -- Check 1.
-  abbrev shortest : ℕ
-  shortest = headerSize fewestSections
-
   pub head-short : length b < shortest → false ≡ headed b
   head-short h = and-no (leb shortest (length b)) _ (lt-leb shortest (length b) h)
 
@@ -54,22 +50,24 @@ module _ (b : List ℕ) where
 
   -- `first` is the place behind the pairs.
   module _ (n first : ℕ) (count : n ≡ sectionCount b) (behind : first ≡ headerSize n) where
-    abbrev all : ℕ
-    all = headerSize (sectionCount b)
+    abbrev behindPairs : ℕ
+    behindPairs = headerSize (sectionCount b)
 
     pub pairs-missing : length b < first → false ≡ laidOut b
     unfolding laidOut
-    pairs-missing h = and-no (leb all (length b)) _ (lt-leb all (length b) (omega arith))
+    pairs-missing h = and-no (leb behindPairs (length b)) _ (lt-leb behindPairs (length b) (omega arith))
 
     pub none-passed : first ≤ length b → Passed n first 0
     unfolding laidOut
     none-passed h =
-        let same : first ≡ all = omega arith in
+        let same : first ≡ behindPairs = omega arith in
         let none : n - 0 ≡ sectionCount b = omega arith in
         record {
           within = omega arith;
           few = omega arith;
-          left = ap₂ (λ (z y : ℕ). follow b z 0 y) same none ∙ and-yes (leb all (length b)) _ _ (le-leb all (length b) (omega arith)) refl;
+          left =
+              ap₂ (λ (z y : ℕ). follow b z 0 y) same none
+              ∙ and-yes (leb behindPairs (length b)) _ _ (le-leb behindPairs (length b) (omega arith)) refl;
         }
 
   module _ (n : ℕ) {at k : ℕ} (p : Passed n at k) where

@@ -41,7 +41,7 @@ struct Points {
     out_of_range: &'static str,
 }
 
-const PINS: Points = Points {
+const OF_PINS: Points = Points {
     places: PIN_WORDS,
     count: PIN_COUNT,
     moved: "pin moved",
@@ -50,7 +50,7 @@ const PINS: Points = Points {
     out_of_range: "pin out of range",
 };
 
-const STEINER: Points = Points {
+const OF_STEINER: Points = Points {
     places: STEINER_WORDS,
     count: STEINER_COUNT,
     moved: "Steiner point moved",
@@ -102,7 +102,7 @@ pub fn points(deck: &Deck) -> Vec<Damaged> {
         let places = 0..points.count(deck);
         places.flat_map(|i| points.at(deck, i)).collect::<Vec<_>>()
     };
-    [of(&PINS), of(&STEINER)].concat()
+    [of(&OF_PINS), of(&OF_STEINER)].concat()
 }
 
 /// A number in each place that is not used, one at a time.
@@ -112,10 +112,13 @@ pub fn unused(deck: &Deck) -> Vec<Damaged> {
     let mut damaged = Vec::new();
     for value in [1, some, u64::MAX] {
         for i in deck.npins()..PIN_PLACES {
-            damaged.push(("unused pin", PINS.with(deck, |a| a[i] = value)));
+            damaged.push(("unused pin", OF_PINS.with(deck, |a| a[i] = value)));
         }
         for i in deck.nsteiner()..STEINER_PLACES {
-            damaged.push(("unused Steiner point", STEINER.with(deck, |a| a[i] = value)));
+            damaged.push((
+                "unused Steiner point",
+                OF_STEINER.with(deck, |a| a[i] = value),
+            ));
         }
         for i in edges..END_PLACES {
             damaged.push(("unused edge", deck.with(ENDS + i, value)));

@@ -3,6 +3,7 @@
 
 use super::damaged_decks::Damaged;
 use crate::binding::deck::{code, Deck, END_WORDS};
+use crate::binding::places::PIN_PLACES;
 use reference::generate::Random;
 use reference::plane::Point;
 use reference::session::{is_valid, State};
@@ -110,7 +111,13 @@ pub fn edges(random: &mut Random, deck: &Deck, count: usize) -> Vec<Damaged> {
 /// The deck with other pins and Steiner points, and the edges left.
 fn with_roles(deck: &Deck, pins: &[Point], steiner: &[Point]) -> Deck {
     let state = State::new(pins.to_vec(), steiner.to_vec());
-    let codes = |points: &[Point]| points.iter().take(64).map(|&p| code(p)).collect::<Vec<_>>();
+    let codes = |points: &[Point]| {
+        points
+            .iter()
+            .take(PIN_PLACES)
+            .map(|&p| code(p))
+            .collect::<Vec<_>>()
+    };
     Deck::with_lists(&codes(&state.pins), &codes(&state.steiner), deck.ends())
 }
 

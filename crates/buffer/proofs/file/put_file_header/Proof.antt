@@ -1,15 +1,13 @@
 -- `buffer::file::put_file_header` meets its contract: the header of the three lengths.
 use native.Mathlib.Omega.{arith}
-use Rattle.buffer.specs.Parts.{sum}
 use borrow.Author.Needs.{needs}
 use Rattle.buffer.proofs.file.put_file_header.Statement.{statement}
 use Rattle.buffer.proofs.file.put_file_header.Tie as tie
 
 put-header-requires : tie.Need-put-header-requires
-unfolding sum
 put-header-requires c κs =
     let given = c .before .before .before .pre in
-    (given .0, (omega arith, omega (arith, given .1)))
+    (given .0, omega (arith, given .1))
 
 pub put-file-header-spec : {M : Type 1} → statement M
 put-file-header-spec =

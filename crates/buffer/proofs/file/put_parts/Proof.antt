@@ -13,17 +13,18 @@ entry-of at-edges-of =
 
 put-points-requires : tie.Need-put-points-requires
 put-points-requires c κs =
-    let at-put-header = c .before .before .before in
-    let kept = entry-of (at-put-header .before .before) .pre in
-    (kept .inPins, omega (arith, header-end kept _ (at-put-header .put-file-header .ensures), kept .room))
+    let at-file-header = c .before .before .before in
+    let kept = entry-of (at-file-header .before .before) .pre in
+    (kept .inPins, omega (arith, header-end kept _ (at-file-header .put-file-header .ensures), kept .room))
 
 put-points-requires-2 : tie.Need-put-points-requires-2
 put-points-requires-2 c κs =
     let at-put-points = c .before .before .before in
     let at-put-points-arg = at-put-points .before in
-    let at-put-header = at-put-points-arg .before .before .before in
-    let kept = entry-of (at-put-header .before .before) .pre in
-    (kept .inSteiner, omega (arith, header-end kept _ (at-put-header .put-file-header .ensures), pins-end kept (at-put-points .put-points .ensures), kept .room))
+    let at-file-header = at-put-points-arg .before .before .before in
+    let kept = entry-of (at-file-header .before .before) .pre in
+    let first = header-end kept _ (at-file-header .put-file-header .ensures) in
+    (kept .inSteiner, omega (arith, first, pins-end kept (at-put-points .put-points .ensures), kept .room))
 
 put-edges-requires : tie.Need-put-edges-requires
 put-edges-requires c κs =
@@ -31,13 +32,13 @@ put-edges-requires c κs =
     let at-put-points-arg2 = at-put-points2 .before in
     let at-put-points = at-put-points-arg2 .before .before .before in
     let at-put-points-arg = at-put-points .before in
-    let at-put-header = at-put-points-arg .before .before .before in
-    let at-edges-of = at-put-header .before .before in
+    let at-file-header = at-put-points-arg .before .before .before in
+    let at-edges-of = at-file-header .before .before in
     let kept = entry-of at-edges-of .pre in
     let steiner = pins-end kept (at-put-points .put-points .ensures) in
     let edges = steiner-end kept (at-put-points2 .put-points2 .ensures) in
     let count = at-edges-of .edges-of .ensures in
-    (omega (arith, count, kept .inEnds), omega (arith, header-end kept _ (at-put-header .put-file-header .ensures), steiner, edges, count, kept .room))
+    (omega (arith, count, kept .inEnds), omega (arith, header-end kept _ (at-file-header .put-file-header .ensures), steiner, edges, count, kept .room))
 
 returns : tie.Need-returns
 returns c =
@@ -47,10 +48,10 @@ returns c =
     let at-put-points-arg2 = at-put-points2 .before in
     let at-put-points = at-put-points-arg2 .before .before .before in
     let at-put-points-arg = at-put-points .before in
-    let at-put-header = at-put-points-arg .before .before .before in
-    let at-edges-of = at-put-header .before .before in
+    let at-file-header = at-put-points-arg .before .before .before in
+    let at-edges-of = at-file-header .before .before in
     parts-put (entry-of at-edges-of .pre) (at-edges-of .edges-of .ensures)
-    (at-put-header .put-file-header .ensures) (at-put-points .put-points .ensures) (at-put-points2 .put-points2 .ensures) (at-put-edges .put-edges .ensures)
+    (at-file-header .put-file-header .ensures) (at-put-points .put-points .ensures) (at-put-points2 .put-points2 .ensures) (at-put-edges .put-edges .ensures)
 
 pub put-parts-spec : {M : Type 1} → statement M
 put-parts-spec =

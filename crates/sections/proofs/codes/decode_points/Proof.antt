@@ -1,4 +1,8 @@
 -- `sections::codes::decode_points` meets its contract: the points decoded are those that the file shows.
+use mathlib.Core.Path.{_≡_}
+use lib.ListN.{length}
+use Rattle.model.specs.State.{maxPins}
+use Rattle.sections.specs.Codes.{filePlaces}
 use Rattle.sections.proofs.codes.Placed.{pins-section, steiner-section, steiner-room, decodes}
 use native.Mathlib.Omega.{arith}
 use borrow.Author.Needs.{needs}
@@ -8,14 +12,27 @@ use Rattle.sections.proofs.codes.decode_points.Tie as tie
 decode-section-requires : tie.Need-decode-section-requires
 decode-section-requires c κs =
     let entry = c .before .before .before .before in
-    (omega arith, (pins-section _ (entry .pre .0), omega (arith, entry .pre .1)))
+    (pins-section _ (entry .pre .0), omega (arith, entry .pre .1))
 
 decode-section-requires-2 : tie.Need-decode-section-requires-2
 decode-section-requires-2 c κs =
     let at-pins = c .before .before in
     let at-size2 = at-pins .before .before in
     let entry = at-size2 .before .before .before in
-    (omega arith, (steiner-section _ (entry .pre .0), steiner-room _ (entry .pre .0)))
+    (steiner-section _ (entry .pre .0), steiner-room _ (entry .pre .0))
+
+are-placed-requires : tie.Need-are-placed-requires
+are-placed-requires c κs =
+    let at-steiner = c .before .before .before in
+    let at-pins = at-steiner .before .before .before in
+    let at-size2 = at-pins .before .before in
+    let at-size = at-size2 .before in
+    let entry = at-size .before .before in
+    let pins : length (at-pins .decode-section .last .1 .1 .0) ≡ maxPins = search needs in
+    let steiner : length (at-steiner .decode-section2 .last .1 .1 .0) ≡ filePlaces = search needs in (
+      omega (arith, pins, at-size .size .ensures .0, entry .pre .1),
+      omega (arith, steiner, at-size2 .size2 .ensures .0, steiner-room _ (entry .pre .0)),
+    )
 
 returns : tie.Need-returns
 returns c =
@@ -40,5 +57,5 @@ decode-points-spec =
     decode-section-requires-2
     (λ c. search needs)
     (λ c. search needs)
-    (λ c κs. search needs)
+    are-placed-requires
     returns)

@@ -4,7 +4,7 @@ use mathlib.Core.List.{List}
 use Rattle.arrays.specs.Set.{all}
 use Rattle.plane.specs.Point.{Point, inRange}
 use Rattle.sections.specs.Codes.{decoded}
-use Rattle.sections.proofs.codes.Placed.{section-read, section-within}
+use Rattle.sections.proofs.codes.Placed.{section-read, section-fits}
 use native.Mathlib.Omega.{arith}
 use borrow.Author.Needs.{needs}
 use Rattle.sections.proofs.codes.decode_section.Statement.{statement}
@@ -16,7 +16,7 @@ decode-requires c κs =
     let at-offset = at-size .before in
     let entry = at-offset .before .before .before in
     let size = at-size .size .ensures .0 in
-    (section-within _ _ (entry .pre .1 .0) (at-offset .offset .ensures .0) size, omega (arith, size, entry .pre .1 .1))
+    (section-fits _ _ (entry .pre .0) (at-offset .offset .ensures .0) size, omega (arith, size, entry .pre .1))
 
 returns : tie.Need-returns
 returns c =
@@ -25,7 +25,7 @@ returns c =
     let at-offset = at-size .before in
     let entry = at-offset .before .before .before in
     let done = at-decode .decode .ensures in
-    let are = section-read _ _ (entry .pre .1 .0) (at-offset .offset .ensures .0) (at-size .size .ensures .0) in
+    let are = section-read _ _ (entry .pre .0) (at-offset .offset .ensures .0) (at-size .size .ensures .0) in
     (done .0 ∙ ap (all inRange) are, done .1 ∙ ap (λ (ps : List Point). decoded ps (entry .args .out .now)) are)
 
 pub decode-section-spec : {M : Type 1} → statement M
