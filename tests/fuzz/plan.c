@@ -16,8 +16,8 @@ static size_t given, count;
 /* The file of this round, for the message where the program is stopped. */
 static struct file current;
 
-/* How many files got each answer; the place 30 counts plain files that were taken, 31 full ones. */
-static size_t seen[32];
+/* How many files got each refusal, and how many were taken, plain ones and full ones. */
+static size_t refused[HEADER], plain, full;
 
 static void print_current(void)
 {
@@ -56,11 +56,14 @@ static void one_round(void)
     current = files[below((uint32_t)count)];
     mutate(&current, &files[below((uint32_t)count)]);
     answer = check_plan(current.bytes, current.length, written);
-    if (answer < 30) {
-        seen[answer]++;
+    if (answer < HEADER) {
+        refused[answer]++;
         return;
     }
-    seen[memcmp(current.bytes + 18, "\0\0\0", 4) == 0 && memcmp(current.bytes + 26, "\0\0\0", 4) == 0 ? 30 : 31]++;
+    if (section_length(current.bytes, TAPS) == 0 && section_length(current.bytes, RUNS) == 0)
+        plain++;
+    else
+        full++;
     keep(written, answer);
 }
 
@@ -78,12 +81,12 @@ int main(int argc, char **argv)
     __sanitizer_set_death_callback(print_current);
     for (long i = 0; i < rounds; i++)
         one_round();
-    least = seen[30] < seen[31] ? seen[30] : seen[31];
+    least = plain < full ? plain : full;
     for (int i = 1; i <= 6; i++) {
-        printf("refused %d: %zu\n", i, seen[i]);
-        least = seen[i] < least ? seen[i] : least;
+        printf("refused %d: %zu\n", i, refused[i]);
+        least = refused[i] < least ? refused[i] : least;
     }
-    printf("plain files taken: %zu\nfull files taken: %zu\n", seen[30], seen[31]);
+    printf("plain files taken: %zu\nfull files taken: %zu\n", plain, full);
     if (least == 0)
         fprintf(stderr, "an answer never came\n");
     return least == 0;

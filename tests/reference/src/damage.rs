@@ -1,6 +1,6 @@
 //! Deck files with damages, each for one refusal number from 1 to 6.
 
-use crate::file::{assemble, point_bytes, write};
+use crate::file::{assemble, header, point_bytes, write, COUNT, HEADER, LONGEST};
 use crate::generate::{full_state, many_pins, Kind, Random};
 use crate::plane::{Point, LIMIT};
 use crate::session::State;
@@ -23,7 +23,7 @@ pub fn damaged(random: &mut Random, numbers: &[u8]) -> Vec<u8> {
     let mut draft = Draft {
         pins: point_bytes(&state.pins),
         steiner: point_bytes(&state.steiner),
-        edges: write(&state)[30 + 4 * state.points().len()..].to_vec(),
+        edges: write(&state)[HEADER + 4 * state.points().len()..].to_vec(),
         table: None,
         tail: 0,
     };
@@ -61,7 +61,7 @@ fn base(random: &mut Random) -> State {
 fn finished(draft: &Draft) -> Vec<u8> {
     let mut bytes = assemble(&draft.pins, &draft.steiner, &draft.edges);
     if let Some((place, difference)) = draft.table {
-        let at = 6 + 4 * place;
+        let at = header(0) + 4 * place;
         let old = u32::from_le_bytes(bytes[at..at + 4].try_into().unwrap());
         bytes[at..at + 4].copy_from_slice(&old.wrapping_add(difference).to_le_bytes());
     }
@@ -75,10 +75,10 @@ fn damage_start(random: &mut Random, mut bytes: Vec<u8>) -> Vec<u8> {
         0 => bytes[random.range(0, 3) as usize] ^= 1 << random.range(0, 7),
         1 => {
             let count = random.pick(&[0u16, 1, 2, 4, 5, 259, 768, 65_535]);
-            bytes[4..6].copy_from_slice(&count.to_le_bytes());
+            bytes[COUNT..COUNT + 2].copy_from_slice(&count.to_le_bytes());
         }
-        2 => bytes.truncate(random.range(0, 29) as usize),
-        _ => bytes.resize(random.range(785, 900) as usize, 0),
+        2 => bytes.truncate(random.range(0, HEADER as i64 - 1) as usize),
+        _ => bytes.resize(random.range(LONGEST as i64 + 1, 900) as usize, 0),
     }
     bytes
 }

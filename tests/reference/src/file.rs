@@ -6,10 +6,25 @@ use crate::tree::{degree, listing_order, tree};
 
 /// The first four bytes of a file.
 pub const MAGIC: &[u8; 4] = b"DECK";
+/// Where the count of sections stands, two bytes.
+pub const COUNT: usize = MAGIC.len();
+
+/// The sections by their numbers, and how many there are.
+pub const PINS: usize = 0;
+pub const STEINER: usize = 1;
+pub const EDGES: usize = 2;
+pub const SECTIONS: usize = 3;
+
 /// The bytes before the first section.
-pub const HEADER: usize = 30;
+pub const HEADER: usize = header(SECTIONS);
 /// The length of the longest file.
 pub const LONGEST: usize = 784;
+
+/// The bytes of the header of some sections: the four letters, the count, and
+/// offset and length of each.
+pub const fn header(sections: usize) -> usize {
+    COUNT + 2 + 8 * sections
+}
 
 /// The file of a state, its edges written out (SPEC 7.5: the writer).
 pub fn write(state: &State) -> Vec<u8> {
@@ -32,17 +47,32 @@ pub fn write_plain(pins: &[Point]) -> Vec<u8> {
     assemble(&point_bytes(pins), &[], &[])
 }
 
-/// Header and sections put together.
+/// The file of three sections.
 pub fn assemble(pins: &[u8], steiner: &[u8], edges: &[u8]) -> Vec<u8> {
+    of_sections(&[pins, steiner, edges])
+}
+
+/// Header and sections put together.
+pub fn of_sections(sections: &[&[u8]]) -> Vec<u8> {
     let mut bytes = MAGIC.to_vec();
-    bytes.extend(3u16.to_le_bytes());
-    let mut offset = HEADER as u32;
-    for section in [pins, steiner, edges] {
+    bytes.extend((sections.len() as u16).to_le_bytes());
+    let mut offset = header(sections.len()) as u32;
+    for section in sections {
         bytes.extend(offset.to_le_bytes());
         bytes.extend((section.len() as u32).to_le_bytes());
         offset += section.len() as u32;
     }
-    [&bytes, pins, steiner, edges].concat()
+    [bytes, sections.concat()].concat()
+}
+
+/// The length of a section in bytes, by its pair in the header.
+pub fn section_length(bytes: &[u8], section: usize) -> usize {
+    number_at(bytes, header(section) + 4) as usize
+}
+
+/// Whether a file that is taken is plain.
+pub fn is_plain(bytes: &[u8]) -> bool {
+    section_length(bytes, STEINER) == 0 && section_length(bytes, EDGES) == 0
 }
 
 /// The bytes of a section of points: x then y, 16 bits each.
@@ -69,7 +99,8 @@ pub fn write_into(state: &State, buffer: &mut [u8]) -> Result<usize, u8> {
 /// Reads a file. Checks 1 to 6, in this order.
 pub fn read(bytes: &[u8]) -> Result<State, u8> {
     check_start(bytes)?;
-    let [pins, steiner, edges] = sections(bytes)?;
+    let sections = sections(bytes, SECTIONS)?;
+    let (pins, steiner, edges) = (sections[PINS], sections[STEINER], sections[EDGES]);
     if pins.len() % 4 != 0 || steiner.len() % 4 != 0 || edges.len() % 2 != 0 {
         return Err(3);
     }
@@ -91,25 +122,29 @@ fn check_start(bytes: &[u8]) -> Result<(), u8> {
     if bytes.len() < HEADER || bytes.len() > LONGEST {
         return Err(1);
     }
-    let count = u16::from_le_bytes([bytes[4], bytes[5]]);
-    if &bytes[..4] != MAGIC || count != 3 {
+    let count = u16::from_le_bytes([bytes[COUNT], bytes[COUNT + 1]]);
+    if &bytes[..COUNT] != MAGIC || count as usize != SECTIONS {
         return Err(1);
     }
     Ok(())
 }
 
-/// Check 2: the three sections, each from where the one before ends.
-fn sections(bytes: &[u8]) -> Result<[&[u8]; 3], u8> {
-    let mut found: [&[u8]; 3] = [&[], &[], &[]];
-    let mut end = HEADER as u64;
-    for (place, section) in found.iter_mut().enumerate() {
-        let offset = number_at(bytes, 6 + 8 * place);
-        let length = number_at(bytes, 10 + 8 * place);
+/// Check 2: bytes for the pairs of so many sections, and these sections, each
+/// from where the one before ends.
+fn sections(bytes: &[u8], count: usize) -> Result<Vec<&[u8]>, u8> {
+    if bytes.len() < header(count) {
+        return Err(2);
+    }
+    let mut found = Vec::new();
+    let mut end = header(count) as u64;
+    for section in 0..count {
+        let offset = number_at(bytes, header(section));
+        let length = number_at(bytes, header(section) + 4);
         if offset != end || offset + length > bytes.len() as u64 {
             return Err(2);
         }
         end = offset + length;
-        *section = &bytes[offset as usize..end as usize];
+        found.push(&bytes[offset as usize..end as usize]);
     }
     if end != bytes.len() as u64 {
         return Err(2);

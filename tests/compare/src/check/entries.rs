@@ -4,7 +4,7 @@
 use crate::binding::entries::{plan, replay};
 use reference::buffers::lend;
 use reference::entry::entry;
-use reference::file::{read, HEADER, LONGEST};
+use reference::file::{is_plain, read, section_length, HEADER, LONGEST, STEINER};
 use reference::refusals::{Refusals, NO_ROOM};
 use reference::script::hex_of;
 use std::fmt;
@@ -23,14 +23,9 @@ pub fn planned(file: &[u8]) -> Expected {
     }
 }
 
-/// Whether a file that is taken is plain.
-pub fn is_plain(file: &[u8]) -> bool {
-    file[18..22] == [0; 4] && file[26..30] == [0; 4]
-}
-
 /// The number of Steiner points of a file that is taken.
 pub fn steiner_of(file: &[u8]) -> usize {
-    u32::from_le_bytes(file[18..22].try_into().unwrap()) as usize / 4
+    section_length(file, STEINER) / 4
 }
 
 /// The length of the deck of a file that is taken and full: each run by the

@@ -84,8 +84,8 @@ pub fn of_points(count: i64) -> State {
 /// The files of this length that are taken: a plain one, a full one, both or
 /// none.
 pub fn taken(random: &mut Random, length: usize) -> Vec<Vec<u8>> {
-    let pins = (0..=64).find(|pins| length == 30 + 4 * pins);
-    let points = (1..=126).find(|points| length == 28 + 6 * points);
+    let pins = (0..=64).find(|pins| length == HEADER + 4 * pins);
+    let points = (1..=126).find(|points| length == HEADER + 4 * points + 2 * (points - 1));
     let plain = pins.map(|count| write_plain(&grid(random, count, 9).pins));
     let full = points.map(|count| write(&of_points(count as i64)));
     plain.into_iter().chain(full).collect()
