@@ -24,7 +24,7 @@ ghost use Prim.Native.Nat.{_*_, _≤_};
 ghost use lib.Dec.{T};
 ghost use Rattle.arrays.specs.Same.{sameList};
 ghost use Rattle.model.specs.State.{Valid, placed};
-ghost use Rattle.model.specs.Sections as sections;
+ghost use Rattle.model.specs.Sections as model;
 ghost use Rattle.model.specs.File.{deck, refusal, fileState, runSection};
 ghost use Rattle.points.specs.Coded.{maxSteiner};
 ghost use Rattle.working.specs.InOrder.{InOrder, stateOf, contentsOf};
@@ -60,7 +60,7 @@ fn points_working(b: &[u8], found: FilePoints) -> Checked
     requires { ⌜ Sections (now b) ⌝ }
     requires { ⌜ Decodes (now b) found ⌝ }
     requires { ⌜ T (placed (fileState (now b))) ⌝ }
-    requires { ⌜ sections.size (now b) 1 ≤ 4 * maxSteiner ⌝ }
+    requires { ⌜ model.size (now b) 1 ≤ 4 * maxSteiner ⌝ }
     ensures { λ r. ⌜ WorkingFor (fileState (now (b .entry))) r ⌝ }
 {
     let n = size(b, PINS) / POINT_SIZE;
@@ -82,7 +82,7 @@ fn has_edges(b: &[u8], w: Working) -> bool
     requires { ⌜ Sections (now b) ⌝ }
     requires { ⌜ InOrder w ⌝ }
     requires { ⌜ Valid (stateOf w) ⌝ }
-    ensures { λ r. ⌜ r ≡ sameList (sections.section (now (b .entry)) 2) (runSection (stateOf w)) ⌝ }
+    ensures { λ r. ⌜ r ≡ sameList (model.section (now (b .entry)) 2) (runSection (stateOf w)) ⌝ }
 {
     if size(b, EDGES) != EDGE_SIZE * w.nkeys {
         return false;

@@ -9,7 +9,7 @@ use Rattle.model.specs.State.{State, empty, Valid, valid}
 pub record Contents : Type 0 where
   pub state : State
 
--- Contents are made by the next three alone. Those of a state, with all else as it is until it is set.
+-- Contents are made by the next three alone, so that a further field moves few places. Those of a state, with nothing else set.
 abbrev pub ofState : State → Contents
 ofState s = record { state = s }
 

@@ -30,7 +30,7 @@ pub const EDGES: usize = 2;
 
 pub const SECTIONS: usize = 3;
 
-// The shortest file: the header, and nothing in its model.
+// The shortest file: the header, and nothing in its sections.
 pub const SHORTEST: usize = PAIRS + PAIR_SIZE * SECTIONS;
 
 // Bytes of a point and of an edge.
