@@ -22,7 +22,11 @@ pub round-is : (w : Working) (t : Rounded) (r : Reply) → RoundOf w t → r ≡
     → ChangedBy w call.oneRound (record { working = t .working; reply = r })
 unfolding call.step
 round-is w t r by said =
-    record { inOrder = by .inOrder; next = ap (keeping (contentsOf w)) (by .next); reply = said ∙ ap stepReply (by .step) ∙ step-reply (round (stateOf w) .answer) }
+    record {
+      inOrder = by .inOrder;
+      next = ap (keeping (contentsOf w)) (by .next);
+      reply = said ∙ ap stepReply (by .step) ∙ step-reply (round (stateOf w) .answer);
+    }
 
 pub end-is : (w : Working) (r : Ended) → FinishOf w r → ChangedBy w call.runToEnd (record { working = r .working; reply = Rounds (r .count) })
 unfolding call.step replyOf

@@ -16,7 +16,8 @@ use Rattle.model.specs.Contents.{Contents, ValidContents}
 use Rattle.arrays.specs.Same.{sameList}
 use Rattle.arrays.proofs.same.Alike.{same-refl, same-eq}
 use Rattle.model.specs.Sections.{magic, countPlace, sectionCount, section, offset, size, laidOut}
-use Rattle.model.specs.File.{fewestSections, shortest, longest, deck, fileChecks, readFile, fileState, fileContents, headed, whole, plain, pointsOf, runSection}
+use Rattle.model.specs.File.{fewestSections, shortest, longest, headed, whole, plain}
+use Rattle.model.specs.File.{deck, fileChecks, readFile, fileState, fileContents, pointsOf, runSection}
 use Rattle.model.proofs.Refusal.{file-taken}
 use Rattle.model.proofs.Validity.{placed-is, valid-is}
 
