@@ -22,7 +22,9 @@ file at-header-size =
 returns : tie.Need-returns Inv-loop μ-loop
 returns c =
     let at-header-size = c .before in
-    pairs-missing (file at-header-size) _ _ (at-header-size .before .number2 .ensures .0) (at-header-size .header-size .ensures) (c .if1 .taken)
+    let at-count = at-header-size .before in
+    let entry = at-count .before .before in
+    pairs-missing (file at-header-size) _ _ (at-count .number2 .ensures .0) (at-header-size .header-size .ensures) (omega (arith, c .if1 .taken, entry .pre))
 
 loop-holds : tie.Need-loop-holds Inv-loop μ-loop
 loop-holds c =
