@@ -1,5 +1,5 @@
-/* Plans a deck file: standard input to standard output. Exits with 0, or with the number of the refusal (1 to 12), or with one of the
- * two numbers below. */
+/* Plans a deck file: standard input to standard output. Exits with 0, or with the number of the refusal (planner.h has them), or with one
+ * of the two numbers below. */
 #include <stdio.h>
 
 #include "planner.h"

@@ -5,6 +5,7 @@
 #include <stdlib.h>
 #include <string.h>
 
+#include "layout.h"
 #include "mutate.h"
 
 /* The most files that are kept; the last of those given is followed by the ones written. */
@@ -16,8 +17,11 @@ static size_t given, count;
 /* The file of this round, for the message where the program is stopped. */
 static struct file current;
 
-/* How many files got each refusal, and how many were taken, plain ones and full ones. */
-static size_t refused[HEADER], plain, full;
+/* The refusals of a file. */
+static const int refusals[] = {1, 2, 3, 4, 5, 6, 15};
+
+/* How many files got each refusal, and how many were taken, without kinds and with them, full ones and plain ones. */
+static size_t refused[PLANNER_SHORTEST], taken[2][2];
 
 static void print_current(void)
 {
@@ -52,25 +56,31 @@ static void one_round(void)
 {
     uint8_t written[PLANNER_LONGEST];
     size_t answer;
+    int plain;
 
     current = files[below((uint32_t)count)];
     mutate(&current, &files[below((uint32_t)count)]);
     answer = check_plan(current.bytes, current.length, written);
-    if (answer < HEADER) {
+    if (answer < PLANNER_SHORTEST) {
         refused[answer]++;
         return;
     }
-    if (section_length(current.bytes, TAPS) == 0 && section_length(current.bytes, RUNS) == 0)
-        plain++;
-    else
-        full++;
+    plain = section_length(current.bytes, TAPS) == 0 && section_length(current.bytes, RUNS) == 0;
+    taken[current.bytes[COUNT] == WITH_KINDS][plain]++;
     keep(written, answer);
+}
+
+/* Prints how often an answer came, and returns whether it did. */
+static int came(const char *what, int number, size_t times)
+{
+    printf("%s %d: %zu\n", what, number, times);
+    return times > 0;
 }
 
 int main(int argc, char **argv)
 {
     long rounds = argc > 1 ? atol(argv[1]) : 0;
-    size_t least;
+    int all = 1;
 
     for (int i = 2; i < argc; i++)
         if (!load(argv[i]))
@@ -81,13 +91,13 @@ int main(int argc, char **argv)
     __sanitizer_set_death_callback(print_current);
     for (long i = 0; i < rounds; i++)
         one_round();
-    least = plain < full ? plain : full;
-    for (int i = 1; i <= 6; i++) {
-        printf("refused %d: %zu\n", i, refused[i]);
-        least = refused[i] < least ? refused[i] : least;
+    for (size_t i = 0; i < sizeof refusals / sizeof *refusals; i++)
+        all &= came("refused", refusals[i], refused[refusals[i]]);
+    for (int kinds = 0; kinds < 2; kinds++) {
+        all &= came("full files taken, sections", WITHOUT_KINDS + kinds, taken[kinds][0]);
+        all &= came("plain files taken, sections", WITHOUT_KINDS + kinds, taken[kinds][1]);
     }
-    printf("plain files taken: %zu\nfull files taken: %zu\n", plain, full);
-    if (least == 0)
+    if (!all)
         fprintf(stderr, "an answer never came\n");
-    return least == 0;
+    return !all;
 }

@@ -10,7 +10,7 @@ use Rattle.arrays.specs.Set.{tie, put, out, has, union, rising}
 use Rattle.arrays.proofs.Set.{union-in}
 
 -- Two choices by equal tests between equal arms.
-if-map : {A B : Type 0} (f : A → B) (b c : Bool) (x y : Unit {0} → A) (x′ y′ : Unit {0} → B) → b ≡ c → f (x tt) ≡ x′ tt → f (y tt) ≡ y′ tt
+pub if-map : {A B : Type 0} (f : A → B) (b c : Bool) (x y : Unit {0} → A) (x′ y′ : Unit {0} → B) → b ≡ c → f (x tt) ≡ x′ tt → f (y tt) ≡ y′ tt
     → f (if b x y) ≡ if c x′ y′
 if-map f b true x y x′ y′ e p q = ap (λ (z : Bool). f (if z x y)) e ∙ p
 if-map f b false x y x′ y′ e p q = ap (λ (z : Bool). f (if z x y)) e ∙ q
@@ -20,7 +20,7 @@ module _ {A B : Type 0} (f : A → B) (less : A → A → Bool) (less′ : B →
   abbrev All : List A → Type 0
   All l = (a : A) → List·Memᴰ a l → Q a
 
-  tie-map : (a b : A) → Q a → Q b → tie less a b ≡ tie less′ (f a) (f b)
+  pub tie-map : (a b : A) → Q a → Q b → tie less a b ≡ tie less′ (f a) (f b)
   tie-map a b p q = ap₂ (λ (x y : Bool). not x && not y) (agree a b p q) (agree b a q p)
 
   pub put-map : (a : A) → Q a → (l : List A) → All l → map f (put less a l) ≡ put less′ (f a) (map f l)

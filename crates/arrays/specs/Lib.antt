@@ -1,4 +1,5 @@
 pub mod Array
+pub mod Beside
 pub mod Number
 pub mod Order
 pub mod Paste

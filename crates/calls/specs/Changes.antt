@@ -1,10 +1,11 @@
--- What the calls on a working form leave and reply, by the model.
+-- What the calls on a deck in working form leave and reply, by the model.
 use mathlib.Core.Path.{_≡_}
 use Prim.Native.Nat.{ℕ}
 use Rattle.model.specs.Round.{finished, tap}
 use Rattle.model.specs.Call as call
-use Rattle.working.specs.declared.Working.{Working}
-use Rattle.working.specs.InOrder.{InOrder, contentsOf}
+use Rattle.working.specs.declared.deck.WorkingDeck.{WorkingDeck}
+use Rattle.working.specs.InOrder.{InOrder}
+use Rattle.working.specs.WorkingDeck.{contentsOf}
 use Rattle.rounds.specs.declared.Step.{Step}
 use Rattle.rounds.specs.declared.Step.the-variants as step
 use Rattle.calls.specs.declared.Changed.{Changed}
@@ -32,12 +33,12 @@ refusalNumber Finished = 0
 refusalNumber (Tap x y fall) = 0
 refusalNumber (Rounds n) = 0
 
--- A refusal hands back the working form it was given.
-abbrev pub refusing : Working → ℕ → Changed
-refusing w n = record { working = w; reply = Refused n }
+-- A refusal hands back the deck it was given.
+abbrev pub refusing : WorkingDeck → ℕ → Changed
+refusing d n = record { working = d; reply = Refused n }
 
--- The working form r follows from w by the call c: it is in order, its contents are the model's next, and the reply is the model's.
-pub record ChangedBy (w : Working) (c : call.Call) (r : Changed) : Type 0 where
-  pub inOrder : InOrder (r .working)
-  pub next : contentsOf (r .working) ≡ call.step (contentsOf w) c .next
-  pub reply : r .reply ≡ replyOf (call.step (contentsOf w) c .reply)
+-- The deck in r follows from d by the call c: its form is in order, its contents are the model's next, and the reply is the model's.
+pub record ChangedBy (d : WorkingDeck) (c : call.Call) (r : Changed) : Type 0 where
+  pub inOrder : InOrder (r .working .form)
+  pub next : contentsOf (r .working) ≡ call.step (contentsOf d) c .next
+  pub reply : r .reply ≡ replyOf (call.step (contentsOf d) c .reply)

@@ -1,15 +1,19 @@
-// The calls on a working form in order. Each returns the next working form and a reply; a refused call returns the same working form.
+// The calls on a deck in working form. Each returns the next one and a reply; a refused call returns the same one.
 use plane::codes::Located;
 use plane::codes::locate;
 use points::MAX_PINS;
+use points::kinds::LARGEST_KIND;
+use points::kinds::SENSOR;
 use rounds::Step;
-use working::Working;
+use working::deck::WorkingDeck;
+use working::deck::follow;
 ghost use mathlib.Core.Path.{_≡_};
 ghost use lib.Dec.{T};
 ghost use Rattle.model.specs.Contents.{ValidContents};
 ghost use Rattle.model.specs.Call as call;
 ghost use Rattle.plane.specs.Code.{pointOf, isCode};
-ghost use Rattle.working.specs.InOrder.{InOrder, contentsOf};
+ghost use Rattle.working.specs.InOrder.{InOrder};
+ghost use Rattle.working.specs.WorkingDeck.{contentsOf};
 ghost use Rattle.calls.specs.Changes.{refusing, refusalNumber, stepReply, ChangedBy};
 
 // What a call replies: done, or a refusal by its number; a round: finished, or the new Steiner point and the whole fall in
@@ -22,9 +26,9 @@ pub enum Reply {
     Rounds(u64),
 }
 
-// The working form that follows, and the reply.
+// The deck that follows, in working form, and the reply.
 pub struct Changed {
-    pub working: Working,
+    pub working: WorkingDeck,
     pub reply: Reply,
 }
 
@@ -52,105 +56,112 @@ fn reply_of(s: Step) -> Reply
 }
 
 // A refusal.
-fn refuse(w: Working, number: u8) -> Changed
-    ensures { λ r. ⌜ r ≡ refusing w number ⌝ }
+fn refuse(d: WorkingDeck, number: u8) -> Changed
+    ensures { λ r. ⌜ r ≡ refusing d number ⌝ }
 {
     Changed {
-        working: w,
+        working: d,
         reply: Reply::Refused(number),
     }
 }
 
-// Adds a pin at a point in range.
-fn add_at(w: Working, k: u64) -> Changed
-    requires { ⌜ InOrder w ⌝ }
+// Adds a pin of a kind at a point in range.
+fn add_at(d: WorkingDeck, k: u64, kind: u32) -> Changed
+    requires { ⌜ InOrder (d .form) ⌝ }
     requires { ⌜ T (isCode k) ⌝ }
-    requires { ⌜ ValidContents (contentsOf w) ⌝ }
-    ensures { λ r. ⌜ ChangedBy w (call.add (pointOf k)) r ⌝ }
+    requires { ⌜ ValidContents (contentsOf d) ⌝ }
+    ensures { λ r. ⌜ ChangedBy d (call.add (pointOf k) kind) r ⌝ }
 {
-    let pins = w.points.pins;
-    let npins = w.points.npins;
+    let pins = d.form.points.pins;
+    let npins = d.form.points.npins;
+    let unknown = (LARGEST_KIND as u32) < kind;
     let there = arrays::sorted::has(&pins, npins, k);
     let full = MAX_PINS <= npins;
+    if unknown {
+        return refuse(d, 15);
+    }
     if there {
-        return refuse(w, 8);
+        return refuse(d, 8);
     }
     if full {
-        return refuse(w, 10);
+        return refuse(d, 10);
     }
-    let next = working::change::insert(w, k);
+    let given = kind as u8;
+    let next = working::change::insert(d.form, k);
     Changed {
-        working: next,
+        working: follow(d, next, given),
         reply: Reply::Done,
     }
 }
 
 // Withdraws a pin at a point in range.
-fn withdraw_at(w: Working, k: u64) -> Changed
-    requires { ⌜ InOrder w ⌝ }
+fn withdraw_at(d: WorkingDeck, k: u64) -> Changed
+    requires { ⌜ InOrder (d .form) ⌝ }
     requires { ⌜ T (isCode k) ⌝ }
-    ensures { λ r. ⌜ ChangedBy w (call.withdraw (pointOf k)) r ⌝ }
+    ensures { λ r. ⌜ ChangedBy d (call.withdraw (pointOf k)) r ⌝ }
 {
-    let pins = w.points.pins;
-    if !arrays::sorted::has(&pins, w.points.npins, k) {
-        return refuse(w, 9);
+    let pins = d.form.points.pins;
+    if !arrays::sorted::has(&pins, d.form.points.npins, k) {
+        return refuse(d, 9);
     }
-    let next = working::change::remove(w, k);
+    let next = working::change::remove(d.form, k);
     Changed {
-        working: next,
+        working: follow(d, next, SENSOR),
         reply: Reply::Done,
     }
 }
 
-// Adds a pin. Returns the working form that follows, and the reply: done, or a refusal, in the order 7, 8, 10.
-pub fn add(w: Working, x: i32, y: i32) -> Changed
-    requires { ⌜ InOrder w ⌝ }
-    requires { ⌜ ValidContents (contentsOf w) ⌝ }
-    ensures { λ r. ⌜ ChangedBy w (call.add (record { x = x; y = y })) r ⌝ }
+// Adds a pin of a kind. Returns the deck that follows, and the reply: done, or a refusal, in the order 7, 15, 8, 10.
+pub fn add(d: WorkingDeck, x: i32, y: i32, kind: u32) -> Changed
+    requires { ⌜ InOrder (d .form) ⌝ }
+    requires { ⌜ ValidContents (contentsOf d) ⌝ }
+    ensures { λ r. ⌜ ChangedBy d (call.add (record { x = x; y = y }) kind) r ⌝ }
 {
     match locate(x, y) {
-        Located::OutOfRange => refuse(w, 7),
-        Located::At(k) => add_at(w, k),
+        Located::OutOfRange => refuse(d, 7),
+        Located::At(k) => add_at(d, k, kind),
     }
 }
 
-// Withdraws a pin. Returns the working form that follows, and the reply: done, or refusal 9.
-pub fn withdraw(w: Working, x: i32, y: i32) -> Changed
-    requires { ⌜ InOrder w ⌝ }
-    requires { ⌜ ValidContents (contentsOf w) ⌝ }
-    ensures { λ r. ⌜ ChangedBy w (call.withdraw (record { x = x; y = y })) r ⌝ }
+// Withdraws a pin. Returns the deck that follows, and the reply: done, or refusal 9.
+pub fn withdraw(d: WorkingDeck, x: i32, y: i32) -> Changed
+    requires { ⌜ InOrder (d .form) ⌝ }
+    requires { ⌜ ValidContents (contentsOf d) ⌝ }
+    ensures { λ r. ⌜ ChangedBy d (call.withdraw (record { x = x; y = y })) r ⌝ }
 {
     match locate(x, y) {
-        Located::OutOfRange => refuse(w, 9),
-        Located::At(k) => withdraw_at(w, k),
+        Located::OutOfRange => refuse(d, 9),
+        Located::At(k) => withdraw_at(d, k),
     }
 }
 
-// One round. Returns the working form that follows, and the reply: finished, or the new Steiner point with the fall in length.
-pub fn round(w: Working) -> Changed
-    requires { ⌜ InOrder w ⌝ }
-    requires { ⌜ ValidContents (contentsOf w) ⌝ }
-    ensures { λ r. ⌜ ChangedBy w call.oneRound r ⌝ }
+// One round. Returns the deck that follows, and the reply: finished, or the new Steiner point with the fall in length.
+pub fn round(d: WorkingDeck) -> Changed
+    requires { ⌜ InOrder (d .form) ⌝ }
+    requires { ⌜ ValidContents (contentsOf d) ⌝ }
+    ensures { λ r. ⌜ ChangedBy d call.oneRound r ⌝ }
 {
-    let t = rounds::round_of(w);
-    let swept = t.working;
+    let t = rounds::round_of(d.form);
+    let form = t.working;
     let step = t.step;
+    let kinds = d.kinds;
     Changed {
-        working: swept,
+        working: WorkingDeck { form, kinds },
         reply: reply_of(step),
     }
 }
 
-// Rounds until one is finished. Returns the working form that they lead to, and how many added a Steiner point.
-pub fn run_to_end(w: Working) -> Changed
-    requires { ⌜ InOrder w ⌝ }
-    requires { ⌜ ValidContents (contentsOf w) ⌝ }
-    ensures { λ r. ⌜ ChangedBy w call.runToEnd r ⌝ }
+// Rounds until one is finished. Returns the deck that they lead to, and how many added a Steiner point.
+pub fn run_to_end(d: WorkingDeck) -> Changed
+    requires { ⌜ InOrder (d .form) ⌝ }
+    requires { ⌜ ValidContents (contentsOf d) ⌝ }
+    ensures { λ r. ⌜ ChangedBy d call.runToEnd r ⌝ }
 {
-    let e = rounds::finish_of(w);
-    let ended = e.working;
+    let e = rounds::finish_of(d.form);
+    let form = e.working;
+    let kinds = d.kinds;
     Changed {
-        working: ended,
+        working: WorkingDeck { form, kinds },
         reply: Reply::Rounds(e.count),
     }
 }

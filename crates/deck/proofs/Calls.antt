@@ -8,11 +8,10 @@ use mir.Syntax.{w32}
 use mir.Val.{SFits}
 use Rattle.plane.specs.Point.{Point, point}
 use Rattle.arrays.specs.Test.{if}
-use Rattle.model.specs.Contents.{Contents, ofState, ValidContents}
+use Rattle.model.specs.Contents.{Contents, ValidContents}
 use Rattle.model.specs.Call as call
-use Rattle.points.specs.declared.Points.{Points}
-use Rattle.points.specs.Coded as coded
 use Rattle.working.specs.InOrder as work
+use Rattle.working.specs.WorkingDeck as workingDeck
 use Rattle.calls.specs.declared.Changed.{Changed}
 use Rattle.calls.specs.Changes.{replyOf, ChangedBy}
 use Rattle.deck.specs.declared.Deck.{Deck}
@@ -24,19 +23,19 @@ use Rattle.deck.specs.Calls.{deckOutcome, refusedOutcome, called, outcom
 use Rattle.arrays.proofs.Test.{of-true}
 use Rattle.arrays.proofs.Signed.{read, read-two}
 use Rattle.calls.proofs.PointCalls.{by-point}
-use Rattle.deck.proofs.Form.{sound-is}
+use Rattle.deck.proofs.Form.{sound-is, same-contents}
 
 -- What the check of a deck gives where it passed: the deck is sound, and its working form stands for its contents.
-pub checked-sound : (d : Deck) (r : Checked) → Checks (sound d) (d .points) r → r .ok ≡ true
-    → Sound d × work.InOrder (r .working) × (work.contentsOf (r .working) ≡ contentsOf d)
+pub checked-sound : (d : Deck) (r : Checked) → Checks (sound d) d r → r .ok ≡ true
+    → Sound d × work.InOrder (r .working .form) × (workingDeck.contentsOf (r .working) ≡ contentsOf d)
 checked-sound d r c e =
-    (sound-is d .0 t, c .inOrder t, ap (λ (q : Points). ofState (coded.stateOf q)) (c .same t))
+    (sound-is d .0 t, c .inOrder t, same-contents d (r .working) (c .points t) (c .kinds t))
   where
     t : T (sound d)
     t = of-true (sym (c .ok) ∙ e)
 
-pub checked-valid : (d : Deck) (r : Checked) → Checks (sound d) (d .points) r → r .ok ≡ true
-    → work.InOrder (r .working) × ValidContents (work.contentsOf (r .working))
+pub checked-valid : (d : Deck) (r : Checked) → Checks (sound d) d r → r .ok ≡ true
+    → work.InOrder (r .working .form) × ValidContents (workingDeck.contentsOf (r .working))
 checked-valid d r c e = let k = checked-sound d r c e in (k .1, subst⁻¹ ValidContents (k .2) (k .0 .valid))
 
 -- A call by whether the deck is sound.
@@ -50,8 +49,8 @@ called-sound d c e = ap (λ (b : Bool). if b (λ _. deckOutcome (call.step (cont
 
 -- Every method begins with the check and a test of its answer. Where the check failed the call is refused, else it is made on the
 -- working form.
-module _ (d : Deck) {r : Checked} (k : Checks (sound d) (d .points) r) where
-  pub ready : not (r .ok) ≡ false → work.InOrder (r .working) × ValidContents (work.contentsOf (r .working))
+module _ (d : Deck) {r : Checked} (k : Checks (sound d) d r) where
+  pub ready : not (r .ok) ≡ false → work.InOrder (r .working .form) × ValidContents (workingDeck.contentsOf (r .working))
   ready e = checked-valid d r k (not-false (r .ok) e)
 
   pub refused-by : (c : call.Call) {o : Outcome} → not (r .ok) ≡ true → o ≡ refusedOutcome d 11 → o ≡ called d c
@@ -67,7 +66,7 @@ module _ (d : Deck) {r : Checked} (k : Checks (sound d) (d .points) r) where
       })
       ∙ called-sound d c (sym (k .ok) ∙ not-false (r .ok) e)
     where
-      same : work.contentsOf (r .working) ≡ contentsOf d
+      same : workingDeck.contentsOf (r .working) ≡ contentsOf d
       same = checked-sound d r k (not-false (r .ok) e) .2
 
   -- At a point whose two numbers are handed on as 32 bits.

@@ -3,28 +3,35 @@
 use mathlib.Core.Path.{_≡_, sym, ap, _∙_, subst, subst⁻¹}
 use mathlib.Core.Logic.{_↔_}
 use lib.Dec.{T, eqb, eqb→eq, eqb-refl}
+use lib.ListN.{length, take}
 use Rattle.arrays.specs.Same.{sameList}
 use Rattle.arrays.proofs.Test.{and-parts, and-both}
 use Rattle.arrays.proofs.same.Alike.{same-refl, same-eq}
-use Rattle.model.specs.State.{Placed}
-use Rattle.model.specs.Contents.{Contents, ofState, ValidContents, validContents}
-use Rattle.model.proofs.Validity.{valid-contents-is}
+use Rattle.model.specs.State.{maxPins}
+use Rattle.model.specs.Contents.{Contents, withKinds, ValidContents, validContents}
+use Rattle.model.proofs.DeviceKinds.{valid-contents-is}
 use Rattle.points.specs.declared.Points.{Points}
-use Rattle.points.specs.Coded.{Arranged}
+use Rattle.points.specs.Coded.{Arranged, coded, padded, stateOf as stateOfPoints}
+use Rattle.points.proofs.Codes.{padded-take}
 use Rattle.points.proofs.Coded.{state-coded, valid-arranged}
+use Rattle.working.specs.declared.deck.WorkingDeck.{WorkingDeck}
+use Rattle.working.specs.WorkingDeck as workingDeck
 use Rattle.working.specs.Edges.{edgeRow}
 use Rattle.deck.specs.declared.Deck.{Deck}
 use Rattle.deck.specs.Form.{deckOf, contentsOf, stateOf, Sound, samePoints, sameDeck, sound}
 
--- The contents of the deck of contents are these, where the points are placed.
-pub contents-deck : (c : Contents) → Placed (c .state) → contentsOf (deckOf c) ≡ c
-unfolding deckOf
-contents-deck c p = ap ofState (state-coded (c .state) p)
+-- The contents of the deck of valid contents are these.
+pub contents-deck : (c : Contents) → ValidContents c → contentsOf (deckOf c) ≡ c
+unfolding deckOf coded
+contents-deck c p = λ i. withKinds (state-coded (c .state) (p .state .placed) i) (kinds-read i)
+  where
+    kinds-read : take (length (c .state .pins)) (padded maxPins (c .kinds)) ≡ c .kinds
+    kinds-read = padded-take maxPins (c .kinds) (length (c .state .pins)) (p .kindCount)
 
 -- The deck of valid contents is sound.
 pub deck-sound : (c : Contents) → ValidContents c → Sound (deckOf c)
 deck-sound c v =
-    let e = contents-deck c (v .state .placed) in
+    let e = contents-deck c v in
     record { valid = subst⁻¹ ValidContents e v; same = ap deckOf (sym e) }
 
 -- The contents of a sound deck settle its every place (SPEC 5.2).
@@ -59,6 +66,10 @@ self-points q =
     (and-both (eqb (q .npins) (q .npins)) _ (eqb-refl (q .npins))
     (and-both (sameList (q .steiner) (q .steiner)) (eqb (q .nsteiner) (q .nsteiner)) (same-refl (q .steiner)) (eqb-refl (q .nsteiner))))
 
+-- A deck in working form with the points and the kinds of a deck has its contents.
+pub same-contents : (d : Deck) (w : WorkingDeck) → w .form .points ≡ d .points → w .kinds ≡ d .kinds → workingDeck.contentsOf w ≡ contentsOf d
+same-contents d w e f = λ i. withKinds (stateOfPoints (e i)) (take (e i .npins) (f i))
+
 -- The test decides soundness.
 pub sound-is : (d : Deck) → T (sound d) ↔ Sound d
 unfolding sound
@@ -70,9 +81,16 @@ sound-is d = (
 )
   where
     self : T (sameDeck d d)
-    self = and-both (samePoints (d .points) (d .points)) (sameList (d .ends) (d .ends)) (self-points (d .points)) (same-refl (d .ends))
+    self =
+        and-both (samePoints (d .points) (d .points)) _ (self-points (d .points))
+        (and-both (sameList (d .kinds) (d .kinds)) (sameList (d .ends) (d .ends)) (same-refl (d .kinds)) (same-refl (d .ends)))
 
     same : (e : Deck) → T (sameDeck d e) → d ≡ e
     same e t =
-        let a = and-parts (samePoints (d .points) (e .points)) (sameList (d .ends) (e .ends)) t in
-        λ i. record { points = same-points (d .points) (e .points) (a .0) i; ends = same-eq (d .ends) (e .ends) (a .1) i }
+        let a = and-parts (samePoints (d .points) (e .points)) _ t in
+        let b = and-parts (sameList (d .kinds) (e .kinds)) (sameList (d .ends) (e .ends)) (a .1) in
+        λ i. record {
+          points = same-points (d .points) (e .points) (a .0) i;
+          kinds = same-eq (d .kinds) (e .kinds) (b .0) i;
+          ends = same-eq (d .ends) (e .ends) (b .1) i;
+        }

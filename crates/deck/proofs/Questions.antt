@@ -8,7 +8,7 @@ use mir.Val.{SFits}
 use Rattle.plane.specs.Point.{Point, point}
 use Rattle.arrays.proofs.Signed.{read, read-two}
 use Rattle.arrays.specs.Test.{if}
-use Rattle.working.specs.InOrder as work
+use Rattle.working.specs.WorkingDeck as workingDeck
 use Rattle.questions.specs.declared.Answer.{Answer}
 use Rattle.questions.specs.Answers.{Question, answerTo}
 use Rattle.questions.specs.declared.Answer.the-variants.{Refused}
@@ -30,15 +30,15 @@ asked-sound d q e = ap (λ (b : Bool). if b (λ _. answerTo q (contentsOf d)) (�
 
 -- Every method begins with the check and a test of its answer. Where the check failed the question is refused, else it is asked of the
 -- working form.
-module _ (d : Deck) {r : Checked} (k : Checks (sound d) (d .points) r) where
+module _ (d : Deck) {r : Checked} (k : Checks (sound d) d r) where
   pub refused-answer : (q : Question) → not (r .ok) ≡ true → Refused 11 ≡ asked d q
   refused-answer q e = asked-unsound d q (sym (k .ok) ∙ not-true (r .ok) e)
 
-  pub asked-by : (q : Question) {a : Answer} → not (r .ok) ≡ false → a ≡ answerTo q (work.contentsOf (r .working)) → a ≡ asked d q
+  pub asked-by : (q : Question) {a : Answer} → not (r .ok) ≡ false → a ≡ answerTo q (workingDeck.contentsOf (r .working)) → a ≡ asked d q
   asked-by q e is = is ∙ ap (answerTo q) (checked-sound d r k (not-false (r .ok) e) .2) ∙ asked-sound d q (sym (k .ok) ∙ not-false (r .ok) e)
 
   -- At a point whose two numbers are handed on as 32 bits.
   pub asked-at : (f : Point → Question) {x y : ℤ} → SFits w32 x → SFits w32 y → {a : Answer} → not (r .ok) ≡ false
-      → a ≡ answerTo (f (point (read x) (read y))) (work.contentsOf (r .working)) → a ≡ asked d (f (point x y))
+      → a ≡ answerTo (f (point (read x) (read y))) (workingDeck.contentsOf (r .working)) → a ≡ asked d (f (point x y))
   asked-at f {x} {y} fx fy e is =
-      asked-by (f (point x y)) e (is ∙ read-two (λ (u v : ℤ). answerTo (f (point u v)) (work.contentsOf (r .working))) x y fx fy)
+      asked-by (f (point x y)) e (is ∙ read-two (λ (u v : ℤ). answerTo (f (point u v)) (workingDeck.contentsOf (r .working))) x y fx fy)

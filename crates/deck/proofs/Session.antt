@@ -10,9 +10,9 @@ use Rattle.model.specs.Contents.{Contents, keeping, ValidContents}
 use Rattle.model.specs.Round.{RoundAnswer, finished, tap, round, finish}
 use Rattle.model.specs.Call as call
 use Rattle.model.specs.Session as model
-use Rattle.model.proofs.Round.{round-valid}
+use Rattle.model.proofs.Round.{round-valid, round-pins}
 use Rattle.model.proofs.Step.{step-valid, after-valid}
-use Rattle.model.proofs.Validity.{keeping-valid}
+use Rattle.model.proofs.DeviceKinds.{keeping-valid}
 use Rattle.model.proofs.Session.{start-valid, valid-contents}
 use Rattle.arrays.proofs.Test.{true-of}
 use Rattle.deck.specs.declared.Outcome.{Outcome}
@@ -33,7 +33,7 @@ module _ (c : Contents) (v : ValidContents c) where
   valid-passes = true-of (sound (deckOf c)) (sound-is (deckOf c) .1 (deck-sound c v))
 
   same : contentsOf (deckOf c) ≡ c
-  same = contents-deck c (v .state .placed)
+  same = contents-deck c v
 
   -- A call on the deck of valid contents.
   pub called-valid : (k : call.Call) → called (deckOf c) k ≡ deckOutcome (call.step c k)
@@ -87,7 +87,8 @@ unfolding replyOf
 rounds-deck c v (model.ended e) = ended (finish-deck c v .1 e)
 rounds-deck c {r} v (model.added {k = k} e m) =
     added {e = deckOf (keeping c r)} {k = k} (round-reply c v ∙ ap (λ (a : RoundAnswer). replyOf (call.answered a)) e)
-    (rw (round-next c v) (rounds-deck (keeping c (round (c .state) .next)) (keeping-valid v (round-valid (c .state) (v .state))) m))
+    (rw (round-next c v)
+    (rounds-deck (keeping c (round (c .state) .next)) (keeping-valid v (round-valid (c .state) (v .state)) (round-pins (c .state) (v .state))) m))
 
 pub valid-deck : (c : Contents) → ValidContents c → SessionDeck (deckOf c) c
 unfolding call.step replyOf
@@ -96,7 +97,7 @@ valid-deck c v =
     let m = session .state in
     record {
       sound = deck-sound c v;
-      contents = contents-deck c (v .state .placed);
+      contents = contents-deck c v;
       session = session;
       lengthIs = asked-valid c v ofLength;
       edge = λ i. asked-valid c v (ofEdge i);

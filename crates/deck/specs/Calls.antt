@@ -2,7 +2,7 @@
 use Prim.Native.Nat.{ℕ}
 use Rattle.arrays.specs.Test.{if}
 use Rattle.model.specs.Call as call
-use Rattle.working.specs.InOrder as work
+use Rattle.working.specs.WorkingDeck as workingDeck
 use Rattle.calls.specs.declared.Changed.{Changed}
 use Rattle.calls.specs.declared.Reply.the-variants.{Refused}
 use Rattle.calls.specs.Changes.{replyOf}
@@ -14,9 +14,9 @@ use Rattle.deck.specs.Form.{deckOf, contentsOf, sound}
 unfoldable pub deckOutcome : call.Outcome → Outcome
 deckOutcome o = record { next = deckOf (o .next); reply = replyOf (o .reply) }
 
--- A call that changed a working form, as an outcome.
+-- A call that changed a deck in working form, as an outcome.
 abbrev pub outcomeOf : Changed → Outcome
-outcomeOf c = record { next = deckOf (work.contentsOf (c .working)); reply = c .reply }
+outcomeOf c = record { next = deckOf (workingDeck.contentsOf (c .working)); reply = c .reply }
 
 -- A refusal hands back the deck unchanged (SPEC 8.1).
 abbrev pub refusedOutcome : Deck → ℕ → Outcome

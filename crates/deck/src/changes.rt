@@ -20,9 +20,9 @@ fn refuse(d: Deck) -> Outcome
     }
 }
 
-// Returns the outcome of a call on a working form: the deck of the working form, and the reply.
+// Returns the outcome of a call on a deck in working form: the deck, and the reply.
 pub fn outcome_of(c: Changed) -> Outcome
-    requires { ⌜ work.InOrder (c .working) ⌝ }
+    requires { ⌜ work.InOrder (c .working .form) ⌝ }
     ensures { λ r. ⌜ r ≡ outcomeOf c ⌝ }
 {
     let reply = c.reply;
@@ -33,15 +33,15 @@ pub fn outcome_of(c: Changed) -> Outcome
 }
 
 impl Deck {
-    // Adds a pin. Returns the next deck and the reply: done, or a refusal, in the order 11, 7, 8, 10.
-    pub fn add(self, x: i32, y: i32) -> Outcome
-        ensures { λ r. ⌜ r ≡ called self (call.add (record { x = x; y = y })) ⌝ }
+    // Adds a pin of a kind. Returns the next deck and the reply: done, or a refusal, in the order 11, 7, 15, 8, 10.
+    pub fn add(self, x: i32, y: i32, kind: u32) -> Outcome
+        ensures { λ r. ⌜ r ≡ called self (call.add (record { x = x; y = y }) kind) ⌝ }
     {
         let c = check(self);
         if !c.ok {
             return refuse(self);
         }
-        outcome_of(calls::add(c.working, x, y))
+        outcome_of(calls::add(c.working, x, y, kind))
     }
 
     // Withdraws a pin. Returns the next deck and the reply: done, or a refusal, in the order 11, 9.

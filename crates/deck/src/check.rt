@@ -1,37 +1,94 @@
 // Check 11: whether a deck is sound, with its working form where it is.
 use super::Deck;
 use points::Points;
+use points::kinds::LARGEST_KIND;
+use points::kinds::all_within;
+use points::kinds::in_front;
 use working::Working;
+use working::deck::WorkingDeck;
 use working::edges::edge_numbers;
 ghost use mathlib.Core.Path.{_≡_};
-ghost use mathlib.Core.Bool.{Bool};
+ghost use mathlib.Core.Bool.{Bool, _&&_};
+ghost use Prim.Native.Nat.{_≤_};
+ghost use lib.ListN.{take};
 ghost use Rattle.arrays.specs.Same.{sameList};
+ghost use Rattle.arrays.specs.Set.{all};
+ghost use Rattle.model.specs.State.{maxPins};
+ghost use Rattle.model.specs.DeviceKinds.{isKind};
 ghost use Rattle.working.specs.InOrder as work;
+ghost use Rattle.working.specs.WorkingDeck as workingDeck;
 ghost use Rattle.deck.specs.Form.{deckOf, sound};
-ghost use Rattle.deck.specs.Check.{validPoints, Checks};
+ghost use Rattle.deck.specs.Check.{validPoints, Forms, Checks};
 
+// Whether points are those of a valid state, with their working form where they are.
+pub struct Formed {
+    pub ok: bool,
+    pub form: Working,
+}
+
+// Whether a deck is sound, with the deck in working form where it is.
 pub struct Checked {
     pub ok: bool,
-    pub working: Working,
+    pub working: WorkingDeck,
 }
 
-// Whether two decks have the same ends.
-fn has_ends(d: Deck, e: Deck) -> bool
-    ensures { λ r. ⌜ r ≡ sameList (d .ends) (e .ends) ⌝ }
+// Whether the first n kinds of a deck are kinds.
+fn has_kinds(d: Deck, n: usize) -> bool
+    requires { ⌜ n ≤ maxPins ⌝ }
+    ensures { λ r. ⌜ r ≡ all isKind (take n (d .kinds)) ⌝ }
 {
-    let a = d.ends;
-    let b = e.ends;
-    arrays::same::same_numbers(&a, &b)
+    let kinds = d.kinds;
+    all_within(&kinds[..n], LARGEST_KIND)
 }
 
-// Returns the deck of a working form.
-pub fn deck_of(w: Working) -> Deck
-    requires { ⌜ work.InOrder w ⌝ }
-    ensures { λ r. ⌜ r ≡ deckOf (work.contentsOf w) ⌝ }
+// Whether two decks have the same kinds and the same ends, in every place.
+fn same_rest(d: Deck, e: Deck) -> bool
+    ensures { λ r. ⌜ r ≡ sameList (d .kinds) (e .kinds) && sameList (d .ends) (e .ends) ⌝ }
 {
-    let ends = edge_numbers(w);
-    let points = w.points;
-    Deck { points, ends }
+    let a = d.kinds;
+    let b = e.kinds;
+    let c = d.ends;
+    let f = e.ends;
+    arrays::same::same_bytes(&a, &b) & arrays::same::same_numbers(&c, &f)
+}
+
+// Returns the deck of a deck in working form.
+pub fn deck_of(w: WorkingDeck) -> Deck
+    requires { ⌜ work.InOrder (w .form) ⌝ }
+    ensures { λ r. ⌜ r ≡ deckOf (workingDeck.contentsOf w) ⌝ }
+{
+    let kinds = w.kinds;
+    let ends = edge_numbers(w.form);
+    let points = w.form.points;
+    Deck {
+        points,
+        kinds: in_front(&kinds[..points.npins]),
+        ends,
+    }
+}
+
+// The answer for points that are not those of a valid state; their working form means nothing.
+fn no_form() -> Formed
+    ensures { λ r. ⌜ r .ok ≡ Bool.false ⌝ }
+{
+    Formed {
+        ok: false,
+        form: working::arrange(Points::empty()),
+    }
+}
+
+// Returns whether the points are those of a valid state, and then their working form.
+pub fn form_of(q: Points) -> Formed
+    ensures { λ r. ⌜ Forms (validPoints q) q r ⌝ }
+{
+    if !points::check::is_arranged(q) {
+        return no_form();
+    }
+    let w = working::arrange(q);
+    if working::prune::lowest_weak(w) < w.points.nsteiner {
+        return no_form();
+    }
+    Formed { ok: true, form: w }
 }
 
 // The answer for a deck that is not sound; its working form means nothing.
@@ -40,37 +97,29 @@ fn unsound() -> Checked
 {
     Checked {
         ok: false,
-        working: working::arrange(Points::empty()),
+        working: working::deck::empty(),
     }
 }
 
-// Returns whether the points are those of a valid state, and then their working form.
-pub fn working_of(q: Points) -> Checked
-    ensures { λ r. ⌜ Checks (validPoints q) q r ⌝ }
+// Check 11: returns whether the deck is that of valid contents, places that are not used included, and then its working form.
+pub fn check(d: Deck) -> Checked
+    ensures { λ r. ⌜ Checks (sound d) d r ⌝ }
 {
-    if !points::check::is_arranged(q) {
+    let f = form_of(d.points);
+    if !f.ok {
         return unsound();
     }
-    let w = working::arrange(q);
-    if working::prune::lowest_weak(w) < w.points.nsteiner {
+    if !has_kinds(d, d.points.npins) {
+        return unsound();
+    }
+    let form = f.form;
+    let kinds = d.kinds;
+    let w = WorkingDeck { form, kinds };
+    if !same_rest(d, deck_of(w)) {
         return unsound();
     }
     Checked {
         ok: true,
         working: w,
     }
-}
-
-// Check 11: returns whether the deck is that of valid contents, places that are not used included, and then its working form.
-pub fn check(d: Deck) -> Checked
-    ensures { λ r. ⌜ Checks (sound d) (d .points) r ⌝ }
-{
-    let c = working_of(d.points);
-    if !c.ok {
-        return c;
-    }
-    if !has_ends(d, deck_of(c.working)) {
-        return unsound();
-    }
-    c
 }

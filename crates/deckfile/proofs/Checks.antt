@@ -12,11 +12,11 @@ use Rattle.arrays.proofs.Test.{and-parts, of-true}
 use Rattle.model.specs.Refusal.{check, firstFailed}
 use Rattle.model.specs.State.{maxPins, placed}
 use Rattle.model.specs.Sections.{size, laidOut}
-use Rattle.model.specs.File.{shortest, Read, deck, refusal, readBy, readFile, headed, whole, fileState, fileContents, holdsDeck}
+use Rattle.model.specs.File.{shortest, Read, deck, refusal, readBy, readFile, headed, whole, fileState, fileContents, holdsDeck, showsKinds}
 use Rattle.model.proofs.Sections.{laid-out-is}
 use Rattle.model.proofs.FileValid.{headed-is}
 use Rattle.sections.specs.Layout.{Sections}
-use Rattle.deckfile.specs.ReadWorking.{lastAnswer}
+use Rattle.deckfile.specs.ReadWorking.{kindsAnswer, lastAnswer}
 use Rattle.sections.proofs.codes.Placed.{pins-count}
 
 -- What a test answered, by its definition.
@@ -39,16 +39,17 @@ module _ (b : List ℕ) where
       record {
         long = head .long;
         short = head .short;
-        count = head .count;
+        fewest = head .fewest;
+        most = head .most;
         follow = laid-out-is b .0 (of-true l) .1;
         whole₀ = eqb→eq (size b 0 % 4) 0 (w₁ .0);
         whole₁ = eqb→eq (size b 1 % 4) 0 (w₂ .0);
         whole₂ = eqb→eq (size b 2 % 2) 0 (w₂ .1);
       }
 
-  -- The six checks, as tests in turn.
-  answer : Bool → Bool → Bool → Bool → Bool → Bool → Read
-  answer head layout wholes few points shows =
+  -- The seven checks, as tests in turn.
+  answer : Bool → Bool → Bool → Bool → Bool → Bool → Bool → Read
+  answer head layout wholes few points shows kinds =
       readBy (fileContents b)
       (firstFailed
       (check 1 (λ _. head)
@@ -57,13 +58,14 @@ module _ (b : List ℕ) where
       ∷ check 4 (λ _. few)
       ∷ check 5 (λ _. points)
       ∷ check 6 (λ _. shows)
+      ∷ check 15 (λ _. kinds)
       ∷ []))
 
   by-checks : {x₁ x₂ x₃ x₄ x₅ : Bool} → headed b ≡ x₁ → laidOut b ≡ x₂ → whole b ≡ x₃
       → leb (length (fileState b .pins)) maxPins ≡ x₄ → placed (fileState b) ≡ x₅
-      → answer x₁ x₂ x₃ x₄ x₅ (holdsDeck b (fileState b)) ≡ readFile b
+      → answer x₁ x₂ x₃ x₄ x₅ (holdsDeck b (fileState b)) (showsKinds b) ≡ readFile b
   unfolding answer readFile
-  by-checks e₁ e₂ e₃ e₄ e₅ = sym (λ i. answer (e₁ i) (e₂ i) (e₃ i) (e₄ i) (e₅ i) (holdsDeck b (fileState b)))
+  by-checks e₁ e₂ e₃ e₄ e₅ = sym (λ i. answer (e₁ i) (e₂ i) (e₃ i) (e₄ i) (e₅ i) (holdsDeck b (fileState b)) (showsKinds b))
 
   pub refused-1 : headed b ≡ false → refusal 1 ≡ readFile b
   unfolding answer readBy firstFailed
@@ -97,9 +99,10 @@ module _ (b : List ℕ) where
       refused-5 f = by-checks h l w few f
 
       pub all-passed : placed (fileState b) ≡ true → lastAnswer b ≡ readFile b
-      unfolding answer readBy firstFailed lastAnswer
-      all-passed f = last (holdsDeck b (fileState b)) ∙ by-checks h l w few f
+      unfolding answer readBy firstFailed kindsAnswer lastAnswer
+      all-passed f = last (holdsDeck b (fileState b)) (showsKinds b) ∙ by-checks h l w few f
         where
-          last : (t : Bool) → if t (λ _. deck (fileContents b)) (λ _. refusal 6) ≡ answer true true true true true t
-          last true = refl
-          last false = refl
+          last : (t u : Bool) → if t (λ _. if u (λ _. deck (fileContents b)) (λ _. refusal 15)) (λ _. refusal 6) ≡ answer true true true true true t u
+          last true true = refl
+          last true false = refl
+          last false u = refl

@@ -20,6 +20,7 @@ use Rattle.model.proofs.FileSize.{file-size, runs-length}
 use Rattle.model.proofs.Sections.{file-laid}
 use Rattle.model.proofs.FileValid.{file-valid}
 use Rattle.model.proofs.FileRoundTrip.{written-read, full-written-back}
+use Rattle.model.proofs.FileKinds.{sections-few, three-or-four, four-exactly}
 use Rattle.model.proofs.Session.{empty-contents}
 use Rattle.deck.specs.declared.Deck.{Deck}
 use Rattle.deck.specs.declared.Outcome.{Outcome}
@@ -29,7 +30,7 @@ use Rattle.deck.proofs.Form.{contents-deck, deck-sound, sound-is, sound-arrange
 use Rattle.deckfile.specs.declared.Written.the-variants.{Refused, Length}
 use Rattle.deckfile.specs.Reading.{readOutcome, reading, acceptedDeck}
 use Rattle.deckfile.specs.Writing.{written, bufferAfter}
-use Rattle.deckfile.specs.RoundTrip.{ReadSound, SoundFits, WrittenRead, FullWrittenBack, PlainWrittenFull}
+use Rattle.deckfile.specs.RoundTrip.{ReadSound, SoundFits, WrittenRead, FullWrittenBack, PlainWrittenFull, SectionsWritten, WrittenSections}
 use Rattle.deckfile.proofs.Runs.{edge-count}
 use Rattle.deckfile.proofs.Stored.{write-fits}
 
@@ -62,7 +63,7 @@ from-sound : (b : List ℕ) (d : Deck) → ReadFrom b d → Sound d
 from-sound b d h = subst⁻¹ Sound (h .is) (deck-sound (h .contents) (file-valid b (h .contents) (h .read)))
 
 from-contents : (b : List ℕ) (d : Deck) (h : ReadFrom b d) → contentsOf d ≡ h .contents
-from-contents b d h = ap contentsOf (h .is) ∙ contents-deck (h .contents) (file-valid b (h .contents) (h .read) .state .placed)
+from-contents b d h = ap contentsOf (h .is) ∙ contents-deck (h .contents) (file-valid b (h .contents) (h .read))
 
 from-few : (b : List ℕ) (d : Deck) (h : ReadFrom b d) → d .points .npins ≤ 1 → length (h .contents .state .pins) ≤ 1
 from-few b d h m =
@@ -121,7 +122,7 @@ not-plain : (c : Contents) → ValidContents c → 2 ≤ length (c .state .pins)
 unfolding fileOf
 not-plain c v h =
     let s = c .state in
-    let laid = file-laid (sectionsOf c) (omega arith) (omega (arith, file-size c v .1)) .parts in
+    let laid = file-laid (sectionsOf c) (omega (arith, sections-few c .1)) (omega (arith, file-size c v .1)) .parts in
     not-T (plain (fileOf c))
     (λ t. let e : size (fileOf c) 2 ≡ 0 = eqb→eq _ 0 (and-parts (eqb (size (fileOf c) 1) 0) (eqb (size (fileOf c) 2) 0) t .1) in
     omega (arith, laid .3 .3 .1, runs-length (points s) (listed s), edge-count s (v .state)))
@@ -131,3 +132,9 @@ plain-full b d l n e h w =
     let f = wrote d l n w in
     let two = subst⁻¹ (λ (k : ℕ). 2 ≤ k) (pins-count (d .points) (sound-arranged d (f .sound))) h in
     subst⁻¹ (λ (x : List ℕ). T (not (plain x))) (wrote-file d l n f) (not-plain (contentsOf d) (f .sound .valid) two)
+
+pub written-sections : WrittenSections
+written-sections d l n e =
+    let w = wrote d l n e in
+    subst⁻¹ (SectionsWritten d) (wrote-file d l n w)
+    (record { four = four-exactly (contentsOf d) (w .sound .valid); otherwise = three-or-four (contentsOf d) (w .sound .valid) })

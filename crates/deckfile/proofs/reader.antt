@@ -1,2 +1,3 @@
--- Check 6.
+-- Checks 6 and 15.
+pub mod KindsCheck
 pub mod LastCheck

@@ -19,13 +19,14 @@ use sections::header::is_headed;
 use sections::header::is_laid_out;
 use sections::header::is_whole;
 use sections::header::size;
-use working::Working;
+use working::deck::WorkingDeck;
 use writer::file_length;
 use writer::put_file;
 ghost use mathlib.Core.Path.{_≡_};
 ghost use Rattle.model.specs.Contents.{ValidContents};
 ghost use Rattle.model.specs.File.{readFile};
-ghost use Rattle.working.specs.InOrder.{InOrder, contentsOf};
+ghost use Rattle.working.specs.InOrder.{InOrder};
+ghost use Rattle.working.specs.WorkingDeck.{contentsOf};
 ghost use Rattle.deckfile.specs.Reading.{reading};
 ghost use Rattle.deckfile.specs.ReadWorking.{ReadTo};
 ghost use Rattle.deckfile.specs.Writing.{storedAnswer, storedBuffer, written, bufferAfter};
@@ -39,7 +40,7 @@ pub enum Written {
     Length(usize),
 }
 
-// Reads a file. Returns its working form and the reply: done, or a refusal, in the order 1 to 6, with the working form of an empty deck.
+// Reads a file. Returns its deck in working form and the reply: done, or a refusal, in the order 1 to 6 and 15, with an empty deck.
 pub fn read_working(file: &[u8]) -> Changed
     ensures { λ r. ⌜ ReadTo (readFile (now (file .entry))) r ⌝ }
 {
@@ -62,17 +63,17 @@ pub fn read_working(file: &[u8]) -> Changed
     working_of_file(file, found)
 }
 
-// Reads a file. Returns its deck and the reply: done, or a refusal, in the order 1 to 6, with an empty deck.
+// Reads a file. Returns its deck and the reply: done, or a refusal, in the order 1 to 6 and 15, with an empty deck.
 pub fn read(file: &[u8]) -> Outcome
     ensures { λ r. ⌜ r ≡ reading (now (file .entry)) ⌝ }
 {
     outcome_of(read_working(file))
 }
 
-// Writes the file of a working form to the front of a buffer. Returns its length, or refusal 12 where there is no room; a refusal keeps
-// every byte.
-pub fn write_working(w: Working, out: &mut [u8]) -> Written
-    requires { ⌜ InOrder w ⌝ }
+// Writes the file of a deck in working form to the front of a buffer. Returns its length, or refusal 12 where there is no room; a refusal
+// keeps every byte.
+pub fn write_working(w: WorkingDeck, out: &mut [u8]) -> Written
+    requires { ⌜ InOrder (w .form) ⌝ }
     requires { ⌜ ValidContents (contentsOf w) ⌝ }
     ensures { λ r. ⌜ r ≡ storedAnswer (contentsOf w) (now (out .entry)) ⌝ }
     ensures { λ _. ⌜ now (out .exit) ≡ storedBuffer (contentsOf w) (now (out .entry)) ⌝ }

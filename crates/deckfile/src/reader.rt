@@ -1,52 +1,62 @@
-// The working form that a file shows: check 6.
+// The deck in working form that a file shows: checks 6 and 15.
 use arrays::paste::put_numbers;
 use calls::Changed;
 use calls::Reply;
-use deck::check::Checked;
-use deck::check::working_of;
+use deck::check::Formed;
+use deck::check::form_of;
+use points::MAX_PINS;
 use points::MAX_STEINER;
 use points::PLACES;
 use points::Points;
+use points::kinds::LARGEST_KIND;
+use points::kinds::SENSOR;
+use points::kinds::all_within;
+use points::kinds::in_front;
 use sections::codes::FilePoints;
 use sections::edges::same_edges;
 use sections::header::EDGE_SIZE;
 use sections::header::EDGES;
+use sections::header::KINDS;
 use sections::header::PINS;
 use sections::header::POINT_SIZE;
 use sections::header::STEINER;
+use sections::header::has_kinds;
 use sections::header::is_plain;
 use sections::header::offset;
 use sections::header::size;
 use working::Working;
+use working::deck::WorkingDeck;
 use working::edges::edge_numbers;
 ghost use mathlib.Core.Path.{_≡_};
 ghost use Prim.Native.Nat.{_*_, _≤_};
 ghost use lib.Dec.{T};
+ghost use lib.ListN.{length};
 ghost use Rattle.arrays.specs.Same.{sameList};
-ghost use Rattle.model.specs.State.{Valid, placed};
+ghost use Rattle.model.specs.State.{Valid, placed, maxPins};
 ghost use Rattle.model.specs.Sections as model;
-ghost use Rattle.model.specs.File.{deck, refusal, fileState, runSection};
-ghost use Rattle.points.specs.Coded.{maxSteiner};
-ghost use Rattle.working.specs.InOrder.{InOrder, stateOf, contentsOf};
+ghost use Rattle.model.specs.File.{deck, refusal, mostSections, kindsPlace, fileState, runSection, allKinds};
+ghost use Rattle.points.specs.Coded.{maxSteiner, padded};
+ghost use Rattle.working.specs.InOrder.{InOrder, stateOf};
+ghost use Rattle.working.specs.WorkingDeck.{contentsOf};
 ghost use Rattle.sections.specs.Layout.{Sections, FewPins};
 ghost use Rattle.sections.specs.Codes.{Decodes};
-ghost use Rattle.deckfile.specs.ReadWorking.{ReadTo, WorkingFor, lastAnswer};
+ghost use Rattle.deckfile.specs.ReadWorking.{ReadTo, WorkingFor, kindsAnswer, lastAnswer};
 
 // The bytes that the most Steiner points of a deck take.
 const STEINER_ROOM: usize = MAX_STEINER * POINT_SIZE;
 
-// Returns a refusal: the working form of an empty deck, and the number.
+// Returns a refusal: an empty deck, and the number.
 pub fn refuse(number: u8) -> Changed
     ensures { λ r. ⌜ ReadTo (refusal number) r ⌝ }
 {
     Changed {
-        working: working::arrange(Points::empty()),
+        working: working::deck::empty(),
         reply: Reply::Refused(number),
     }
 }
 
-fn accept(w: Working) -> Changed
-    requires { ⌜ InOrder w ⌝ }
+fn accept(w: WorkingDeck) -> Changed
+    requires { ⌜ InOrder (w .form) ⌝ }
     ensures { λ r. ⌜ ReadTo (deck (contentsOf w)) r ⌝ }
 {
     Changed {
@@ -56,7 +66,7 @@ fn accept(w: Working) -> Changed
 }
 
 // The working form of a file's points, if they are those of a valid state. A valid state has at most MAX_STEINER Steiner points.
-fn points_working(b: &[u8], found: FilePoints) -> Checked
+fn points_working(b: &[u8], found: FilePoints) -> Formed
     requires { ⌜ Sections (now b) ⌝ }
     requires { ⌜ Decodes (now b) found ⌝ }
     requires { ⌜ T (placed (fileState (now b))) ⌝ }
@@ -69,7 +79,7 @@ fn points_working(b: &[u8], found: FilePoints) -> Checked
     let all = found.steiner;
     let mut steiner = [0u64; PLACES];
     put_numbers(&mut steiner, 0, &all[..m]);
-    working_of(Points {
+    form_of(Points {
         pins,
         npins: n,
         steiner,
@@ -91,8 +101,57 @@ fn has_edges(b: &[u8], w: Working) -> bool
     same_edges(b, offset(b, EDGES), &ends, w.nkeys)
 }
 
-// Check 6: a file that is not plain has the edges of its deck, and every file shows the points of a valid state. Returns the working form
-// of the file and done, or refusal 6.
+// Check 15 on a section of kinds, for n pins: whether it has one for each, all of them kinds and not sensors alone.
+fn has_all_kinds(b: &[u8], n: usize) -> bool
+    requires { ⌜ Sections (now b) ⌝ }
+    requires { ⌜ model.sectionCount (now b) ≡ mostSections ⌝ }
+    ensures { λ r. ⌜ r ≡ allKinds (model.section (now (b .entry)) kindsPlace) n ⌝ }
+{
+    if size(b, KINDS) != n {
+        return false;
+    }
+    let at = offset(b, KINDS);
+    let kinds = &b[at..at + n];
+    if !all_within(kinds, LARGEST_KIND) {
+        return false;
+    }
+    !all_within(kinds, SENSOR)
+}
+
+// The section of kinds, for n pins, at the front of an array.
+fn kinds_of(b: &[u8], n: usize) -> [u8; MAX_PINS]
+    requires { ⌜ Sections (now b) ⌝ }
+    requires { ⌜ model.sectionCount (now b) ≡ mostSections ⌝ }
+    requires { ⌜ (n ≡ length (model.section (now b) kindsPlace)) × (n ≤ maxPins) ⌝ }
+    ensures { λ r. ⌜ r ≡ padded maxPins (model.section (now (b .entry)) kindsPlace) ⌝ }
+{
+    let at = offset(b, KINDS);
+    in_front(&b[at..at + n])
+}
+
+// Check 15: returns the deck of the file, whose working form is given, and done, or refusal 15.
+fn with_kinds(b: &[u8], w: Working) -> Changed
+    requires { ⌜ Sections (now b) ⌝ }
+    requires { ⌜ InOrder w ⌝ }
+    requires { ⌜ stateOf w ≡ fileState (now b) ⌝ }
+    ensures { λ r. ⌜ ReadTo (kindsAnswer (now (b .entry))) r ⌝ }
+{
+    if !has_kinds(b) {
+        return accept(WorkingDeck {
+            form: w,
+            kinds: [SENSOR; MAX_PINS],
+        });
+    }
+    let n = w.points.npins;
+    if !has_all_kinds(b, n) {
+        return refuse(15);
+    }
+    let kinds = kinds_of(b, n);
+    accept(WorkingDeck { form: w, kinds })
+}
+
+// Checks 6 and 15: a file that is not plain has the edges of its deck, and every file shows the points of a valid state; then the kinds.
+// Returns the deck of the file and done, or the refusal.
 pub fn working_of_file(b: &[u8], found: FilePoints) -> Changed
     requires { ⌜ Sections (now b) ⌝ }
     requires { ⌜ FewPins (now b) ⌝ }
@@ -108,10 +167,10 @@ pub fn working_of_file(b: &[u8], found: FilePoints) -> Changed
         return refuse(6);
     }
     if is_plain(b) {
-        return accept(c.working);
+        return with_kinds(b, c.form);
     }
-    if !has_edges(b, c.working) {
+    if !has_edges(b, c.form) {
         return refuse(6);
     }
-    accept(c.working)
+    with_kinds(b, c.form)
 }

@@ -76,7 +76,7 @@ directionText (direction.Glyph n) = glyphText (glyphOf n)
 
 -- The call and the question of a line.
 unfoldable pub callFor : Change → call.Call
-callFor (change.Add x y) = call.add (point x y)
+callFor (change.Add x y kind) = call.add (point x y) kind
 callFor (change.Withdraw x y) = call.withdraw (point x y)
 callFor change.Round = call.oneRound
 callFor change.Finish = call.runToEnd

@@ -208,7 +208,7 @@ fn call(d: Deck, c: Change, out: &mut [u8]) -> Played
     ensures { λ r. ⌜ Plays (changes (called d (callFor c))) (now (out .entry)) (now (out .exit)) r ⌝ }
 {
     match c {
-        Change::Add(x, y) => changed(d.add(x, y), out),
+        Change::Add(x, y, kind) => changed(d.add(x, y, kind), out),
         Change::Withdraw(x, y) => changed(d.withdraw(x, y), out),
         Change::Round => changed(d.round(), out),
         Change::Finish => changed(d.run_to_end(), out),

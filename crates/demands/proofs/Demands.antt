@@ -1,6 +1,6 @@
 -- The three demands, proved from the definitions that the contracts name.
 use mathlib.Core.Path.{_≡_, refl, sym, ap, _∙_}
-use mathlib.Core.Logic.{inl, inr}
+use mathlib.Core.Logic.{_↔_, inl, inr}
 use mathlib.Core.Bool.{false}
 use mathlib.Core.Option.{Option, none, some}
 use mathlib.Core.List.{List, []}
@@ -11,7 +11,9 @@ use Rattle.model.specs.Contents.{Contents}
 use Rattle.model.specs.Round.{RoundAnswer, finished, tap, round}
 use Rattle.model.specs.Call as call
 use Rattle.model.specs.Session as model
-use Rattle.model.specs.File.{Read, deck, refusal as refusing-file, readFile}
+use Rattle.model.specs.Refusal.{FirstFailed}
+use Rattle.model.specs.File.{Read, deck, refusal as refusing-file, fileChecks, readFile}
+use Rattle.model.proofs.Refusal.{file-refused}
 use Rattle.model.proofs.FileAnswer.{Possible, taken, refused, read-possible}
 use Rattle.arrow.proofs.Claim.{arrow-refused, arrow-answered, arrows}
 use Rattle.deck.specs.declared.Deck.{Deck}
@@ -27,7 +29,7 @@ use Rattle.questions.proofs.Answers.{counts-are, beyond-last, none-held}
 use Rattle.deck.proofs.Session.{deck-sessions}
 use Rattle.deckfile.specs.Reading.{readOutcome, reading}
 use Rattle.deckfile.proofs.Stored.{write-unsound, write-short, write-fits}
-use Rattle.deckfile.proofs.RoundTrip.{written-then-read, full-back, plain-full}
+use Rattle.deckfile.proofs.RoundTrip.{sound-fits, written-then-read, full-back, plain-full, written-sections}
 use Rattle.deckfile.proofs.answer.Entry.{entered}
 use Rattle.planner.specs.Entry.{toEnd}
 use Rattle.display.proofs.Entry.{numbered}
@@ -42,6 +44,7 @@ use Rattle.model.specs.Listing.{listingOfFile}
 use Rattle.listing.specs.Whole.{listingRoom}
 use Rattle.listing.proofs.Text.{text-refused, text-deck}
 use Rattle.demands.proofs.Sessions.{after-calls, bounds}
+use Rattle.demands.proofs.KindsFollow.{deck-kinds}
 use Rattle.demands.proofs.Method.{passes, calls-model, next-is, reply-is, next-sound, answered, runs-are-tree, round-of, sweeps-of, end-of}
 use Rattle.demands.specs.Demands.{InCase, FileAnswer, Demand1, Demand2, StartDeck, fresh, file, Demand3}
 
@@ -62,7 +65,7 @@ never-refused (tap p fall) n e = let z : _≡_ {A = ℕ} 0 1 = cc in omega arith
 
 refused-case : (c : Contents) (k : call.Call) (n : ℕ) → replyOf (call.step c k .reply) ≡ reply.Refused n → (call.step c k .next ≡ c) × InCase c k n
 unfolding call.step replyOf
-refused-case c (call.add p) n e = refused-unless (call.insertRefusal p (c .state)) c _ n e
+refused-case c (call.add p k) n e = refused-unless (call.insertRefusal p k (c .state)) c _ n e
 refused-case c (call.withdraw p) n e = refused-unless (call.removeRefusal p (c .state)) c _ n e
 refused-case c call.oneRound n e = absurd (never-refused (round (c .state) .answer) n e)
 refused-case c call.runToEnd n e = let z : _≡_ {A = ℕ} 0 1 = cc in absurd (omega arith)
@@ -78,12 +81,25 @@ file-answer b = go (readFile b) (read-possible b)
   where
     go : (r : Read) → Possible r → FileAnswer (readOutcome r)
     go (deck c) (taken v) = inl (c, v, refl)
-    go (refusing-file n) (refused h k) = inr (n, h, k, refl)
+    go (refusing-file n) (refused h) = inr (n, h, refl)
+
+-- Reading replies with a number exactly if the file is refused by it.
+read-refused : (r : Read) (n : ℕ) → (readOutcome r .reply ≡ reply.Refused n) ↔ (r ≡ refusing-file n)
+unfolding readOutcome
+read-refused (deck c) n = (λ e. let z : _≡_ {A = ℕ} 0 1 = cc in absurd (omega arith), λ e. let z : _≡_ {A = ℕ} 0 1 = cc in absurd (omega arith))
+read-refused (refusing-file k) n = (λ e. let q : k ≡ n = cc in ap refusing-file q, λ e. let q : k ≡ n = cc in ap reply.Refused q)
+
+refused-exactly : (b : List ℕ) (n : ℕ) → (reading b .reply ≡ reply.Refused n) ↔ FirstFailed n (fileChecks b)
+refused-exactly b n =
+    let r = read-refused (readFile b) n in
+    let f = file-refused b n in
+    (λ e. f .0 (r .0 e), λ h. r .1 (f .1 h))
 
 pub demand1 : Demand1
 demand1 =
     record {
       file = file-answer;
+      fileRefused = refused-exactly;
       unsoundCall = λ d c n. sym (called-unsound d c (unsound d n));
       unsoundQuestion = λ d q n. sym (asked-unsound d q (unsound d n));
       unsoundWriting = λ d l n. let w = write-unsound d l (unsound d n) in (sym (w .0), sym (w .1));
@@ -110,6 +126,9 @@ demand2 =
       writtenRead = written-then-read;
       fullWrittenBack = full-back;
       plainWrittenFull = plain-full;
+      writtenSections = written-sections;
+      writtenSizes = sound-fits;
+      kinds = deck-kinds;
       planned = λ b l. entered (readFile b) (read-possible b) toEnd l;
       listed = λ b. record {
         turnedDown = λ n e. sym (text-refused b n e);

@@ -70,7 +70,7 @@ module _ (d : Deck) (s : Sound d) where
   answered q = sym (asked-sound d q (passes d s))
 
   pub next-contents : (c : call.Call) → contentsOf (called d c .next) ≡ call.step (contentsOf d) c .next
-  next-contents c = ap contentsOf (next-is c) ∙ contents-deck (call.step (contentsOf d) c .next) (step-valid (contentsOf d) c (s .valid) .state .placed)
+  next-contents c = ap contentsOf (next-is c) ∙ contents-deck (call.step (contentsOf d) c .next) (step-valid (contentsOf d) c (s .valid))
 
   -- The tree.
   pub runs-are-tree : (t : List Edge) × RunsAreTree d t
@@ -198,8 +198,8 @@ sweeps-of d s =
     let st = stateOf d in
     let rise : Sorted Lower (stateOf d .steiner) = s .valid .state .placed .steinerRise in
     record {
-      added = λ p e.
-          let n = next-contents d s (call.add p) ∙ done-unless (call.insertRefusal p st) (contentsOf d) _ (sym (reply-is d s (call.add p)) ∙ e) in
+      added = λ p k e.
+          let n = next-contents d s (call.add p k) ∙ done-unless (call.insertRefusal p k st) (contentsOf d) _ (sym (reply-is d s (call.add p k)) ∙ e) in
           subst⁻¹ (λ (c : Contents). SweptTo (withPin p st) (c .state)) n (prune-swept (withPin p st) (out-sorted lower lower-order p (st .steiner) rise));
       withdrawn = λ p e.
           let n = next-contents d s (call.withdraw p) ∙ done-unless (call.removeRefusal p st) (contentsOf d) _ (sym (reply-is d s (call.withdraw p)) ∙ e) in

@@ -3,17 +3,19 @@ use mathlib.Core.Path.{_≡_, sym, ap, _∙_, subst⁻¹}
 use mathlib.Core.Logic.{_↔_, _⊎_, inl, ⊎-elim}
 use mathlib.Core.List.{List, [], _∷_, map, List·Memᴰ, List·Memᴰ·not-nil as not-nil, Memᴰ·append-left}
 use native.Mathlib.Omega.{arith}
+use Prim.Native.Nat.{ℕ}
 use lib.Dec.{T}
 use Rattle.arrays.proofs.Members.{mem-each}
 use Rattle.plane.specs.Point.{Point, inRange}
 use Rattle.plane.specs.Box.{halfPerimeter}
 use Rattle.plane.proofs.Axis.{connected-perimeter}
 use Rattle.plane.proofs.Box.{box-perimeter, box-around}
+use Rattle.model.specs.DeviceKinds.{isKind}
 use Rattle.model.specs.Contents.{Contents, emptyContents, ValidContents}
 use Rattle.model.specs.Round.{finished, round}
 use Rattle.model.specs.Question.{lengthOfState}
 use Rattle.model.specs.Call as call
-use Rattle.model.proofs.PinsAdded.{added-pins}
+use Rattle.model.proofs.PinsAdded.{Device, adding, added-pins}
 use Rattle.model.proofs.Session.{empty-contents}
 use Rattle.model.proofs.Step.{after-valid}
 use Rattle.model.proofs.ThreePins.{finished-perimeter, perimeter-finished, end-perimeter, round-perimeter}
@@ -27,6 +29,7 @@ use Rattle.deck.specs.Session.{deckAfter}
 use Rattle.deck.proofs.Form.{contents-deck, deck-sound}
 use Rattle.deck.proofs.Session.{after-deck, finish-deck}
 use Rattle.demands.proofs.Method.{answered, next-sound, next-contents}
+use Rattle.demands.specs.ThreePins as three
 use Rattle.demands.specs.ThreePins.{PinsAre, LengthIsHalfPerimeter, ThreePins}
 
 -- What a deck answers for its length, by its points.
@@ -62,9 +65,12 @@ module _ (d : Deck) (s : Sound d) (p q r : Point) (pins : PinsAre d p q r) where
           (finish-deck (contentsOf d) (s .valid))
 
 -- The deck of three points that are added to an empty one: its pins are these points, it is sound, and a run to the end follows.
-module _ (p q r : Point) (hp : T (inRange p)) (hq : T (inRange q)) (hr : T (inRange r)) where
+module _ (p q r : Point) (i j k : ℕ) (hp : T (inRange p) × T (isKind i)) (hq : T (inRange q) × T (isKind j)) (hr : T (inRange r) × T (isKind k)) where
+  abbrev devices : List Device
+  devices = (p, i) ∷ (q, j) ∷ (r, k) ∷ []
+
   adds : List call.Call
-  adds = map call.add (p ∷ q ∷ r ∷ [])
+  adds = map adding devices
 
   adds-valid : ValidContents (call.contentsAfter emptyContents adds)
   adds-valid = after-valid adds emptyContents empty-contents
@@ -76,15 +82,15 @@ module _ (p q r : Point) (hp : T (inRange p)) (hq : T (inRange q)) (hr : T (inRa
   unfolding adds
   added u =
       subst⁻¹ (λ (c : Contents). List·Memᴰ u (c .state .pins) ↔ List·Memᴰ u (p ∷ q ∷ r ∷ []))
-      (ap contentsOf is-deck ∙ contents-deck _ (adds-valid .state .placed))
+      (ap contentsOf is-deck ∙ contents-deck _ adds-valid)
       (λ i. ⊎-elim (λ j. j) (λ j. absurd (not-nil j)) (pins .0 i), λ i. pins .1 (inl i))
     where
       pins : List·Memᴰ u (call.contentsAfter emptyContents adds .state .pins) ↔ (List·Memᴰ u (p ∷ q ∷ r ∷ []) ⊎ List·Memᴰ u [])
       pins =
-          added-pins (p ∷ q ∷ r ∷ []) emptyContents empty-contents
-          (λ w i. mem-each (λ z. T (inRange z)) (p ∷ q ∷ r ∷ []) (hp, (hq, (hr, tt))) i) (omega arith) u
+          added-pins devices emptyContents empty-contents
+          (λ a m. mem-each (λ (z : Device). T (inRange (z .0)) × T (isKind (z .1))) devices (hp, (hq, (hr, tt))) m) (omega arith) u
 
-  reached : LengthIsHalfPerimeter (deckAfter (deckOf emptyContents) (call.add p ∷ call.add q ∷ call.add r ∷ call.runToEnd ∷ [])) p q r
+  reached : LengthIsHalfPerimeter (deckAfter (deckOf emptyContents) (three.adding p q r i j k (call.runToEnd ∷ []))) p q r
   unfolding deckAfter adds
   reached =
       at-end (deckAfter (deckOf emptyContents) adds) (subst⁻¹ Sound is-deck (deck-sound (call.contentsAfter emptyContents adds) adds-valid)) p q r added

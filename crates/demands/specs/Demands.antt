@@ -15,7 +15,7 @@ use Rattle.model.specs.State.{points}
 use Rattle.model.specs.Contents.{Contents, emptyContents, ValidContents}
 use Rattle.model.specs.Call as call
 use Rattle.model.specs.Listing.{listing, refusedLine, listingOfFile}
-use Rattle.model.specs.File.{deck, refusal, readFile, fileOf}
+use Rattle.model.specs.File.{deck, refusal, FileNumber, fileChecks, readFile, fileOf}
 use Rattle.model.specs.Refusal.{FirstFailed}
 use Rattle.arrow.specs.declared.Indication.the-variants as indication
 use Rattle.arrow.specs.Arrow.{arrowChecks, arrow}
@@ -32,26 +32,27 @@ use Rattle.deck.specs.Session.{deckAfter, replies, reckoned}
 use Rattle.deckfile.specs.declared.Written.the-variants as writing
 use Rattle.deckfile.specs.Reading.{reading, acceptedDeck, refusedFile}
 use Rattle.deckfile.specs.Writing.{written, bufferAfter}
-use Rattle.deckfile.specs.RoundTrip.{WrittenRead, FullWrittenBack, PlainWrittenFull}
+use Rattle.deckfile.specs.RoundTrip.{WrittenRead, FullWrittenBack, PlainWrittenFull, WrittenSections, SoundFits}
 use Rattle.deckfile.specs.Answer.{Entered}
 use Rattle.demands.specs.Sessions.{AfterCalls, Bounds}
 use Rattle.demands.specs.Method.{RunsAreTree, RoundOf, SweepsOf, EndOf}
+use Rattle.demands.specs.KindsFollow.{DeckKinds}
 use Rattle.ascii.specs.Text.{fitting}
 use Rattle.listing.specs.Whole.{listingRoom}
 use Rattle.planner.specs.Entry.{toEnd}
 use Rattle.display.specs.Entry.{Numbered}
 use Rattle.replay.specs.Claim.{Replayed}
 
--- The calls that a number can refuse (SPEC 8.3): 7, 8 and 10 adding, 9 withdrawing, none a round or a run to the end.
+-- The calls that a number can refuse (SPEC 8.3): 7, 15, 8 and 10 adding, 9 withdrawing, none a round or a run to the end.
 abbrev pub InCase : Contents → call.Call → ℕ → Type 0
-InCase c (call.add p) n = call.insertRefusal p (c .state) ≡ some n
+InCase c (call.add p k) n = call.insertRefusal p k (c .state) ≡ some n
 InCase c (call.withdraw p) n = call.removeRefusal p (c .state) ≡ some n
 InCase c call.oneRound n = ⊥
 InCase c call.runToEnd n = ⊥
 
--- What reading a file can answer (SPEC 8.1, 8.2): the deck of valid contents, or a number from 1 to 6 and an empty deck.
+-- What reading a file can answer (SPEC 8.1, 8.2): the deck of valid contents, or a number from 1 to 6, or 15, and an empty deck.
 abbrev pub FileAnswer : Outcome → Type 0
-FileAnswer o = ((c : Contents) × ValidContents c × (o ≡ acceptedDeck (deckOf c))) ⊎ ((n : ℕ) × (1 ≤ n) × (n ≤ 6) × (o ≡ refusedFile n))
+FileAnswer o = ((c : Contents) × ValidContents c × (o ≡ acceptedDeck (deckOf c))) ⊎ ((n : ℕ) × FileNumber n × (o ≡ refusedFile n))
 
 -- What is shown for a bay (SPEC 3.4, 8.5): an arrow from 0 to 8, or 13 or 14, and each of these exactly if its test is the first that fails.
 pub record ArrowAnswer (display bay : Point) (pitch : ℤ) : Type 0 where
@@ -62,8 +63,9 @@ pub record ArrowAnswer (display bay : Point) (pitch : ℤ) : Type 0 where
 -- Demand 1: every file and every call is taken, or refused by a number of SPEC 8, and then the deck and the buffer are as SPEC 8.1 and 8.4
 -- say.
 pub record Demand1 : Type 0 where
-  -- any bytes
+  -- any bytes, and each number exactly if its test is the first that fails
   pub file : (b : List ℕ) → FileAnswer (reading b)
+  pub fileRefused : (b : List ℕ) (n : ℕ) → (reading b .reply ≡ reply.Refused n) ↔ FirstFailed n (fileChecks b)
   -- any deck that is not sound: 11 before all else, and the deck or the buffer as it was
   pub unsoundCall : (d : Deck) (c : call.Call) → ¬ Sound d → called d c ≡ refusedOutcome d 11
   pub unsoundQuestion : (d : Deck) (q : Question) → ¬ Sound d → asked d q ≡ question.Refused 11
@@ -104,6 +106,11 @@ pub record Demand2 : Type 0 where
   pub writtenRead : WrittenRead
   pub fullWrittenBack : FullWrittenBack
   pub plainWrittenFull : PlainWrittenFull
+  -- a file has four sections exactly if some pin is no sensor, and from 30 to 856 bytes (SPEC 7.5, 7.8)
+  pub writtenSections : WrittenSections
+  pub writtenSizes : SoundFits
+  -- the kinds follow their pins (KindsFollow.antt)
+  pub kinds : (d : Deck) → Sound d → DeckKinds d
   -- the C entry (SPEC 10.1), for every file and every buffer of any size
   pub planned : (b l : List ℕ) → Entered (readFile b) toEnd l
   -- the listing program, for every list of bytes

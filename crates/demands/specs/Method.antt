@@ -47,7 +47,7 @@ pub record RoundOf (d : Deck) : Type 0 where
 
 -- A pin that joins or leaves (SPEC 4.2, 4.3), and the sweep that follows (SPEC 4.1).
 pub record SweepsOf (d : Deck) : Type 0 where
-  pub added : (p : Point) → called d (call.add p) .reply ≡ reply.Done → SweptTo (withPin p (stateOf d)) (stateOf (called d (call.add p) .next))
+  pub added : (p : Point) (k : ℕ) → called d (call.add p k) .reply ≡ reply.Done → SweptTo (withPin p (stateOf d)) (stateOf (called d (call.add p k) .next))
   pub withdrawn : (p : Point) → called d (call.withdraw p) .reply ≡ reply.Done
       → SweptTo (withoutPin p (stateOf d)) (stateOf (called d (call.withdraw p) .next))
 

@@ -2,13 +2,14 @@
 use mathlib.Core.Path.{_≡_}
 use mathlib.Core.Logic.{_↔_}
 use mathlib.Core.List.{List, [], _∷_, _++_, List·Memᴰ}
-use Prim.Native.Nat.{_≤_}
+use Prim.Native.Nat.{ℕ, _≤_}
 use lib.Dec.{T}
 use Rattle.spanning.specs.Graph.{Tree}
 use Rattle.plane.specs.Point.{Point, inRange, dist}
 use Rattle.plane.specs.Edge.{Edge, planar}
 use Rattle.plane.specs.Box.{halfPerimeter, BoxAround}
 use Rattle.model.specs.Tree.{lengthOf}
+use Rattle.model.specs.DeviceKinds.{isKind}
 use Rattle.model.specs.Contents.{emptyContents}
 use Rattle.model.specs.Call as call
 use Rattle.calls.specs.declared.Reply.the-variants as reply
@@ -28,13 +29,18 @@ PinsAre d p q r = (u : Point) → List·Memᴰ u (stateOf d .pins) ↔ List·Mem
 abbrev pub LengthIsHalfPerimeter : Deck → Point → Point → Point → Type 0
 LengthIsHalfPerimeter d p q r = asked d ofLength ≡ Length (halfPerimeter (p ∷ q ∷ r ∷ []))
 
--- The claims. Three points are asked to be in range only where they are added; none has to be lower than another, nor different.
+-- The calls that add three devices, and then these calls.
+abbrev pub adding : Point → Point → Point → ℕ → ℕ → ℕ → List call.Call → List call.Call
+adding p q r i j k calls = call.add p i ∷ call.add q j ∷ call.add r k ∷ calls
+
+-- The claims. Three points are asked to be in range only where they are added, and their kinds, which do not matter, to be kinds; none has to be
+-- lower than another, nor different.
 pub record ThreePins : Type 0 where
   -- three points that are added to an empty deck are its pins, and after a run to the end it has that length
-  pub added : (p q r : Point) → T (inRange p) → T (inRange q) → T (inRange r)
-      → PinsAre (deckAfter (deckOf emptyContents) (call.add p ∷ call.add q ∷ call.add r ∷ [])) p q r
-  pub reached : (p q r : Point) → T (inRange p) → T (inRange q) → T (inRange r)
-      → LengthIsHalfPerimeter (deckAfter (deckOf emptyContents) (call.add p ∷ call.add q ∷ call.add r ∷ call.runToEnd ∷ [])) p q r
+  pub added : (p q r : Point) (i j k : ℕ) → T (inRange p) × T (isKind i) → T (inRange q) × T (isKind j) → T (inRange r) × T (isKind k)
+      → PinsAre (deckAfter (deckOf emptyContents) (adding p q r i j k [])) p q r
+  pub reached : (p q r : Point) (i j k : ℕ) → T (inRange p) × T (isKind i) → T (inRange q) × T (isKind j) → T (inRange r) × T (isKind k)
+      → LengthIsHalfPerimeter (deckAfter (deckOf emptyContents) (adding p q r i j k (call.runToEnd ∷ []))) p q r
   -- no tree over points and any further points is shorter, be these out of range, repeated, or the same points again
   pub least : (ps further : List Point) (t : List Edge) → Tree planar (ps ++ further) t → halfPerimeter ps ≤ lengthOf t
   -- every sound deck of these pins, whatever taps a file or earlier calls left in it, has that length after a run to the end; a round on it is

@@ -12,8 +12,9 @@ use Rattle.model.specs.Call.{runToEnd, step}
 use Rattle.model.specs.File.{deck, refusal, readFile}
 use Rattle.model.specs.Listing.{listing, tapLines, runLines, refusedLine, listingOfFile}
 use Rattle.points.proofs.Coded.{pins-count, steiner-count}
-use Rattle.working.specs.declared.Working.{Working}
+use Rattle.working.specs.declared.deck.WorkingDeck.{WorkingDeck}
 use Rattle.working.specs.InOrder as work
+use Rattle.working.specs.WorkingDeck as workingDeck
 use Rattle.deck.specs.declared.Deck.{Deck}
 use Rattle.deck.specs.Form.{contentsOf, sound}
 use Rattle.listing.specs.Line.{headText}
@@ -25,13 +26,15 @@ text-sound d e = ap (λ (b : Bool). if b (λ _. listing (contentsOf d)) (λ _. r
 pub text-unsound : (d : Deck) → sound d ≡ false → refusedLine 11 ≡ deckText d
 text-unsound d e = ap (λ (b : Bool). if b (λ _. listing (contentsOf d)) (λ _. refusedLine 11)) (sym e)
 
-pub listing-put : (w : Working) (p : work.InOrder w) (n : ℕ) → n ≡ question.lengthOfState (work.stateOf w) → {old new : List ℕ} {at r : ℕ}
-    → Pasted
+pub listing-put : (d : WorkingDeck) (p : work.InOrder (d .form)) (n : ℕ) → n ≡ question.lengthOfState (work.stateOf (d .form))
+    → {old new : List ℕ} {at r : ℕ}
+    → (let w = d .form in Pasted
     (headText (w .points .npins) (w .points .nsteiner) n ++ (tapLines (work.stateOf w .steiner) ++ runLines (question.listed (work.stateOf w))))
-    old new at r
-    → Pasted (listing (work.contentsOf w)) old new at r
+    old new at r)
+    → Pasted (listing (workingDeck.contentsOf d)) old new at r
 unfolding listing
-listing-put w p n e =
+listing-put d p n e =
+    let w = d .form in
     pasted-same
     (λ i. headText (sym (pins-count (w .points) (p .arranged)) i) (sym (steiner-count (w .points) (p .arranged)) i) (e i)
     ++ (tapLines (work.stateOf w .steiner) ++ runLines (question.listed (work.stateOf w))))

@@ -10,12 +10,15 @@ use rows::head_line;
 use rows::run_lines;
 use rows::tap_lines;
 use working::Working;
+use working::deck::WorkingDeck;
 ghost use Prim.Native.Nat.{_+_, _≤_};
 ghost use lib.ListN.{length};
+ghost use Rattle.model.specs.State.{Valid};
 ghost use Rattle.model.specs.Contents.{ValidContents};
 ghost use Rattle.model.specs.Listing as model;
 ghost use Rattle.arrays.specs.Paste.{Pasted};
-ghost use Rattle.working.specs.InOrder.{InOrder, stateOf, contentsOf};
+ghost use Rattle.working.specs.InOrder.{InOrder, stateOf};
+ghost use Rattle.working.specs.WorkingDeck.{contentsOf};
 ghost use Rattle.ascii.specs.Text.{fitting};
 ghost use Rattle.listing.specs.Whole.{listingRoom, lineRoom, deckText};
 
@@ -39,7 +42,7 @@ fn refused_line(out: &mut [u8], n: u64) -> usize
 fn write_taps(w: Working, out: &mut [u8], at: usize) -> usize
     requires { ⌜ at + 1148 ≤ length (now out) ⌝ }
     requires { ⌜ InOrder w ⌝ }
-    requires { ⌜ ValidContents (contentsOf w) ⌝ }
+    requires { ⌜ Valid (stateOf w) ⌝ }
     ensures { λ r. ⌜ Pasted (model.tapLines (stateOf w .steiner)) (now (out .entry)) (now (out .exit)) at r ⌝ }
     ensures { λ r. ⌜ r ≤ at + 1116 ⌝ }
 {
@@ -47,16 +50,17 @@ fn write_taps(w: Working, out: &mut [u8], at: usize) -> usize
     tap_lines(out, at, &steiner, w.points.nsteiner)
 }
 
-// The listing of a working form at the front of `out`, which has to have room for LISTING_ROOM bytes. Returns its length; 0 where there
-// is no room.
-pub fn list_working(w: Working, out: &mut [u8]) -> usize
-    requires { ⌜ InOrder w ⌝ }
-    requires { ⌜ ValidContents (contentsOf w) ⌝ }
-    ensures { λ r. ⌜ Pasted (fitting listingRoom (now (out .entry)) (model.listing (contentsOf w))) (now (out .entry)) (now (out .exit)) 0 r ⌝ }
+// The listing of a deck in working form at the front of `out`, which has to have room for LISTING_ROOM bytes. Returns its length; 0 where
+// there is no room.
+pub fn list_working(d: WorkingDeck, out: &mut [u8]) -> usize
+    requires { ⌜ InOrder (d .form) ⌝ }
+    requires { ⌜ ValidContents (contentsOf d) ⌝ }
+    ensures { λ r. ⌜ Pasted (fitting listingRoom (now (out .entry)) (model.listing (contentsOf d))) (now (out .entry)) (now (out .exit)) 0 r ⌝ }
 {
     if out.len() < LISTING_ROOM {
         return 0;
     }
+    let w = d.form;
     let n = rounds::length_of(w);
     let a = head_line(out, w.points.npins, w.points.nsteiner, n);
     let b = write_taps(w, out, a);

@@ -15,9 +15,9 @@ ghost use lib.ListN.{length, take};
 ghost use Rattle.plane.specs.Coordinate.{coordinate};
 ghost use Rattle.model.specs.Listing as model;
 ghost use Rattle.plane.specs.Code.{pointOf};
-ghost use Rattle.model.specs.Contents.{ValidContents};
+ghost use Rattle.model.specs.State.{Valid};
 ghost use Rattle.model.specs.Question.{listed};
-ghost use Rattle.working.specs.InOrder.{InOrder, stateOf, contentsOf};
+ghost use Rattle.working.specs.InOrder.{InOrder, stateOf};
 ghost use Rattle.working.specs.Edges.{edgeOf};
 ghost use Rattle.listing.specs.Line.{headText, tapLine, runLine};
 ghost use Rattle.arrays.specs.Paste.{Pasted};
@@ -98,7 +98,7 @@ fn run_line(out: &mut [u8], at: usize, e: CodedEdge) -> usize
 pub fn run_lines(out: &mut [u8], at: usize, w: Working) -> usize
     requires { ⌜ at + 6625 ≤ length (now out) ⌝ }
     requires { ⌜ InOrder w ⌝ }
-    requires { ⌜ ValidContents (contentsOf w) ⌝ }
+    requires { ⌜ Valid (stateOf w) ⌝ }
     ensures { λ r. ⌜ Pasted (model.runLines (listed (stateOf w))) (now (out .entry)) (now (out .exit)) at r ⌝ }
 {
     let ends = edge_numbers(w);

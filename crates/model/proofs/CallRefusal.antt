@@ -5,7 +5,7 @@ use mathlib.Core.Bool.{Bool, true, false, not}
 use mathlib.Core.List.{List·Memᴰ}
 use Prim.Native.Nat.{ℕ, _≤_, _<_}
 use native.Mathlib.Omega.{arith}
-use lib.Dec.{T, not-T, ltb, ltb→lt, lt→ltb, nltb→le}
+use lib.Dec.{T, not-T, leb, leb→le, le→leb, nleb→lt, ltb, ltb→lt, lt→ltb, nltb→le}
 use lib.ListN.{length}
 use Rattle.plane.specs.Point.{Point, inRange, lower}
 use Rattle.plane.proofs.Order.{lower-order}
@@ -17,13 +17,14 @@ use Rattle.model.specs.CallRefusal.{RefusedBy, AddRefusals, WithdrawRefu
 use Rattle.model.proofs.Refusal.{add-refused, add-taken, withdraw-refused, withdraw-taken}
 use Rattle.arrays.proofs.Set.{has-in, has-not}
 
-module _ (c : Contents) (p : Point) where
-  -- The three checks of adding: which of them failed first.
+module _ (c : Contents) (p : Point) (k : ℕ) where
+  -- The four checks of adding: which of them failed first.
   abbrev Failed : ℕ → Type 0
   Failed n =
       ((n ≡ 7) × ¬ T (inRange p))
-      ⊎ (((n ≡ 8) × T (inRange p) × List·Memᴰ p (c .state .pins))
-      ⊎ ((n ≡ 10) × T (inRange p) × (¬ List·Memᴰ p (c .state .pins)) × (64 ≤ length (c .state .pins))))
+      ⊎ (((n ≡ 15) × T (inRange p) × (3 ≤ k))
+      ⊎ (((n ≡ 8) × T (inRange p) × (k ≤ 2) × List·Memᴰ p (c .state .pins))
+      ⊎ ((n ≡ 10) × T (inRange p) × (k ≤ 2) × (¬ List·Memᴰ p (c .state .pins)) × (64 ≤ length (c .state .pins)))))
 
   there : ¬ T (not (has lower p (c .state .pins))) → List·Memᴰ p (c .state .pins)
   there f = has-in lower lower-order p (c .state .pins) .0 (held (has lower p (c .state .pins)) f)
@@ -32,41 +33,63 @@ module _ (c : Contents) (p : Point) where
       held true f = tt
       held false f = f tt
 
+  above : ¬ T (leb k 2) → 3 ≤ k
+  above f = let h : 2 < k = nleb→lt k 2 (not-T (leb k 2) f) in omega arith
+
   full : ¬ T (ltb (length (c .state .pins)) 64) → 64 ≤ length (c .state .pins)
   full f = nltb→le (length (c .state .pins)) 64 (not-T (ltb (length (c .state .pins)) 64) f)
 
-  which : (n : ℕ) → FirstFailed n (addChecks p (c .state)) → Failed n
+  which : (n : ℕ) → FirstFailed n (addChecks p k (c .state)) → Failed n
   which n (here e f) = inl (sym e, f)
-  which n (later t (here e f)) = inr (inl (sym e, t, there f))
-  which n (later t (later u (here e f))) = inr (inr (sym e, t, has-not lower lower-order p (c .state .pins) .0 u, full f))
+  which n (later t (here e f)) = inr (inl (sym e, t, above f))
+  which n (later t (later u (here e f))) = inr (inr (inl (sym e, t, leb→le k 2 u, there f)))
+  which n (later t (later u (later v (here e f)))) =
+      inr (inr (inr (sym e, t, leb→le k 2 u, has-not lower lower-order p (c .state .pins) .0 v, full f)))
 
-  refused-as : (n : ℕ) → RefusedBy c (add p) n → Failed n
-  refused-as n e = which n (add-refused c p n .0 e)
+  refused-as : (n : ℕ) → RefusedBy c (add p k) n → Failed n
+  refused-as n e = which n (add-refused c p k n .0 e)
 
-  pub add-refusals : AddRefusals c p
+  pub add-refusals : AddRefusals c p k
   add-refusals =
       record {
         outOfRange = (
-          λ e. ⊎-elim (λ h. h .1) (⊎-elim (λ h. absurd (omega (arith, h .0))) (λ h. absurd (omega (arith, h .0)))) (refused-as 7 e),
-          λ f. add-refused c p 7 .1 (here refl f),
+          λ e. ⊎-elim (λ h. h .1) (⊎-elim (λ h. absurd (omega (arith, h .0)))
+              (⊎-elim (λ h. absurd (omega (arith, h .0))) (λ h. absurd (omega (arith, h .0))))) (refused-as 7 e),
+          λ f. add-refused c p k 7 .1 (here refl f),
+        );
+        noKind = (
+          λ e. ⊎-elim (λ h. absurd (omega (arith, h .0))) (⊎-elim (λ h. (h .1, h .2))
+              (⊎-elim (λ h. absurd (omega (arith, h .0))) (λ h. absurd (omega (arith, h .0))))) (refused-as 15 e),
+          λ h. add-refused c p k 15 .1 (later (h .0) (here refl (λ t. let m : k ≤ 2 = leb→le k 2 t in omega (arith, m, h .1)))),
         );
         pinThere = (
-          λ e. ⊎-elim (λ h. absurd (omega (arith, h .0))) (⊎-elim (λ h. (h .1, h .2)) (λ h. absurd (omega (arith, h .0)))) (refused-as 8 e),
-          λ h. add-refused c p 8 .1 (later (h .0) (here refl (λ t. has-not lower lower-order p (c .state .pins) .0 t (h .1)))),
+          λ e. ⊎-elim (λ h. absurd (omega (arith, h .0))) (⊎-elim (λ h. absurd (omega (arith, h .0)))
+              (⊎-elim (λ h. (h .1, h .2, h .3)) (λ h. absurd (omega (arith, h .0))))) (refused-as 8 e),
+          λ h. add-refused c p k 8 .1
+              (later (h .0) (later (le→leb k 2 (h .1)) (here refl (λ t. has-not lower lower-order p (c .state .pins) .0 t (h .2))))),
         );
         noRoom = (
-          λ e. ⊎-elim (λ h. absurd (omega (arith, h .0))) (⊎-elim (λ h. absurd (omega (arith, h .0))) (λ h. (h .1, h .2, h .3))) (refused-as 10 e),
-          λ h. add-refused c p 10 .1 (later (h .0) (later (has-not lower lower-order p (c .state .pins) .1 (h .1))
-              (here refl (λ t. let k : length (c .state .pins) < 64 = ltb→lt (length (c .state .pins)) 64 t in omega (arith, k, h .2))))),
+          λ e. ⊎-elim (λ h. absurd (omega (arith, h .0))) (⊎-elim (λ h. absurd (omega (arith, h .0)))
+              (⊎-elim (λ h. absurd (omega (arith, h .0))) (λ h. (h .1, h .2, h .3, h .4)))) (refused-as 10 e),
+          λ h. add-refused c p k 10 .1
+              (later (h .0) (later (le→leb k 2 (h .1)) (later (has-not lower lower-order p (c .state .pins) .1 (h .2))
+              (here refl (λ t. let m : length (c .state .pins) < 64 = ltb→lt (length (c .state .pins)) 64 t in omega (arith, m, h .3)))))),
         );
         taken = (
-          λ e. let a = add-taken c p .0 e in
-              (a .0, has-not lower lower-order p (c .state .pins) .0 (a .1 .0), ltb→lt (length (c .state .pins)) 64 (a .1 .1 .0)),
-          λ h. add-taken c p .1 (h .0, (has-not lower lower-order p (c .state .pins) .1 (h .1), (lt→ltb (length (c .state .pins)) 64 (h .2), tt))),
+          λ e. let a = add-taken c p k .0 e in (
+            a .0,
+            leb→le k 2 (a .1 .0),
+            has-not lower lower-order p (c .state .pins) .0 (a .1 .1 .0),
+            ltb→lt (length (c .state .pins)) 64 (a .1 .1 .1 .0),
+          ),
+          λ h. add-taken c p k .1
+              (h .0, (le→leb k 2 (h .1), (has-not lower lower-order p (c .state .pins) .1 (h .2), (lt→ltb (length (c .state .pins)) 64 (h .3), tt)))),
         );
-        others = λ n e. ⊎-elim (λ h. inl (h .0)) (λ r. inr (⊎-elim (λ h. inl (h .0)) (λ h. inr (h .0)) r)) (refused-as n e);
+        others = λ n e. ⊎-elim (λ h. inl (h .0))
+            (⊎-elim (λ h. inr (inl (h .0))) (⊎-elim (λ h. inr (inr (inl (h .0)))) (λ h. inr (inr (inr (h .0)))))) (refused-as n e);
       }
 
+module _ (c : Contents) (p : Point) where
   pub withdraw-refusals : WithdrawRefusals c p
   withdraw-refusals =
       record {

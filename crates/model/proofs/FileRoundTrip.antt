@@ -1,41 +1,57 @@
 -- Written out and read in is the same deck; a full file read in and written out is the same file. The file of valid contents is accepted, since
 -- its sections are read back (Sections); an accepted file is made of its sections, which are those of its contents.
-use mathlib.Core.Path.{_≡_, refl, sym, ap, ap₂, _∙_, subst⁻¹}
-use mathlib.Core.Logic.{_⊎_, inr, ⊎-elim}
+use mathlib.Core.Path.{_≡_, refl, sym, ap, _∙_, subst⁻¹}
+use mathlib.Core.Logic.{_⊎_, inl, inr, ⊎-elim}
 use mathlib.Core.Bool.{not}
 use mathlib.Core.List.{List, [], _∷_, List·Memᴰ}
 use Prim.Native.Nat.{ℕ, _%_, _≤_, _<_}
+use native.Mathlib.Decide.{decLe}
 use native.Mathlib.Omega.{arith}
 use lib.Dec.{T, T-not, eqb, eqb→eq}
 use lib.Ieee.Fits.{eq→eqb}
 use lib.ListN.{length}
 use Rattle.arrays.proofs.Test.{and-parts, and-both}
 use Rattle.model.specs.State.{points}
-use Rattle.model.specs.Contents.{Contents, holding, ValidContents}
+use Rattle.model.specs.DeviceKinds.{sensorsOnly}
+use Rattle.model.specs.Contents.{Contents, withKinds, ValidContents}
 use Rattle.model.specs.Question.{listed}
 use Rattle.arrays.specs.Same.{sameList}
 use Rattle.model.specs.Sections.{headerSize, sectionFile, sectionCount, offset, size, section, Follow}
-use Rattle.model.specs.File.{fewestSections, shortest, plain, sectionOf, pointsOf, runSection, sectionsOf, fileOf, deck, readFile}
+use Rattle.model.specs.File.{fewestSections, plain, sectionOf, pointsOf, runSection, kindSections, sectionsOf, fileOf}
+use Rattle.model.specs.File.{fileState, fileKinds, deck, readFile}
 use Rattle.model.proofs.Prune.{points-rise}
 use Rattle.model.proofs.Bounds.{points-count, edges-fewer}
 use Rattle.model.proofs.Bytes.{points-section, section-points, section-length}
 use Rattle.model.proofs.FileSize.{file-size, listed-count, runs-length}
 use Rattle.arrays.proofs.same.Alike.{same-refl, same-eq}
-use Rattle.model.proofs.Sections.{laid-out-is, section-within, Laid, file-laid, shows-follow, part-bytes, part-length, sectionsFrom, file-made}
+use Rattle.model.proofs.Sections.{laid-out-is, follow-within, section-within, Laid, file-laid, shows-follow, part-bytes, part-length}
+use Rattle.model.proofs.Sections.{sectionsFrom, file-made}
 use Rattle.model.proofs.FileValid.{Headed, headed-is, Accepted, accepted, accept, file-valid}
+use Rattle.model.proofs.FileKinds.{sections-few, kinds-laid, three-made, four-made}
 
 -- A file of the sections of valid contents shows them.
-laid-accepted : (b : List ℕ) (c : Contents) → ValidContents c → 30 ≤ length b → length b ≤ 784 → Laid b (sectionsOf c) → Accepted b c
+laid-accepted : (b : List ℕ) (c : Contents) → ValidContents c → 30 ≤ length b → length b ≤ 856 → Laid b (sectionsOf c) → Accepted b c
 laid-accepted b c v long short h =
     let pins = h .parts in
     let taps = pins .3 in
     let runs = taps .3 in
+    let few = sections-few c in
+    let count = h .count in
+    let follow = shows-follow b (sectionsOf c) 0 (headerSize (length (sectionsOf c))) (h .parts) in
     record {
-      header = headed-is b .1 (record { long = long; short = short; letters = h .letters; count = h .count });
+      header =
+          headed-is b .1
+          (record {
+            long = long;
+            short = short;
+            letters = h .letters;
+            fewest = omega (arith, count, few .0);
+            most = omega (arith, count, few .1);
+          });
       layout =
           laid-out-is b .1
-          (subst⁻¹ (λ (n : ℕ). (headerSize n ≤ length b) × Follow b (headerSize n) 0 n) (h .count)
-          (long, shows-follow b (sectionsOf c) 0 shortest (h .parts)));
+          (subst⁻¹ (λ (n : ℕ). (headerSize n ≤ length b) × Follow b (headerSize n) 0 n) count
+          (follow-within b (length (sectionsOf c)) (headerSize (length (sectionsOf c))) 0 follow, follow));
       wholes =
           and-both (eqb (size b 0 % 4) 0) _ (eq→eqb {a = size b 0 % 4} {b = 0} (omega (arith, pins .1, section-length (c .state .pins))))
           (and-both (eqb (size b 1 % 4) 0) _ (eq→eqb {a = size b 1 % 4} {b = 0} (omega (arith, taps .1, section-length (c .state .steiner))))
@@ -43,17 +59,23 @@ laid-accepted b c v long short h =
       few = v .state .few;
       points = v .state .placed;
       shows = inr (v .state, subst⁻¹ (λ (l : List ℕ). T (sameList l (runSection (c .state)))) (runs .2) (same-refl (runSection (c .state))));
-      same =
-          ap₂ holding (ap pointsOf (pins .2) ∙ points-section (c .state .pins) (v .state .placed .pinsRange))
-          (ap pointsOf (taps .2) ∙ points-section (c .state .steiner) (v .state .placed .steinerRange));
+      kinds = kinds-laid b c v pins-are count _ (runs .3) .0;
+      same = λ i. withKinds (record { pins = pins-are i; steiner = steiner-are i }) (kinds-laid b c v pins-are count _ (runs .3) .1 i);
     }
+  where
+    pins-are : fileState b .pins ≡ c .state .pins
+    pins-are = ap pointsOf (h .parts .2) ∙ points-section (c .state .pins) (v .state .placed .pinsRange)
+
+    steiner-are : fileState b .steiner ≡ c .state .steiner
+    steiner-are = ap pointsOf (h .parts .3 .2) ∙ points-section (c .state .steiner) (v .state .placed .steinerRange)
 
 -- The deck of valid contents, written out and read in, is the same deck.
 pub written-read : (c : Contents) → ValidContents c → readFile (fileOf c) ≡ deck c
 unfolding fileOf
 written-read c v =
     let size = file-size c v in
-    accept (fileOf c) c (laid-accepted (fileOf c) c v (size .0) (size .1) (file-laid (sectionsOf c) (omega arith) (omega (arith, size .1))))
+    accept (fileOf c) c
+    (laid-accepted (fileOf c) c v (size .0) (size .1) (file-laid (sectionsOf c) (omega (arith, sections-few c .1)) (omega (arith, size .1))))
 
 no-byte : (l : List ℕ) → length l ≡ 0 → l ≡ []
 no-byte [] e = refl
@@ -79,18 +101,24 @@ parted b c a =
       room = layout .0;
       follow = layout .1;
       lengths = λ k l. part-length b (offset b k) (size b k)
-          (section-within b (sectionCount b) _ 0 (layout .1) k (omega arith) (omega (arith, h .count)) .1);
+          (section-within b (sectionCount b) _ 0 (layout .1) k (omega arith) (omega (arith, h .fewest)) .1);
       whole₀ = eqb→eq (size b 0 % 4) 0 (w₁ .0);
       whole₁ = eqb→eq (size b 1 % 4) 0 (w₂ .0);
     }
+
+three-or-four : (n : ℕ) → 3 ≤ n → n ≤ 4 → (n ≡ 3) ⊎ (n ≡ 4)
+three-or-four n l m = go (decLe n 3)
+  where
+    go : Dec (n ≤ 3) → (n ≡ 3) ⊎ (n ≡ 4)
+    go (yes h) = inl (omega arith)
+    go (no h) = inr (omega arith)
 
 -- A full file that is read is written back byte for byte; so is a file of 0 or 1 pin, which is of both kinds.
 pub full-written-back : (b : List ℕ) (c : Contents) → ((x : ℕ) → List·Memᴰ x b → x < 256) → readFile b ≡ deck c
     → T (not (plain b)) ⊎ (length (c .state .pins) ≤ 1) → fileOf c ≡ b
 unfolding fileOf
 full-written-back b c h e full =
-    ap sectionFile
-    ((λ i. pins i ∷ taps i ∷ runs full i ∷ []) ∙ ap (sectionsFrom b 0) (sym (d .headed .count)))
+    ap sectionFile (⊎-elim three four (three-or-four (sectionCount b) (d .headed .fewest) (d .headed .most)))
     ∙ file-made b h (d .headed .letters) (d .room) (d .follow)
   where
     a : Accepted b c
@@ -129,3 +157,16 @@ full-written-back b c h e full =
     runs : T (not (plain b)) ⊎ (length (c .state .pins) ≤ 1) → runSection (c .state) ≡ section b 2
     runs k =
         ⊎-elim (λ t. ⊎-elim (λ n. absurd (T-not (plain b) n t)) (bare t) k) (λ v. sym (same-eq (section b 2) (runSection (c .state)) (v .1))) (a .shows)
+
+    -- The kinds, by the number of sections.
+    shown : fileKinds b ≡ c .kinds
+    shown = ap (λ (r : Contents). r .kinds) (a .same)
+
+    made : {l : List (List ℕ)} → kindSections (sensorsOnly (c .kinds)) (c .kinds) ≡ l → sectionsOf c ≡ section b 0 ∷ section b 1 ∷ section b 2 ∷ l
+    made e = λ i. pins i ∷ taps i ∷ runs full i ∷ e i
+
+    three : sectionCount b ≡ 3 → sectionsOf c ≡ sectionsFrom b 0 (sectionCount b)
+    three n = made (three-made b c shown (a .kinds) n) ∙ ap (sectionsFrom b 0) (sym n)
+
+    four : sectionCount b ≡ 4 → sectionsOf c ≡ sectionsFrom b 0 (sectionCount b)
+    four n = made (four-made b c shown (a .kinds) n) ∙ ap (sectionsFrom b 0) (sym n)

@@ -1,8 +1,8 @@
--- How long the file of valid contents is: at most 64 pins, 62 taps and 125 runs make at most 784 bytes. The numbers of points in
--- the runs section are below 126, and every number of a file is a byte.
+-- How long the file of valid contents is: at most 64 pins, 62 taps and 125 runs, and 64 kinds, make at most 856 bytes. The numbers of points
+-- in the runs section are below 126, and every number of a file is a byte.
 use mathlib.Core.Path.{_≡_, refl, sym, ap, _∙_, subst, subst⁻¹}
 use mathlib.Core.Logic.{⊎-elim}
-use mathlib.Core.Bool.{Bool, not}
+use mathlib.Core.Bool.{Bool, true, false, not}
 use mathlib.Core.List.{List, [], _∷_, map, flatten, List·Memᴰ, List·Memᴰ·head as head, List·Memᴰ·tail as tail, List·Memᴰ·cases-cons as cases}
 use mathlib.Core.List.{List·Memᴰ·not-nil as not-nil}
 use Prim.Native.Nat.{ℕ, suc, _*_, _≤_, _<_}
@@ -19,11 +19,12 @@ use Rattle.arrays.proofs.Test.{by-test}
 use Rattle.arrays.specs.Set.{tie, union, setOf}
 use Rattle.model.specs.Tree.{RunTree}
 use Rattle.model.specs.State.{State, points, Placed, Valid}
+use Rattle.model.specs.DeviceKinds.{sensorsOnly}
 use Rattle.model.specs.Contents.{Contents, ValidContents}
 use Rattle.model.specs.Question.{listed, treeOf, pinCount, steinerCount, edgeCount}
 use Rattle.arrays.proofs.number.Bytes.{Bytes, bytes-none, bytes-append}
 use Rattle.model.specs.Sections.{header, sectionFile, fileSize}
-use Rattle.model.specs.File.{sizesOf, sectionOf, numberOf, runBytes, runSection, sectionsOf, fileOf}
+use Rattle.model.specs.File.{kindSections, sizesOf, sectionOf, numberOf, runBytes, runSection, sectionsOf, fileOf}
 use Rattle.arrays.proofs.Set.{put-length, set-of-in, tie-eq, no-tie}
 use Rattle.model.proofs.Tree.{mst-run-tree}
 use Rattle.model.proofs.Prune.{points-rise, few-steiner}
@@ -101,22 +102,33 @@ run-numbers s v =
     runs-below (points s) (listed s) 126 (points-few s v)
     (λ e i. tree-of s (v .placed) .tree .ends e (set-of-in listedBefore listed-order (treeOf s) e .0 i))
 
--- The length of the file, by the counts of pins, taps and runs.
-pub sizes-are : (c : Contents) → Placed (c .state) → map length (sectionsOf c) ≡ sizesOf (pinCount (c .state)) (steinerCount (c .state)) (edgeCount (c .state))
-sizes-are c h =
+-- The lengths of the sections, by the counts of pins, taps and runs and by whether all pins are sensors.
+abbrev pub sizesIn : Contents → List ℕ
+sizesIn c = sizesOf (pinCount (c .state)) (steinerCount (c .state)) (edgeCount (c .state)) (sensorsOnly (c .kinds))
+
+pub sizes-are : (c : Contents) → ValidContents c → map length (sectionsOf c) ≡ sizesIn c
+sizes-are c v =
     let s = c .state in
-    let runs : length (runSection s) ≡ 2 * edgeCount s = omega (arith, runs-length (points s) (listed s), listed-count s h) in
-    λ i. section-length (s .pins) i ∷ section-length (s .steiner) i ∷ runs i ∷ []
+    let runs : length (runSection s) ≡ 2 * edgeCount s = omega (arith, runs-length (points s) (listed s), listed-count s (v .state .placed)) in
+    λ i. section-length (s .pins) i ∷ section-length (s .steiner) i ∷ runs i ∷ kinds (sensorsOnly (c .kinds)) i
+  where
+    kinds : (bare : Bool) → map length (kindSections bare (c .kinds)) ≡ kindSections bare (pinCount (c .state))
+    kinds true = refl
+    kinds false = λ i. v .kindCount i ∷ []
 
-pub file-length : (c : Contents) → Placed (c .state)
-    → length (fileOf c) ≡ fileSize (sizesOf (pinCount (c .state)) (steinerCount (c .state)) (edgeCount (c .state)))
+pub file-length : (c : Contents) → ValidContents c → length (fileOf c) ≡ fileSize (sizesIn c)
 unfolding fileOf
-file-length c h = sections-length (sectionsOf c) ∙ ap fileSize (sizes-are c h)
+file-length c v = sections-length (sectionsOf c) ∙ ap fileSize (sizes-are c v)
 
-pub file-size : (c : Contents) → ValidContents c → (30 ≤ length (fileOf c)) × (length (fileOf c) ≤ 784)
+pub file-size : (c : Contents) → ValidContents c → (30 ≤ length (fileOf c)) × (length (fileOf c) ≤ 856)
 file-size c v =
-    let e = file-length c (v .state .placed) in
-    (omega (arith, e), omega (arith, e, v .state .few, steiner-few (c .state) (v .state), edges-few (c .state) (v .state)))
+    let r = bounds (sensorsOnly (c .kinds)) in
+    (omega (arith, file-length c v, r .0), omega (arith, file-length c v, r .1))
+  where
+    bounds : (bare : Bool) → (30 ≤ fileSize (sizesOf (pinCount (c .state)) (steinerCount (c .state)) (edgeCount (c .state)) bare))
+        × (fileSize (sizesOf (pinCount (c .state)) (steinerCount (c .state)) (edgeCount (c .state)) bare) ≤ 856)
+    bounds true = (omega arith, omega (arith, v .state .few, steiner-few (c .state) (v .state), edges-few (c .state) (v .state)))
+    bounds false = (omega arith, omega (arith, v .state .few, steiner-few (c .state) (v .state), edges-few (c .state) (v .state)))
 
 pub file-bytes : (c : Contents) → ValidContents c → Bytes (fileOf c)
 unfolding fileOf sectionFile flatten
@@ -125,4 +137,8 @@ file-bytes c v =
     bytes-append (header (map length (sectionsOf c))) (header-bytes (map length (sectionsOf c)))
     (bytes-append (sectionOf (s .pins)) (section-bytes (s .pins))
     (bytes-append (sectionOf (s .steiner)) (section-bytes (s .steiner))
-    (bytes-append (runSection s) (λ x i. omega (arith, run-numbers s (v .state) x i)) bytes-none)))
+    (bytes-append (runSection s) (λ x i. omega (arith, run-numbers s (v .state) x i)) (kinds (sensorsOnly (c .kinds))))))
+  where
+    kinds : (bare : Bool) → Bytes (flatten (kindSections bare (c .kinds)))
+    kinds true = bytes-none
+    kinds false = bytes-append (c .kinds) (λ k i. omega (arith, v .known k i)) bytes-none

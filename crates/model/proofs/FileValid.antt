@@ -1,5 +1,5 @@
 -- An accepted file shows valid contents. Reading passes all its tests before it answers a deck; a plain file shows no Steiner
--- point, and any other passes the test of validity.
+-- point, and any other passes the test of validity. Its kinds are those of sensors, or pass check 15.
 use mathlib.Core.Path.{_≡_, refl, sym, ap, _∙_, subst, subst⁻¹}
 use mathlib.Core.Logic.{_⊎_, inl, inr, ⊎-elim, _↔_}
 use mathlib.Core.Bool.{Bool, true, false, _&&_, _||_}
@@ -7,19 +7,23 @@ use mathlib.Core.List.{List, [], _∷_, List·Memᴰ, List·Memᴰ·not-nil as n
 use Prim.Native.Nat.{ℕ, zero, suc, _≤_}
 use native.Mathlib.Omega.{arith}
 use lib.Dec.{T, leb, leb→le, le→leb, eqb, eqb→eq}
-use lib.Ieee.Fits.{eq→eqb}
 use lib.ListN.{length, take, drop}
+use Rattle.arrays.specs.Set.{all}
+use Rattle.arrays.specs.Test.{if}
 use Rattle.arrays.proofs.Test.{and-parts, and-both}
+use Rattle.arrays.proofs.Set.{all-in}
 use Rattle.model.specs.Refusal.{Pass}
 use Rattle.model.specs.State.{maxPins, Placed, Valid, placed, valid}
-use Rattle.model.specs.Contents.{Contents, ValidContents}
+use Rattle.model.specs.DeviceKinds.{largestKind, isKind, sensors}
+use Rattle.model.specs.Contents.{Contents, withKinds, ValidContents}
 use Rattle.arrays.specs.Same.{sameList}
 use Rattle.arrays.proofs.same.Alike.{same-refl, same-eq}
 use Rattle.model.specs.Sections.{magic, countPlace, sectionCount, section, offset, size, laidOut}
-use Rattle.model.specs.File.{fewestSections, shortest, longest, headed, whole, plain}
+use Rattle.model.specs.File.{fewestSections, mostSections, shortest, longest, headed, whole, plain, hasKinds, kindsPlace, allKinds, showsKinds}
 use Rattle.model.specs.File.{deck, fileChecks, readFile, fileState, fileContents, pointsOf, runSection}
 use Rattle.model.proofs.Refusal.{file-taken}
 use Rattle.model.proofs.Validity.{placed-is, valid-is}
+use Rattle.model.proofs.DeviceKinds.{of-state-valid}
 
 either : (a b : Bool) → T (a || b) → T a ⊎ T b
 either true b t = inl tt
@@ -35,23 +39,27 @@ pub record Headed (b : List ℕ) : Type 0 where
   pub long : shortest ≤ length b
   pub short : length b ≤ longest
   pub letters : take countPlace b ≡ magic
-  pub count : sectionCount b ≡ fewestSections
+  pub fewest : fewestSections ≤ sectionCount b
+  pub most : sectionCount b ≤ mostSections
 
 pub headed-is : (b : List ℕ) → T (headed b) ↔ Headed b
 headed-is b = (
   λ t. let h = and-parts (leb shortest (length b)) _ t in
       let k = and-parts (leb (length b) longest) _ (h .1) in
       let l = and-parts (sameList (take countPlace b) magic) _ (k .1) in
+      let m = and-parts (leb fewestSections (sectionCount b)) _ (l .1) in
       record {
         long = leb→le shortest (length b) (h .0);
         short = leb→le (length b) longest (k .0);
         letters = same-eq (take countPlace b) magic (l .0);
-        count = eqb→eq (sectionCount b) fewestSections (l .1);
+        fewest = leb→le fewestSections (sectionCount b) (m .0);
+        most = leb→le (sectionCount b) mostSections (m .1);
       },
   λ h. and-both (leb shortest (length b)) _ (le→leb shortest (length b) (h .long))
       (and-both (leb (length b) longest) _ (le→leb (length b) longest (h .short))
       (and-both (sameList (take countPlace b) magic) _ (subst⁻¹ (λ (l : List ℕ). T (sameList l magic)) (h .letters) (same-refl magic))
-      (eq→eqb {a = sectionCount b} {b = fewestSections} (h .count)))),
+      (and-both (leb fewestSections (sectionCount b)) _ (le→leb fewestSections (sectionCount b) (h .fewest))
+      (le→leb (sectionCount b) mostSections (h .most))))),
 )
 
 -- What reading a file to a deck asks of the file.
@@ -62,6 +70,7 @@ pub record Accepted (b : List ℕ) (c : Contents) : Type 0 where
   pub few : length (c .state .pins) ≤ maxPins
   pub points : Placed (c .state)
   pub shows : T (plain b) ⊎ (Valid (c .state) × T (sameList (section b 2) (runSection (c .state))))
+  pub kinds : T (showsKinds b)
   pub same : fileContents b ≡ c
 
 pub accepted : (b : List ℕ) (c : Contents) → readFile b ≡ deck c → Accepted b c
@@ -78,6 +87,7 @@ accepted b c e =
       shows = ⊎-elim inl
           (λ t. let v = and-parts (valid (fileState b)) (sameList (section b 2) (runSection (fileState b))) t in inr (valid-is (fileState b) .0 (v .0), v .1))
           (either (plain b) (valid (fileState b) && sameList (section b 2) (runSection (fileState b))) (p .1 .1 .1 .1 .1 .0));
+      kinds = p .1 .1 .1 .1 .1 .1 .0;
       same = refl;
     })
 
@@ -100,7 +110,7 @@ accept b c a = file-taken b c .1 (by (subst⁻¹ (Accepted b) (a .same) a), a .s
                     (⊎-elim inl
                     (λ v. inr (and-both (valid (fileState b)) (sameList (section b 2) (runSection (fileState b))) (valid-is (fileState b) .1 (v .0)) (v .1)))
                     (r .shows)),
-                tt,
+                (r .kinds, tt),
               ),
             ),
           ),
@@ -115,8 +125,27 @@ none-of zero [] t = refl
 none-of zero (x ∷ l) t = refl
 none-of (suc n) l t = let e : suc n ≡ 0 = eqb→eq (suc n) 0 t in absurd (omega arith)
 
+-- The kinds that a file shows, where its state is valid and check 15 passes.
+kinds-valid : (b : List ℕ) → Valid (fileState b) → T (showsKinds b) → ValidContents (fileContents b)
+kinds-valid b v t = go (hasKinds b) t
+  where
+    go : (has : Bool) → T (if has (λ _. allKinds (section b kindsPlace) (length (fileState b .pins))) (λ _. true))
+        → ValidContents (withKinds (fileState b) (if has (λ _. section b kindsPlace) (λ _. sensors (fileState b .pins))))
+    go true t =
+        let kinds = section b kindsPlace in
+        let p = and-parts (eqb (length kinds) (length (fileState b .pins))) _ t in
+        let q = and-parts (all isKind kinds) _ (p .1) in
+        record {
+          state = v;
+          kindCount = eqb→eq (length kinds) (length (fileState b .pins)) (p .0);
+          known = λ k i. leb→le k largestKind (all-in isKind kinds .0 (q .0) k i);
+        }
+    go false t = of-state-valid v
+
 pub file-valid : (b : List ℕ) (c : Contents) → readFile b ≡ deck c → ValidContents c
-file-valid b c e = record { state = go (accepted b c e) }
+file-valid b c e =
+    let a = accepted b c e in
+    subst ValidContents (a .same) (kinds-valid b (subst⁻¹ (λ (d : Contents). Valid (d .state)) (a .same) (go a)) (a .kinds))
   where
     go : Accepted b c → Valid (c .state)
     go a =

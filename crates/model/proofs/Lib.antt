@@ -5,13 +5,17 @@ pub mod Candidate
 pub mod Choice
 pub mod Cover
 pub mod Decks
+pub mod DeviceKinds
 pub mod FileAnswer
+pub mod FileKinds
 pub mod FileRoundTrip
 pub mod FileRows
 pub mod FileSize
 pub mod FileValid
 pub mod Grid
 pub mod Hub
+pub mod KindRows
+pub mod KindsFollow
 pub mod OctantClaim
 pub mod PinsAdded
 pub mod Prune

@@ -1,4 +1,4 @@
--- Points in range, added one after the other while there is room, are pins then, and so are the pins from before. By induction on the list: a
+-- Devices at points in range, added one after the other while there is room, are pins then, and so are the pins from before. By induction on the list: a
 -- call adds its point, or is refused since the point is a pin already, and the pins are the same set then.
 use mathlib.Core.Path.{_≡_, refl, sym, ap, _∙_, subst, subst⁻¹}
 use mathlib.Core.Logic.{_↔_, _⊎_, inl, inr, ⊎-elim}
@@ -15,57 +15,67 @@ use Rattle.plane.specs.Point.{Point, inRange, lower}
 use Rattle.plane.proofs.Order.{lower-order}
 use Rattle.model.specs.Refusal.{here, later}
 use Rattle.model.specs.State.{State, withPin, insert, maxPins}
-use Rattle.model.specs.Contents.{Contents, keeping, ValidContents}
-use Rattle.model.specs.Call.{add, addChecks, insertRefusal, unless, step, contentsAfter}
+use Rattle.model.specs.DeviceKinds.{isKind}
+use Rattle.model.specs.Contents.{Contents, following, ValidContents}
+use Rattle.model.specs.Call.{Call, add, addChecks, insertRefusal, unless, step, contentsAfter}
 use Rattle.model.proofs.Prune.{prune-leaves}
 use Rattle.model.proofs.Refusal.{first-failed, all-passed}
 use Rattle.model.proofs.Step.{with-pin-placed, step-valid}
 
 -- The pins after one call, and how many there are.
-module _ (c : Contents) (v : ValidContents c) (p : Point) (range : T (inRange p)) (room : length (c .state .pins) < maxPins) where
+module _ (c : Contents) (v : ValidContents c) (p : Point) (range : T (inRange p)) (k : ℕ) (kind : T (isKind k))
+    (room : length (c .state .pins) < maxPins) where
   abbrev s : State
   s = c .state
 
   there-or-free : (put lower p (s .pins) ≡ s .pins) ⊎ ¬ List·Memᴰ p (s .pins)
   there-or-free = put-or-free lower lower-order p (s .pins) (v .state .placed .pinsRise)
 
-  add-pins : step c (add p) .next .state .pins ≡ put lower p (s .pins)
+  add-pins : step c (add p k) .next .state .pins ≡ put lower p (s .pins)
   unfolding step insertRefusal insert
   add-pins = ⊎-elim (λ same. ap pins-by (refused same) ∙ sym same) (λ free. ap pins-by (taken free) ∙ swept) there-or-free
     where
       pins-by : Option ℕ → List Point
-      pins-by o = unless o c (λ _. keeping c (insert p s)) .next .state .pins
+      pins-by o = unless o c (λ _. following k c (insert p s)) .next .state .pins
 
       swept : insert p s .pins ≡ put lower p (s .pins)
       swept = let h = with-pin-placed p s (v .state .placed) range in prune-leaves (withPin p s) (h .steinerRise) (h .apart) .pins
 
-      taken : ¬ List·Memᴰ p (s .pins) → insertRefusal p s ≡ none
-      taken free = all-passed (addChecks p s) .1 (range, (has-not lower lower-order p (s .pins) .1 free, (lt→ltb (length (s .pins)) maxPins room, tt)))
+      taken : ¬ List·Memᴰ p (s .pins) → insertRefusal p k s ≡ none
+      taken free =
+          all-passed (addChecks p k s) .1 (range, (kind, (has-not lower lower-order p (s .pins) .1 free, (lt→ltb (length (s .pins)) maxPins room, tt))))
 
-      refused : put lower p (s .pins) ≡ s .pins → insertRefusal p s ≡ some 8
+      refused : put lower p (s .pins) ≡ s .pins → insertRefusal p k s ≡ some 8
       refused same =
           let there = subst (λ (l : List Point). List·Memᴰ p l) same (put-in lower lower-order p p (s .pins) .1 (inl refl)) in
-          first-failed 8 (addChecks p s) .1 (later range (here refl (λ t. has-not lower lower-order p (s .pins) .0 t there)))
+          first-failed 8 (addChecks p k s) .1 (later range (later kind (here refl (λ t. has-not lower lower-order p (s .pins) .0 t there))))
 
-  one-more : length (step c (add p) .next .state .pins) ≤ suc (length (s .pins))
+  one-more : length (step c (add p k) .next .state .pins) ≤ suc (length (s .pins))
   one-more =
       ⊎-elim (λ same. omega (arith, ap length (add-pins ∙ same)))
       (λ free. omega (arith, ap length add-pins, put-length lower lower-order p (s .pins) free)) there-or-free
 
-  now-pins : (u : Point) → List·Memᴰ u (step c (add p) .next .state .pins) ↔ ((u ≡ p) ⊎ List·Memᴰ u (s .pins))
+  now-pins : (u : Point) → List·Memᴰ u (step c (add p k) .next .state .pins) ↔ ((u ≡ p) ⊎ List·Memᴰ u (s .pins))
   now-pins u =
       subst⁻¹ (λ (l : List Point). List·Memᴰ u l ↔ ((u ≡ p) ⊎ List·Memᴰ u (s .pins))) add-pins (put-in lower lower-order p u (s .pins))
 
-pub added-pins : (ps : List Point) (c : Contents) → ValidContents c → ((u : Point) → List·Memᴰ u ps → T (inRange u))
-    → length (c .state .pins) + length ps ≤ maxPins
-    → (u : Point) → List·Memᴰ u (contentsAfter c (map add ps) .state .pins) ↔ (List·Memᴰ u ps ⊎ List·Memᴰ u (c .state .pins))
+-- Devices, each a point and a kind; the call that adds one.
+abbrev pub Device : Type 0
+Device = Point × ℕ
+
+abbrev pub adding : Device → Call
+adding a = add (a .0) (a .1)
+
+pub added-pins : (l : List Device) (c : Contents) → ValidContents c
+    → ((a : Device) → List·Memᴰ a l → T (inRange (a .0)) × T (isKind (a .1))) → length (c .state .pins) + length l ≤ maxPins
+    → (u : Point) → List·Memᴰ u (contentsAfter c (map adding l) .state .pins) ↔ (List·Memᴰ u (map (λ (a : Device). a .0) l) ⊎ List·Memᴰ u (c .state .pins))
 unfolding contentsAfter
-added-pins [] c v range room u = (inr, ⊎-elim (λ i. absurd (not-nil i)) (λ i. i))
-added-pins (p ∷ ps) c v range room u =
-    let here = range p (head refl) in
-    let rest = added-pins ps (step c (add p) .next) (step-valid c (add p) v) (λ w i. range w (tail i))
-    (omega (arith, one-more c v p here (omega arith))) u in
-    let now = now-pins c v p here (omega arith) u in (
+added-pins [] c v ok room u = (inr, ⊎-elim (λ i. absurd (not-nil i)) (λ i. i))
+added-pins (a ∷ l) c v ok room u =
+    let here = ok a (head refl) in
+    let rest = added-pins l (step c (adding a) .next) (step-valid c (adding a) v) (λ b i. ok b (tail i))
+    (omega (arith, one-more c v (a .0) (here .0) (a .1) (here .1) (omega arith))) u in
+    let now = now-pins c v (a .0) (here .0) (a .1) (here .1) (omega arith) u in (
       λ i. ⊎-elim (λ j. inl (tail j)) (λ j. ⊎-elim (λ e. inl (head e)) inr (now .0 j)) (rest .0 i),
       λ i. rest .1 (⊎-elim (λ j. ⊎-elim (λ e. inr (now .1 (inl e))) inl (cases j)) (λ j. inr (now .1 (inr j))) i),
     )

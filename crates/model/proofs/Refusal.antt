@@ -12,7 +12,8 @@ use Rattle.arrays.specs.Test.{if}
 use Rattle.plane.specs.Point.{Point}
 use Rattle.model.specs.Refusal.{Check, firstFailed, Pass, FirstFailed, here, later}
 use Rattle.model.specs.State.{insert, remove}
-use Rattle.model.specs.Contents.{Contents, keeping}
+use Rattle.model.specs.DeviceKinds.{sensor}
+use Rattle.model.specs.Contents.{Contents, following}
 use Rattle.model.specs.Call.{add, withdraw, done, refused, addChecks, withdrawChecks, insertRefusal, removeRefusal, unless, step}
 use Rattle.model.specs.File.{deck, refusal, fileChecks, readBy, readFile, fileContents}
 
@@ -111,26 +112,26 @@ unless-done (some m) c after =
     (λ e. let z : _≡_ {A = ℕ} 0 1 = cc in absurd (omega arith), λ e. let z : _≡_ {A = ℕ} 0 1 = cc in absurd (omega arith))
 
 module _ (c : Contents) (p : Point) where
-  pub add-refused : (n : ℕ) → (step c (add p) .reply ≡ refused n) ↔ FirstFailed n (addChecks p (c .state))
+  pub add-refused : (k n : ℕ) → (step c (add p k) .reply ≡ refused n) ↔ FirstFailed n (addChecks p k (c .state))
   unfolding step insertRefusal
-  add-refused n =
-      let u = unless-number (firstFailed (addChecks p (c .state))) c (λ _. keeping c (insert p (c .state))) n in
-      (λ e. failed-first n (addChecks p (c .state)) (u .0 e), λ r. u .1 (first-fails n (addChecks p (c .state)) r))
+  add-refused k n =
+      let u = unless-number (firstFailed (addChecks p k (c .state))) c (λ _. following k c (insert p (c .state))) n in
+      (λ e. failed-first n (addChecks p k (c .state)) (u .0 e), λ r. u .1 (first-fails n (addChecks p k (c .state)) r))
 
-  pub add-taken : (step c (add p) .reply ≡ done) ↔ Pass (addChecks p (c .state))
+  pub add-taken : (k : ℕ) → (step c (add p k) .reply ≡ done) ↔ Pass (addChecks p k (c .state))
   unfolding step insertRefusal
-  add-taken =
-      let u = unless-done (firstFailed (addChecks p (c .state))) c (λ _. keeping c (insert p (c .state))) in
-      (λ e. none-failed (addChecks p (c .state)) (u .0 e), λ a. u .1 (passes (addChecks p (c .state)) a))
+  add-taken k =
+      let u = unless-done (firstFailed (addChecks p k (c .state))) c (λ _. following k c (insert p (c .state))) in
+      (λ e. none-failed (addChecks p k (c .state)) (u .0 e), λ a. u .1 (passes (addChecks p k (c .state)) a))
 
   pub withdraw-refused : (n : ℕ) → (step c (withdraw p) .reply ≡ refused n) ↔ FirstFailed n (withdrawChecks p (c .state))
   unfolding step removeRefusal
   withdraw-refused n =
-      let u = unless-number (firstFailed (withdrawChecks p (c .state))) c (λ _. keeping c (remove p (c .state))) n in
+      let u = unless-number (firstFailed (withdrawChecks p (c .state))) c (λ _. following sensor c (remove p (c .state))) n in
       (λ e. failed-first n (withdrawChecks p (c .state)) (u .0 e), λ r. u .1 (first-fails n (withdrawChecks p (c .state)) r))
 
   pub withdraw-taken : (step c (withdraw p) .reply ≡ done) ↔ Pass (withdrawChecks p (c .state))
   unfolding step removeRefusal
   withdraw-taken =
-      let u = unless-done (firstFailed (withdrawChecks p (c .state))) c (λ _. keeping c (remove p (c .state))) in
+      let u = unless-done (firstFailed (withdrawChecks p (c .state))) c (λ _. following sensor c (remove p (c .state))) in
       (λ e. none-failed (withdrawChecks p (c .state)) (u .0 e), λ a. u .1 (passes (withdrawChecks p (c .state)) a))

@@ -72,7 +72,7 @@ laid-out-is b =
       λ p. and-both (leb n (length b)) _ (le→leb n (length b) (p .0)) (f .1 (p .1)),
     )
 
-follow-within : (b : List ℕ) (n at k : ℕ) → Follow b at k n → at ≤ length b
+pub follow-within : (b : List ℕ) (n at k : ℕ) → Follow b at k n → at ≤ length b
 follow-within b zero at k f = omega (arith, f)
 follow-within b (suc n) at k f = omega (arith, follow-within b n (at + size b k) (suc k) (f .1))
 

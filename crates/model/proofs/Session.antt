@@ -18,7 +18,7 @@ use Rattle.model.proofs.Round.{round-finished, finish-rounds}
 use Rattle.model.proofs.Step.{after-valid}
 use Rattle.model.proofs.Bounds.{points-few, length-bound, held-range, round-few, round-fits}
 use Rattle.model.proofs.FileValid.{file-valid}
-use Rattle.model.proofs.Validity.{of-state-valid}
+use Rattle.model.proofs.DeviceKinds.{of-state-valid}
 
 pub empty-valid : Valid empty
 empty-valid =

@@ -3,30 +3,41 @@ use mathlib.Core.Path.{_≡_, refl, subst⁻¹}
 use mathlib.Core.Logic.{_⊎_, ⊎-elim}
 use mathlib.Core.Option.{Option, none, some}
 use mathlib.Core.List.{List, [], _∷_, List·Memᴰ}
-use Prim.Native.Nat.{ℕ, _<_}
+use Prim.Native.Nat.{ℕ, _≤_, _<_}
 use native.Mathlib.Omega.{arith}
-use lib.Dec.{T, ltb→lt}
+use lib.Dec.{T, leb→le, ltb→lt}
 use lib.ListN.{length}
 use Rattle.plane.specs.Point.{Point, inRange, lower}
 use Rattle.plane.proofs.Order.{lower-order}
 use Rattle.arrays.specs.Set.{out}
 use Rattle.model.specs.State.{State, Placed, Valid, withPin, insert, remove, maxPins}
-use Rattle.model.specs.Contents.{Contents, keeping, ValidContents}
+use Rattle.model.specs.DeviceKinds.{sensor, largestKind}
+use Rattle.model.specs.Contents.{Contents, following, ValidContents}
 use Rattle.model.specs.Call.{addChecks, withdrawChecks, insertRefusal, removeRefusal}
 use Rattle.model.specs.Call.{Call, add, withdraw, oneRound, runToEnd, unless, step, contentsAfter}
 use Rattle.arrays.proofs.Set.{put-in, put-sorted, put-length, out-in, out-sorted, out-length, has-in, has-not}
 use Rattle.model.proofs.Prune.{prune-valid}
 use Rattle.model.proofs.Refusal.{all-passed}
-use Rattle.model.proofs.Validity.{keeping-valid}
-use Rattle.model.proofs.Round.{round-valid, finish-rounds, rounds-valid}
+use Rattle.model.proofs.DeviceKinds.{keeping-valid, following-valid}
+use Rattle.model.proofs.Round.{round-valid, round-pins, finish-rounds, rounds-valid, rounds-pins}
 
--- Adding is not refused: the point is in range, no pin stands there, and there is room.
-pub insert-allowed : (p : Point) (s : State) → insertRefusal p s ≡ none
-    → T (inRange p) × (List·Memᴰ p (s .pins) → ⊥) × (length (s .pins) < maxPins)
+-- Adding is not refused: the point is in range, the kind is one, no pin stands there, and there is room.
+pub record Allowed (p : Point) (k : ℕ) (s : State) : Type 0 where
+  pub range : T (inRange p)
+  pub kind : k ≤ largestKind
+  pub free : ¬ List·Memᴰ p (s .pins)
+  pub room : length (s .pins) < maxPins
+
+pub insert-allowed : (p : Point) (k : ℕ) (s : State) → insertRefusal p k s ≡ none → Allowed p k s
 unfolding insertRefusal
-insert-allowed p s e =
-    let a = all-passed (addChecks p s) .0 e in
-    (a .0, has-not lower lower-order p (s .pins) .0 (a .1 .0), ltb→lt (length (s .pins)) maxPins (a .1 .1 .0))
+insert-allowed p k s e =
+    let a = all-passed (addChecks p k s) .0 e in
+    record {
+      range = a .0;
+      kind = leb→le k largestKind (a .1 .0);
+      free = has-not lower lower-order p (s .pins) .0 (a .1 .1 .0);
+      room = ltb→lt (length (s .pins)) maxPins (a .1 .1 .1 .0);
+    }
 
 pub remove-allowed : (p : Point) (s : State) → removeRefusal p s ≡ none → List·Memᴰ p (s .pins)
 unfolding removeRefusal
@@ -68,14 +79,17 @@ unless-valid (some n) c f v g = v
 
 pub step-valid : (c : Contents) (k : Call) → ValidContents c → ValidContents (step c k .next)
 unfolding step
-step-valid c (add p) v =
-    unless-valid (insertRefusal p (c .state)) c (λ _. keeping c (insert p (c .state))) v
-    (λ e. let a = insert-allowed p (c .state) e in keeping-valid v (insert-valid p (c .state) (v .state) (a .0) (a .1) (a .2)))
+step-valid c (add p k) v =
+    unless-valid (insertRefusal p k (c .state)) c (λ _. following k c (insert p (c .state))) v
+    (λ e. let a = insert-allowed p k (c .state) e in
+    following-valid k (a .kind) v (insert-valid p (c .state) (v .state) (a .range) (a .free) (a .room)))
 step-valid c (withdraw p) v =
-    unless-valid (removeRefusal p (c .state)) c (λ _. keeping c (remove p (c .state))) v
-    (λ e. keeping-valid v (remove-valid p (c .state) (v .state) (remove-allowed p (c .state) e)))
-step-valid c oneRound v = keeping-valid v (round-valid (c .state) (v .state))
-step-valid c runToEnd v = keeping-valid v (rounds-valid (finish-rounds (c .state) (v .state) .0) (v .state))
+    unless-valid (removeRefusal p (c .state)) c (λ _. following sensor c (remove p (c .state))) v
+    (λ e. following-valid sensor (omega arith) v (remove-valid p (c .state) (v .state) (remove-allowed p (c .state) e)))
+step-valid c oneRound v = keeping-valid v (round-valid (c .state) (v .state)) (round-pins (c .state) (v .state))
+step-valid c runToEnd v =
+    let rounds = finish-rounds (c .state) (v .state) .0 in
+    keeping-valid v (rounds-valid rounds (v .state)) (rounds-pins rounds (v .state))
 
 pub after-valid : (calls : List Call) (c : Contents) → ValidContents c → ValidContents (contentsAfter c calls)
 unfolding contentsAfter

@@ -14,11 +14,10 @@ use Rattle.arrays.proofs.Test.{and-parts, and-both}
 use Rattle.arrays.specs.Set.{has, rising, all}
 use Rattle.model.specs.Tree.{mst, edgesAt}
 use Rattle.model.specs.State.{State, points, strong, maxPins, Placed, Valid, placed, valid}
-use Rattle.model.specs.Contents.{Contents, ofState, keeping, ValidContents, validContents}
 use Rattle.arrays.proofs.Set.{all-in, has-not, rising-sorted}
 
 -- Two tests, each of which decides a statement, decide both.
-both-is : (a b : Bool) {A B : Type 0} → T a ↔ A → T b ↔ B → T (a && b) ↔ (A × B)
+pub both-is : (a b : Bool) {A B : Type 0} → T a ↔ A → T b ↔ B → T (a && b) ↔ (A × B)
 both-is a b f g =
     (λ t. (f .0 (and-parts a b t .0), g .0 (and-parts a b t .1)), λ p. and-both a b (f .1 (p .0)) (g .1 (p .1)))
 
@@ -70,13 +69,3 @@ valid-is s = (
     parts =
         both-is (leb (length (s .pins)) maxPins) _ (leb→le (length (s .pins)) maxPins, le→leb (length (s .pins)) maxPins)
         (both-is (placed s) _ (placed-is s) branching)
-
--- Valid contents, by the makers of contents.
-pub of-state-valid : {s : State} → Valid s → ValidContents (ofState s)
-of-state-valid v = record { state = v }
-
-pub keeping-valid : {c : Contents} {s : State} → ValidContents c → Valid s → ValidContents (keeping c s)
-keeping-valid v w = record { state = w }
-
-pub valid-contents-is : (c : Contents) → T (validContents c) ↔ ValidContents c
-valid-contents-is c = (λ t. record { state = valid-is (c .state) .0 t }, λ v. valid-is (c .state) .1 (v .state))

@@ -9,17 +9,20 @@ use Rattle.plane.specs.Point.{Point, inRange, lower}
 use Rattle.arrays.specs.Set.{has}
 use Rattle.model.specs.Refusal.{Check, check, firstFailed}
 use Rattle.model.specs.State.{State, insert, remove, maxPins}
-use Rattle.model.specs.Contents.{Contents, keeping}
+use Rattle.model.specs.DeviceKinds.{sensor, isKind}
+use Rattle.model.specs.Contents.{Contents, keeping, following}
 use Rattle.model.specs.Round.{RoundAnswer, round, finish}
 
 -- Whether a pin stands at p.
 abbrev pub holdsPin : Point → State → Bool
 holdsPin p s = has lower p (s .pins)
 
--- The checks of adding at p, in their order (SPEC 8.3): p in range, no pin there, and room for one more, also where a tap stands.
-abbrev pub addChecks : Point → State → List Check
-addChecks p s =
+-- The checks of adding a device of kind k at p, in their order (SPEC 8.3): p in range, k a kind, no pin there, and room for one more, also
+-- where a tap stands.
+abbrev pub addChecks : Point → ℕ → State → List Check
+addChecks p k s =
     check 7 (λ _. inRange p)
+    ∷ check 15 (λ _. isKind k)
     ∷ check 8 (λ _. not (holdsPin p s))
     ∷ check 10 (λ _. ltb (length (s .pins)) maxPins)
     ∷ []
@@ -29,15 +32,15 @@ abbrev pub withdrawChecks : Point → State → List Check
 withdrawChecks p s = check 9 (λ _. holdsPin p s) ∷ []
 
 -- The refusals of adding and withdrawing.
-unfoldable pub insertRefusal : Point → State → Option ℕ
-insertRefusal p s = firstFailed (addChecks p s)
+unfoldable pub insertRefusal : Point → ℕ → State → Option ℕ
+insertRefusal p k s = firstFailed (addChecks p k s)
 
 unfoldable pub removeRefusal : Point → State → Option ℕ
 removeRefusal p s = firstFailed (withdrawChecks p s)
 
--- The calls that change a deck (SPEC 4.2 to 4.5).
+-- The calls that change a deck (SPEC 4.2 to 4.5). Adding names a place and a kind.
 pub data Call : Type 0 where
-  add : Point → Call
+  add : Point → ℕ → Call
   withdraw : Point → Call
   oneRound : Call
   runToEnd : Call
@@ -61,8 +64,8 @@ unless (some n) c after = record { next = c; reply = refused n }
 
 -- A call on the contents of a deck (SPEC 4.2 to 4.5): the contents that follow and the reply.
 unfoldable pub step : Contents → Call → Outcome
-step c (add p) = unless (insertRefusal p (c .state)) c (λ _. keeping c (insert p (c .state)))
-step c (withdraw p) = unless (removeRefusal p (c .state)) c (λ _. keeping c (remove p (c .state)))
+step c (add p k) = unless (insertRefusal p k (c .state)) c (λ _. following k c (insert p (c .state)))
+step c (withdraw p) = unless (removeRefusal p (c .state)) c (λ _. following sensor c (remove p (c .state)))
 step c oneRound = let r = round (c .state) in record { next = keeping c (r .next); reply = answered (r .answer) }
 step c runToEnd = let e = finish (c .state) in record { next = keeping c (e .final); reply = rounds (e .count) }
 

@@ -13,14 +13,17 @@ use Rattle.model.specs.Call.{Call, add, withdraw, done, refused, step}
 abbrev pub RefusedBy : Contents → Call → ℕ → Type 0
 RefusedBy c k n = step c k .reply ≡ refused n
 
--- Adding at p: 7 where p is out of range; else 8 where a pin is there; else 10 where 64 pins are held, also if p is a Steiner point. The
--- number stands here once more, and not as `maxPins`, so that another number there is refused here.
-pub record AddRefusals (c : Contents) (p : Point) : Type 0 where
-  pub outOfRange : RefusedBy c (add p) 7 ↔ ¬ T (inRange p)
-  pub pinThere : RefusedBy c (add p) 8 ↔ (T (inRange p) × List·Memᴰ p (c .state .pins))
-  pub noRoom : RefusedBy c (add p) 10 ↔ (T (inRange p) × (¬ List·Memᴰ p (c .state .pins)) × (64 ≤ length (c .state .pins)))
-  pub taken : (step c (add p) .reply ≡ done) ↔ (T (inRange p) × (¬ List·Memᴰ p (c .state .pins)) × (length (c .state .pins) < 64))
-  pub others : (n : ℕ) → RefusedBy c (add p) n → (n ≡ 7) ⊎ ((n ≡ 8) ⊎ (n ≡ 10))
+-- Adding a device of kind k at p: 7 where p is out of range; else 15 where k is above 2; else 8 where a pin is there; else 10 where 64 pins
+-- are held, also if p is a Steiner point. The numbers stand here once more, and not as `maxPins` and `largestKind`, so that other numbers there
+-- are refused here.
+pub record AddRefusals (c : Contents) (p : Point) (k : ℕ) : Type 0 where
+  pub outOfRange : RefusedBy c (add p k) 7 ↔ ¬ T (inRange p)
+  pub noKind : RefusedBy c (add p k) 15 ↔ (T (inRange p) × (3 ≤ k))
+  pub pinThere : RefusedBy c (add p k) 8 ↔ (T (inRange p) × (k ≤ 2) × List·Memᴰ p (c .state .pins))
+  pub noRoom : RefusedBy c (add p k) 10 ↔ (T (inRange p) × (k ≤ 2) × (¬ List·Memᴰ p (c .state .pins)) × (64 ≤ length (c .state .pins)))
+  pub taken : (step c (add p k) .reply ≡ done)
+      ↔ (T (inRange p) × (k ≤ 2) × (¬ List·Memᴰ p (c .state .pins)) × (length (c .state .pins) < 64))
+  pub others : (n : ℕ) → RefusedBy c (add p k) n → (n ≡ 7) ⊎ ((n ≡ 15) ⊎ ((n ≡ 8) ⊎ (n ≡ 10)))
 
 -- Withdrawing at p: 9 where no pin is there.
 pub record WithdrawRefusals (c : Contents) (p : Point) : Type 0 where

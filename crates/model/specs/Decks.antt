@@ -10,6 +10,7 @@ use Rattle.plane.specs.Edge.{Edge, before, listedBefore, planar}
 use Rattle.plane.specs.Coordinate.{signed16, word16}
 use Rattle.plane.specs.OctantTable.{octants}
 use Rattle.plane.specs.Box.{extreme, spread, halfPerimeter}
+use Rattle.arrays.specs.Beside.{beside}
 use Rattle.arrays.specs.Set.{put, out, has, union, rising, all}
 use Rattle.model.specs.Refusal.{firstFailed}
 use Rattle.model.specs.Tree.{pairs, edges, mst, treeLength}
@@ -37,7 +38,7 @@ trace replies lengths last runs = record { replies = replies; lengths = lengths;
 unfoldable pub play : Contents → List Call → Trace
 unfolding total degree comp kruskal lower gap dist pointDec before listedBefore planar put out has union pairs edges mst treeLength points lowestWeak
     pruneFrom prune insert remove column crossings notHeld candidates saving bestAbove best round roundsFrom finish firstFailed insertRefusal
-    removeRefusal step listed
+    removeRefusal beside step listed
 play c [] = trace [] (lengthOfState (c .state) ∷ []) c (listed (c .state))
 play c (k ∷ ks) =
     let o = step c k in
@@ -60,7 +61,7 @@ pub record DeckRow : Type 0 where
   pub calls : List Call
   pub shows : Trace
 
--- Rows are made by the next two alone: from a deck with pins and no tap, and from an empty deck.
+-- Rows are made by the next two alone: from a deck with pins, sensors all, and no tap, and from an empty deck.
 abbrev pub starting : List Point → List Call → Trace → DeckRow
 starting pins calls shows = record { start = holding pins []; calls = calls; shows = shows }
 

@@ -1,10 +1,12 @@
 -- The deck file, byte for byte (SPEC 7): what is written for the contents of a deck, and what reading a list of bytes gives (SPEC 8.2). Its
--- sections by number: 0 the pins, 1 the taps, 2 the runs.
-use mathlib.Core.Bool.{Bool, _&&_, _||_}
+-- sections by number: 0 the pins, 1 the taps, 2 the runs, 3 the kinds of the pins, which a deck of sensors alone does without.
+use mathlib.Core.Path.{_≡_}
+use mathlib.Core.Logic.{_⊎_}
+use mathlib.Core.Bool.{Bool, true, not, _&&_, _||_}
 use mathlib.Core.Option.{Option, none, some}
 use mathlib.Core.List.{List, [], _∷_, _++_}
-use Prim.Native.Nat.{ℕ, suc, _*_, _%_}
-use lib.Dec.{leb, eqb}
+use Prim.Native.Nat.{ℕ, suc, _*_, _%_, _≤_}
+use lib.Dec.{leb, ltb, eqb}
 use lib.ListN.{length, take}
 use Rattle.arrays.specs.Number.{bytes2}
 use Rattle.arrays.specs.Test.{if}
@@ -12,23 +14,31 @@ use Rattle.plane.specs.Point.{Point, lower}
 use Rattle.plane.specs.Edge.{Edge}
 use Rattle.plane.specs.Coordinate.{signed16, word16}
 use Rattle.arrays.specs.Same.{sameList}
-use Rattle.arrays.specs.Set.{tie}
+use Rattle.arrays.specs.Set.{tie, all}
 use Rattle.model.specs.Refusal.{Check, check, firstFailed}
 use Rattle.model.specs.State.{State, points, placed, valid, maxPins}
-use Rattle.model.specs.Contents.{Contents, ofState}
+use Rattle.model.specs.DeviceKinds.{isKind, sensors, sensorsOnly}
+use Rattle.model.specs.Contents.{Contents, withKinds}
 use Rattle.model.specs.Question.{listed}
 use Rattle.model.specs.Sections.{magic, countPlace, headerSize, sectionFile, sectionCount, size, section, laidOut}
 
--- The fewest sections of a file (SPEC 7.1).
+-- The fewest and the most sections of a file (SPEC 7.1).
 abbrev pub fewestSections : ℕ
 fewestSections = 3
+
+abbrev pub mostSections : ℕ
+mostSections = 4
+
+-- The number of the section of kinds.
+abbrev pub kindsPlace : ℕ
+kindsPlace = 3
 
 -- The lengths of the shortest and of the longest file (SPEC 7.5, 10.1).
 abbrev pub shortest : ℕ
 shortest = headerSize fewestSections
 
 abbrev pub longest : ℕ
-longest = 784
+longest = 856
 
 -- The four bytes of a point (SPEC 7.2).
 abbrev pub pointBytes : Point → List ℕ
@@ -53,13 +63,19 @@ runBytes ps (e ∷ l) = numberOf ps (e .lo) ∷ numberOf ps (e .hi) ∷ runBytes
 abbrev pub runSection : State → List ℕ
 runSection s = runBytes (points s) (listed s)
 
+-- What stands for the kinds of the pins (SPEC 7.8): a section with a byte for each, or none where all are sensors.
+abbrev pub kindSections : {A : Type 0} → Bool → A → List A
+kindSections bare kinds = if bare (λ _. []) (λ _. kinds ∷ [])
+
 -- The sections of a file, in their order (SPEC 7.1).
 abbrev pub sectionsOf : Contents → List (List ℕ)
-sectionsOf c = let s = c .state in sectionOf (s .pins) ∷ sectionOf (s .steiner) ∷ runSection s ∷ []
+sectionsOf c =
+    let s = c .state in
+    sectionOf (s .pins) ∷ sectionOf (s .steiner) ∷ runSection s ∷ kindSections (sensorsOnly (c .kinds)) (c .kinds)
 
--- The lengths of the sections of n pins, m taps and e runs.
-abbrev pub sizesOf : ℕ → ℕ → ℕ → List ℕ
-sizesOf n m e = 4 * n ∷ 4 * m ∷ 2 * e ∷ []
+-- The lengths of the sections of n pins, m taps and e runs; `bare` says that all pins are sensors.
+abbrev pub sizesOf : ℕ → ℕ → ℕ → Bool → List ℕ
+sizesOf n m e bare = 4 * n ∷ 4 * m ∷ 2 * e ∷ kindSections bare n
 
 -- The file of contents: a full file, with every run (SPEC 7.4, 7.5).
 unfoldable pub fileOf : Contents → List ℕ
@@ -82,7 +98,8 @@ pointsOf (a ∷ b ∷ c ∷ d ∷ l) = record { x = signed16 a b; y = signed16 c
 abbrev pub headed : List ℕ → Bool
 headed b =
     leb shortest (length b)
-    && (leb (length b) longest && (sameList (take countPlace b) magic && eqb (sectionCount b) fewestSections))
+    && (leb (length b) longest
+    && (sameList (take countPlace b) magic && (leb fewestSections (sectionCount b) && leb (sectionCount b) mostSections)))
 
 -- Check 3 (SPEC 8.2): sections of whole points and whole runs.
 abbrev pub whole : List ℕ → Bool
@@ -96,9 +113,17 @@ sectionPoints b k = pointsOf (section b k)
 abbrev pub fileState : List ℕ → State
 fileState b = record { pins = sectionPoints b 0; steiner = sectionPoints b 1 }
 
+-- Whether a file has a section of kinds.
+abbrev pub hasKinds : List ℕ → Bool
+hasKinds b = ltb kindsPlace (sectionCount b)
+
+-- The kinds of its pins: those of that section, or sensors only (SPEC 7.8).
+abbrev pub fileKinds : List ℕ → List ℕ
+fileKinds b = if (hasKinds b) (λ _. section b kindsPlace) (λ _. sensors (fileState b .pins))
+
 -- And the contents.
 abbrev pub fileContents : List ℕ → Contents
-fileContents b = ofState (fileState b)
+fileContents b = withKinds (fileState b) (fileKinds b)
 
 -- A plain file has no taps and no runs (SPEC 7.4).
 abbrev pub plain : List ℕ → Bool
@@ -108,6 +133,13 @@ plain b = eqb (size b 1) 0 && eqb (size b 2) 0
 -- so they are the runs section of the state.
 abbrev pub holdsDeck : List ℕ → State → Bool
 holdsDeck b s = plain b || (valid s && sameList (section b 2) (runSection s))
+
+-- Check 15 (SPEC 8.2): a section of kinds has one byte for each of n pins, each of them a kind, and not sensors alone.
+abbrev pub allKinds : List ℕ → ℕ → Bool
+allKinds kinds n = eqb (length kinds) n && (all isKind kinds && not (sensorsOnly kinds))
+
+abbrev pub showsKinds : List ℕ → Bool
+showsKinds b = if (hasKinds b) (λ _. allKinds (section b kindsPlace) (length (fileState b .pins))) (λ _. true)
 
 -- The checks of a file, in their order (SPEC 8.2); 2 is `laidOut`, 4 and 5 are the number of pins and `placed`.
 abbrev pub fileChecks : List ℕ → List Check
@@ -119,7 +151,12 @@ fileChecks b =
     ∷ check 4 (λ _. leb (length (s .pins)) maxPins)
     ∷ check 5 (λ _. placed s)
     ∷ check 6 (λ _. holdsDeck b s)
+    ∷ check 15 (λ _. showsKinds b)
     ∷ []
+
+-- The numbers of these checks.
+abbrev pub FileNumber : ℕ → Type 0
+FileNumber n = ((1 ≤ n) × (n ≤ 6)) ⊎ (n ≡ 15)
 
 -- The deck of the file where no check failed, else the refusal.
 unfoldable pub readBy : Contents → Option ℕ → Read

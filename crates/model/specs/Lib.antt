@@ -3,8 +3,10 @@ pub mod CallRefusal
 pub mod Choice
 pub mod Contents
 pub mod Decks
+pub mod DeviceKinds
 pub mod Example
 pub mod File
+pub mod KindsFollow
 pub mod Listing
 pub mod OctantClaim
 pub mod Question
@@ -15,6 +17,7 @@ pub mod Session
 pub mod State
 pub mod Table
 pub mod TableFiles
+pub mod TableKinds
 pub mod TableMore
 pub mod TableThreePins
 pub mod Tree

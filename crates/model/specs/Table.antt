@@ -87,7 +87,7 @@ deck7 =
 unfoldable pub deck8 : DeckRow
 deck8 =
     starting (point 0 5 ∷ point 5 0 ∷ point 5 10 ∷ point 10 5 ∷ [])
-    (runToEnd ∷ add (point 5 5) ∷ [])
+    (runToEnd ∷ add (point 5 5) 0 ∷ [])
     (trace (rounds 1 ∷ done ∷ [])
     (30 ∷ 20 ∷ 20 ∷ [])
     (holding (point 0 5 ∷ point 5 0 ∷ point 5 5 ∷ point 5 10 ∷ point 10 5 ∷ []) [])

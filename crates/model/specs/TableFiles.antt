@@ -1,4 +1,4 @@
--- Rows of the table on files: a file for each refusal that fails the next check too, files that just miss each check, and a file taken
+-- Rows of the table on files of three sections: a file for each refusal that fails the next check too, files that just miss each check, and a file taken
 -- in both forms. The first line of a list is the header: its four letters, the section count, three pairs of offset and length. The next
 -- has the sections.
 use mathlib.Core.List.{[], _∷_, _++_}
@@ -16,20 +16,20 @@ otherStart =
     ++ (0 ∷ []))
     (refusal 1)
 
--- 1: a section count of 4.
+-- 1: a section count of 5.
 unfoldable pub otherCount : TableRow
 otherCount =
     fileRow
-    (bytes "DECK" ++ (4 ∷ 0 ∷ []) ++ pair 30 8 ++ pair 38 0 ++ pair 38 0
+    (bytes "DECK" ++ (5 ∷ 0 ∷ []) ++ pair 30 8 ++ pair 38 0 ++ pair 38 0
     ++ (0 ∷ 0 ∷ 0 ∷ 0 ∷ 0 ∷ 0 ∷ 1 ∷ 0 ∷ []))
     (refusal 1)
 
--- 1: 785 bytes, of which 755 are pins.
+-- 1: 857 bytes, of which 827 are pins.
 unfoldable pub tooLong : TableRow
 tooLong =
     fileRow
-    (bytes "DECK" ++ (3 ∷ 0 ∷ []) ++ pair 30 755 ++ pair 785 0 ++ pair 785 0
-    ++ replicate 755 0)
+    (bytes "DECK" ++ (3 ∷ 0 ∷ []) ++ pair 30 827 ++ pair 857 0 ++ pair 857 0
+    ++ replicate 827 0)
     (refusal 1)
 
 -- 2: the second section does not start where the first ends; the first has three bytes.

@@ -9,7 +9,7 @@ use Rattle.model.specs.Decks.{DeckRow, starting, fromEmpty, trace, point
 -- A round that sweeps out its own tap, and whose fall, 2, is above its saving, 1.
 unfoldable pub sweptByItsRound : DeckRow
 sweptByItsRound =
-    fromEmpty (add (point 0 3) ∷ add (point 2 1) ∷ add (point 0 0) ∷ runToEnd ∷ add (point 1 2) ∷ withdraw (point 0 0) ∷ oneRound ∷ [])
+    fromEmpty (add (point 0 3) 0 ∷ add (point 2 1) 0 ∷ add (point 0 0) 0 ∷ runToEnd ∷ add (point 1 2) 0 ∷ withdraw (point 0 0) ∷ oneRound ∷ [])
     (trace (done ∷ done ∷ done ∷ rounds 1 ∷ done ∷ done ∷ answered (tap (point 0 2) 2) ∷ [])
     (0 ∷ 0 ∷ 4 ∷ 6 ∷ 5 ∷ 7 ∷ 6 ∷ 4 ∷ [])
     (holding (point 0 3 ∷ point 1 2 ∷ point 2 1 ∷ []) [])
@@ -18,7 +18,8 @@ sweptByItsRound =
 -- A sweep whose order matters: the lowest of (1,1) and (3,1) goes, and then (3,1) stays.
 unfoldable pub sweepOrder : DeckRow
 sweepOrder =
-    fromEmpty (add (point 2 1) ∷ add (point 1 0) ∷ add (point 4 1) ∷ add (point 3 0) ∷ add (point 0 2) ∷ runToEnd ∷ add (point 2 2) ∷ withdraw (point 2 1) ∷ [])
+    fromEmpty (add (point 2 1) 0 ∷ add (point 1 0) 0 ∷ add (point 4 1) 0 ∷ add (point 3 0) 0 ∷ add (point 0 2) 0 ∷ runToEnd
+    ∷ add (point 2 2) 0 ∷ withdraw (point 2 1) ∷ [])
     (trace (done ∷ done ∷ done ∷ done ∷ done ∷ rounds 2 ∷ done ∷ done ∷ [])
     (0 ∷ 0 ∷ 2 ∷ 4 ∷ 6 ∷ 9 ∷ 7 ∷ 8 ∷ 8 ∷ [])
     (holding (point 0 2 ∷ point 1 0 ∷ point 2 2 ∷ point 3 0 ∷ point 4 1 ∷ []) (point 3 1 ∷ []))
@@ -28,7 +29,7 @@ sweepOrder =
 -- A candidate on a line that only a tap has, after a withdrawal.
 unfoldable pub lineOfTap : DeckRow
 lineOfTap =
-    fromEmpty (add (point 0 2) ∷ add (point 4 1) ∷ add (point 2 0) ∷ runToEnd ∷ add (point 3 2) ∷ withdraw (point 2 0) ∷ oneRound ∷ [])
+    fromEmpty (add (point 0 2) 0 ∷ add (point 4 1) 0 ∷ add (point 2 0) 0 ∷ runToEnd ∷ add (point 3 2) 0 ∷ withdraw (point 2 0) ∷ oneRound ∷ [])
     (trace (done ∷ done ∷ done ∷ rounds 1 ∷ done ∷ done ∷ answered (tap (point 2 2) 2) ∷ [])
     (0 ∷ 0 ∷ 5 ∷ 7 ∷ 6 ∷ 8 ∷ 7 ∷ 5 ∷ [])
     (holding (point 0 2 ∷ point 3 2 ∷ point 4 1 ∷ []) [])
@@ -37,7 +38,7 @@ lineOfTap =
 -- A removal after which another tap has two runs, in the tree of the remaining points.
 unfoldable pub secondRemoval : DeckRow
 secondRemoval =
-    fromEmpty (add (point 1 0) ∷ add (point 4 1) ∷ add (point 0 2) ∷ add (point 3 3) ∷ runToEnd ∷ withdraw (point 4 1) ∷ [])
+    fromEmpty (add (point 1 0) 0 ∷ add (point 4 1) 0 ∷ add (point 0 2) 0 ∷ add (point 3 3) 0 ∷ runToEnd ∷ withdraw (point 4 1) ∷ [])
     (trace (done ∷ done ∷ done ∷ done ∷ rounds 2 ∷ done ∷ [])
     (0 ∷ 0 ∷ 4 ∷ 7 ∷ 10 ∷ 8 ∷ 7 ∷ [])
     (holding (point 0 2 ∷ point 1 0 ∷ point 3 3 ∷ []) [])
@@ -46,7 +47,7 @@ secondRemoval =
 -- A tap leaves, and a run shorter than that between its two neighbours joins the halves.
 unfoldable pub anotherRunJoins : DeckRow
 anotherRunJoins =
-    fromEmpty (add (point 2 0) ∷ add (point 1 1) ∷ add (point 0 0) ∷ oneRound ∷ add (point 2 1) ∷ withdraw (point 0 0) ∷ [])
+    fromEmpty (add (point 2 0) 0 ∷ add (point 1 1) 0 ∷ add (point 0 0) 0 ∷ oneRound ∷ add (point 2 1) 0 ∷ withdraw (point 0 0) ∷ [])
     (trace (done ∷ done ∷ done ∷ answered (tap (point 1 0) 1) ∷ done ∷ done ∷ [])
     (0 ∷ 0 ∷ 2 ∷ 4 ∷ 3 ∷ 4 ∷ 2 ∷ [])
     (holding (point 1 1 ∷ point 2 0 ∷ point 2 1 ∷ []) [])
@@ -55,7 +56,7 @@ anotherRunJoins =
 -- Pins added in falling order: the tree is that of the set.
 unfoldable pub orderOfEntry : DeckRow
 orderOfEntry =
-    fromEmpty (add (point 1 2) ∷ add (point 0 1) ∷ add (point 1 0) ∷ oneRound ∷ add (point 0 0) ∷ [])
+    fromEmpty (add (point 1 2) 0 ∷ add (point 0 1) 0 ∷ add (point 1 0) 0 ∷ oneRound ∷ add (point 0 0) 0 ∷ [])
     (trace (done ∷ done ∷ done ∷ answered (tap (point 1 1) 1) ∷ done ∷ [])
     (0 ∷ 0 ∷ 2 ∷ 4 ∷ 3 ∷ 4 ∷ [])
     (holding (point 0 0 ∷ point 0 1 ∷ point 1 0 ∷ point 1 2 ∷ []) [])
@@ -64,7 +65,7 @@ orderOfEntry =
 -- Two candidates of equal greatest saving, (0,1) and (1,0): the lower.
 unfoldable pub equalSavings : DeckRow
 equalSavings =
-    fromEmpty (add (point 1 1) ∷ add (point 0 0) ∷ add (point 2 0) ∷ add (point 0 2) ∷ oneRound ∷ [])
+    fromEmpty (add (point 1 1) 0 ∷ add (point 0 0) 0 ∷ add (point 2 0) 0 ∷ add (point 0 2) 0 ∷ oneRound ∷ [])
     (trace (done ∷ done ∷ done ∷ done ∷ answered (tap (point 0 1) 1) ∷ [])
     (0 ∷ 0 ∷ 2 ∷ 4 ∷ 6 ∷ 5 ∷ [])
     (holding (point 0 0 ∷ point 0 2 ∷ point 1 1 ∷ point 2 0 ∷ []) (point 0 1 ∷ []))
@@ -94,7 +95,7 @@ lowerEndFirst =
 unfoldable pub octantBorder : DeckRow
 octantBorder =
     starting (record { x = pos 2; y = negsuc 1 } ∷ point 2 2 ∷ point 5 0 ∷ [])
-    (add (point 0 0) ∷ [])
+    (add (point 0 0) 0 ∷ [])
     (trace (done ∷ [])
     (9 ∷ 13 ∷ [])
     (holding (point 0 0 ∷ record { x = pos 2; y = negsuc 1 } ∷ point 2 2 ∷ point 5 0 ∷ []) [])
@@ -104,8 +105,8 @@ octantBorder =
 unfoldable pub refusals : DeckRow
 refusals =
     starting (point 0 0 ∷ point 5 8 ∷ point 10 0 ∷ [])
-    (oneRound ∷ add (point 30001 0) ∷ add (record { x = pos 0; y = negsuc 30000 }) ∷ add (point 5 8) ∷ withdraw (point 1 1)
-    ∷ withdraw (point 5 0) ∷ withdraw (point 40000 0) ∷ add (record { x = pos 30000; y = negsuc 29999 }) ∷ [])
+    (oneRound ∷ add (point 30001 0) 0 ∷ add (record { x = pos 0; y = negsuc 30000 }) 0 ∷ add (point 5 8) 0 ∷ withdraw (point 1 1)
+    ∷ withdraw (point 5 0) ∷ withdraw (point 40000 0) ∷ add (record { x = pos 30000; y = negsuc 29999 }) 0 ∷ [])
     (trace (answered (tap (point 5 0) 5) ∷ refused 7 ∷ refused 7 ∷ refused 8 ∷ refused 9 ∷ refused 9 ∷ refused 9 ∷ done ∷ [])
     (23 ∷ 18 ∷ 18 ∷ 18 ∷ 18 ∷ 18 ∷ 18 ∷ 18 ∷ 60008 ∷ [])
     (holding (point 0 0 ∷ point 5 8 ∷ point 10 0 ∷ record { x = pos 30000; y = negsuc 29999 } ∷ []) (point 5 0 ∷ []))

@@ -8,7 +8,7 @@ use Rattle.model.specs.Decks.{DeckRow, TableRow, starting, fromEmpty, tr
 -- Three pins on a line: 10 cm from the first to the last, and no tap.
 unfoldable pub threeOnALine : DeckRow
 threeOnALine =
-    fromEmpty (add (point 10 3) ∷ add (point 0 3) ∷ add (point 4 3) ∷ runToEnd ∷ [])
+    fromEmpty (add (point 10 3) 0 ∷ add (point 0 3) 0 ∷ add (point 4 3) 0 ∷ runToEnd ∷ [])
     (trace (done ∷ done ∷ done ∷ rounds 0 ∷ [])
     (0 ∷ 0 ∷ 10 ∷ 10 ∷ 10 ∷ [])
     (holding (point 0 3 ∷ point 4 3 ∷ point 10 3 ∷ []) [])
@@ -17,7 +17,7 @@ threeOnALine =
 -- Two of them share an x: the tap stands on it, at the y of the third.
 unfoldable pub twoOnOneX : DeckRow
 twoOnOneX =
-    fromEmpty (add (point 0 10) ∷ add (point 0 0) ∷ add (point 7 4) ∷ runToEnd ∷ [])
+    fromEmpty (add (point 0 10) 0 ∷ add (point 0 0) 0 ∷ add (point 7 4) 0 ∷ runToEnd ∷ [])
     (trace (done ∷ done ∷ done ∷ rounds 1 ∷ [])
     (0 ∷ 0 ∷ 10 ∷ 21 ∷ 17 ∷ [])
     (holding (point 0 0 ∷ point 0 10 ∷ point 7 4 ∷ []) (point 0 4 ∷ []))
@@ -26,7 +26,7 @@ twoOnOneX =
 -- The middle point, with the middle x and the middle y of the three, is a pin: no tap.
 unfoldable pub middleIsPin : DeckRow
 middleIsPin =
-    fromEmpty (add (point 4 6) ∷ add (point 9 11) ∷ add (point 0 0) ∷ runToEnd ∷ [])
+    fromEmpty (add (point 4 6) 0 ∷ add (point 9 11) 0 ∷ add (point 0 0) 0 ∷ runToEnd ∷ [])
     (trace (done ∷ done ∷ done ∷ rounds 0 ∷ [])
     (0 ∷ 0 ∷ 10 ∷ 20 ∷ 20 ∷ [])
     (holding (point 0 0 ∷ point 4 6 ∷ point 9 11 ∷ []) [])

@@ -1,6 +1,7 @@
 // The points of a deck: its pins and its Steiner points (taps) as codes (SPEC 5.1).
 pub mod change;
 pub mod check;
+pub mod kinds;
 
 ghost use mathlib.Core.Path.{_≡_};
 ghost use Rattle.model.specs.State as state;

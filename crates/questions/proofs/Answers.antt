@@ -28,7 +28,7 @@ use Rattle.tree.specs.Keys.{keyGraph}
 use Rattle.arrays.specs.Array.{indexOf}
 use Rattle.plane.specs.Code.{pointOf, isCode}
 use Rattle.working.specs.declared.Working.{Working}
-use Rattle.working.specs.InOrder.{InOrder, stateOf, contentsOf}
+use Rattle.working.specs.InOrder.{InOrder, stateOf}
 use Rattle.plane.proofs.codes.Sets.{points-has}
 use Rattle.working.proofs.InOrder.{all-codes, all-points, arranged-placed}
 use Rattle.points.proofs.Coded.{pins-count, steiner-count}
@@ -64,7 +64,8 @@ module _ (w : Working) (p : InOrder w) where
       ap (has ltb k) (p .codes) ∙ points-has k t _ (all-codes (w .points) (p .arranged))
       ∙ ap (has lower (pointOf k)) (all-points (w .points) (p .arranged))
 
-  pub counts-answer : Counts (w .points .npins) (w .points .nsteiner) (w .nkeys) ≡ countsAnswer (contentsOf w)
+  pub counts-answer : let s = stateOf w in
+      Counts (w .points .npins) (w .points .nsteiner) (w .nkeys) ≡ Counts (question.pinCount s) (question.steinerCount s) (question.edgeCount s)
   counts-answer = λ i. Counts (sym (pins-count (w .points) (p .arranged)) i) (sym (steiner-count (w .points) (p .arranged)) i) (edge-count w p i)
 
   pub degree-none : (k : ℕ) → T (isCode k) → has ltb k (take (w .npoints) (w .codes)) ≡ false → 0 ≡ question.edgeCountAt (pointOf k) (stateOf w)

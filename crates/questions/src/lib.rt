@@ -1,9 +1,10 @@
-// The questions on a working form in order.
+// The questions on a deck in working form.
 use plane::codes::Located;
 use plane::codes::locate;
 use plane::codes::x_of;
 use plane::codes::y_of;
 use working::Working;
+use working::deck::WorkingDeck;
 use working::edges::CodedEdge;
 use working::edges::edge_numbers;
 ghost use mathlib.Core.Path.{_≡_};
@@ -11,7 +12,8 @@ ghost use lib.Dec.{T};
 ghost use Rattle.model.specs.Contents.{ValidContents};
 ghost use Rattle.model.specs.Question as question;
 ghost use Rattle.plane.specs.Code.{pointOf, isCode};
-ghost use Rattle.working.specs.InOrder.{InOrder, stateOf, contentsOf};
+ghost use Rattle.working.specs.InOrder.{InOrder, stateOf};
+ghost use Rattle.working.specs.WorkingDeck.{contentsOf};
 ghost use Rattle.questions.specs.Answers.{lengthAnswer, countsAnswer, codedAnswer, edgeAtAnswer, degreeAnswer};
 
 // What a question answers: a refusal by its number; the length; the counts of pins, Steiner points and edges; an edge by its
@@ -55,45 +57,45 @@ fn degree_of(w: Working, k: u64) -> usize
 }
 
 // Returns the length of the tree.
-pub fn length(w: Working) -> Answer
-    requires { ⌜ InOrder w ⌝ }
-    ensures { λ r. ⌜ r ≡ lengthAnswer (contentsOf w) ⌝ }
+pub fn length(d: WorkingDeck) -> Answer
+    requires { ⌜ InOrder (d .form) ⌝ }
+    ensures { λ r. ⌜ r ≡ lengthAnswer (contentsOf d) ⌝ }
 {
-    Answer::Length(rounds::length_of(w))
+    Answer::Length(rounds::length_of(d.form))
 }
 
 // Returns the numbers of pins, Steiner points and edges.
-pub fn counts(w: Working) -> Answer
-    requires { ⌜ InOrder w ⌝ }
-    ensures { λ r. ⌜ r ≡ countsAnswer (contentsOf w) ⌝ }
+pub fn counts(d: WorkingDeck) -> Answer
+    requires { ⌜ InOrder (d .form) ⌝ }
+    ensures { λ r. ⌜ r ≡ countsAnswer (contentsOf d) ⌝ }
 {
     Answer::Counts(
-        w.points.npins as u64,
-        w.points.nsteiner as u64,
-        w.nkeys as u64,
+        d.form.points.npins as u64,
+        d.form.points.nsteiner as u64,
+        d.form.nkeys as u64,
     )
 }
 
 // Returns the edge at a place of the listing order, counted from 0, or that there is none.
-pub fn edge_at(w: Working, i: usize) -> Answer
-    requires { ⌜ InOrder w ⌝ }
-    ensures { λ r. ⌜ r ≡ edgeAtAnswer i (contentsOf w) ⌝ }
+pub fn edge_at(d: WorkingDeck, i: usize) -> Answer
+    requires { ⌜ InOrder (d .form) ⌝ }
+    ensures { λ r. ⌜ r ≡ edgeAtAnswer i (contentsOf d) ⌝ }
 {
-    if w.nkeys <= i {
+    if d.form.nkeys <= i {
         return Answer::NoEdge;
     }
-    let ends = edge_numbers(w);
-    answer_of(working::edges::edge_at(w, &ends, i))
+    let ends = edge_numbers(d.form);
+    answer_of(working::edges::edge_at(d.form, &ends, i))
 }
 
 // Returns how many edges a point has, 0 where it is not held.
-pub fn degree_at(w: Working, x: i32, y: i32) -> Answer
-    requires { ⌜ InOrder w ⌝ }
-    requires { ⌜ ValidContents (contentsOf w) ⌝ }
-    ensures { λ r. ⌜ r ≡ degreeAnswer (record { x = x; y = y }) (contentsOf w) ⌝ }
+pub fn degree_at(d: WorkingDeck, x: i32, y: i32) -> Answer
+    requires { ⌜ InOrder (d .form) ⌝ }
+    requires { ⌜ ValidContents (contentsOf d) ⌝ }
+    ensures { λ r. ⌜ r ≡ degreeAnswer (record { x = x; y = y }) (contentsOf d) ⌝ }
 {
     match locate(x, y) {
         Located::OutOfRange => Answer::Degree(0),
-        Located::At(k) => Answer::Degree(degree_of(w, k) as u64),
+        Located::At(k) => Answer::Degree(degree_of(d.form, k) as u64),
     }
 }

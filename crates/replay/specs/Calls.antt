@@ -15,18 +15,18 @@ use Rattle.model.specs.File.{Read, deck, readFile}
 unfoldable pub signed32 : ℕ → ℤ
 signed32 n = subℕ n (4294967296 * (n / 2147483648))
 
--- The call with this number: 0 adds and 1 withdraws at p, 2 is a round, 3 a run to the end. Any other number is no call.
-unfoldable pub callOf : ℕ → Point → List Call
-callOf n p =
-    if (eqb n 0) (λ _. add p ∷ [])
+-- The call with this number: 0 adds a device of kind k and 1 withdraws, at p; 2 is a round, 3 a run to the end. Any other number is no call.
+unfoldable pub callOf : ℕ → ℕ → Point → List Call
+callOf n k p =
+    if (eqb n 0) (λ _. add p k ∷ [])
     (λ _. if (eqb n 1) (λ _. withdraw p ∷ [])
     (λ _. if (eqb n 2) (λ _. oneRound ∷ [])
     (λ _. if (eqb n 3) (λ _. runToEnd ∷ []) (λ _. []))))
 
--- The twelve bytes of a call from place i on: its number, three bytes that are not looked at (for a kind, a storey and nothing
--- yet), then x and y.
+-- The twelve bytes of a call from place i on: its number, a kind, two bytes that are not looked at (for a storey and for nothing yet), then x
+-- and y.
 unfoldable pub callAt : List ℕ → ℕ → List Call
-callAt b i = callOf (getD b i 0) (record { x = signed32 (number4 b (i + 4)); y = signed32 (number4 b (i + 8)) })
+callAt b i = callOf (getD b i 0) (getD b (i + 1) 0) (record { x = signed32 (number4 b (i + 4)); y = signed32 (number4 b (i + 8)) })
 
 -- The calls in the first n times twelve bytes.
 unfoldable pub firstCalls : ℕ → List ℕ → List Call

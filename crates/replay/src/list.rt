@@ -24,13 +24,13 @@ fn signed32(n: usize) -> i32
     (n - HALF) as i32 + -2147483648
 }
 
-// The deck after the call of this number at x, y. A number that is not known is no call.
-fn call(d: Deck, number: u8, x: i32, y: i32) -> Deck
-    ensures { λ r. ⌜ r ≡ deckAfter d (bytes.callOf number (record { x = x; y = y })) ⌝ }
+// The deck after the call of this number, with a kind and at x, y. A number that is not known is no call.
+fn call(d: Deck, number: u8, kind: u8, x: i32, y: i32) -> Deck
+    ensures { λ r. ⌜ r ≡ deckAfter d (bytes.callOf number kind (record { x = x; y = y })) ⌝ }
 {
     match number {
         0 => {
-            let o = d.add(x, y);
+            let o = d.add(x, y, kind as u32);
             o.next
         }
         1 => {
@@ -49,14 +49,14 @@ fn call(d: Deck, number: u8, x: i32, y: i32) -> Deck
     }
 }
 
-// The deck after the call in the twelve bytes from `at` on. The three bytes after its number are not looked at.
+// The deck after the call in the twelve bytes from `at` on. The two bytes after its number and its kind are not looked at.
 fn call_at(d: Deck, calls: &[u8], at: usize) -> Deck
     requires { ⌜ at + 12 ≤ length (now calls) ⌝ }
     ensures { λ r. ⌜ r ≡ deckAfter d (bytes.callAt (now (calls .entry)) at) ⌝ }
 {
     let x = signed32(number4(calls, at + 4));
     let y = signed32(number4(calls, at + 8));
-    call(d, calls[at], x, y)
+    call(d, calls[at], calls[at + 1], x, y)
 }
 
 // Returns the deck after all calls, each made on the deck of the one before. Fewer than twelve bytes at the end are no call.

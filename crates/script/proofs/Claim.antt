@@ -1,5 +1,5 @@
 -- Names with their numbers, and no others: a name is compared with each that there is.
-use mathlib.Core.Path.{_≡_, refl, sym, subst}
+use mathlib.Core.Path.{_≡_, refl, sym, _∙_, subst}
 use mathlib.Core.Logic.{_↔_, _⊎_, inl, inr, ⊎-elim}
 use mathlib.Core.Bool.{Bool, true, false, _||_}
 use mathlib.Core.List.{List, [], _∷_, List·Memᴰ·head as head, List·Memᴰ·tail as tail}
@@ -14,17 +14,18 @@ use Rattle.arrays.proofs.Test.{true-of, of-true, false-of}
 use Rattle.arrays.proofs.same.Alike.{same-eq, same-refl, same-not}
 use Rattle.words.specs.Hex.{isHex}
 use Rattle.words.specs.Arguments.{argumentsOf}
-use Rattle.words.specs.declared.arguments.Arguments.the-variants.{Zero, One, Two, Five}
+use Rattle.words.specs.declared.arguments.Arguments.the-variants.{Zero, One, Two, Three, Five}
 use Rattle.script.specs.declared.Command.the-variants.{Error, Read}
-use Rattle.script.specs.Commands.{ofOneWord, withSize, withNumber, withPair, areShort, withFive, ofNumbers, ofFile, withFile, ofWords}
+use Rattle.script.specs.Commands.{ofOneWord, withSize, withNumber, withPair, withKind, withThree, areShort, withFive, ofNumbers, ofFile, withFile}
+use Rattle.script.specs.Commands.{ofWords}
 use Rattle.script.specs.Claim.{OnlyNames, Names}
-use Rattle.script.proofs.Names.{alone-none, sized-none, number-negative, pair-none, five-none, five-long}
+use Rattle.script.proofs.Names.{alone-none, sized-none, number-negative, pair-none, kind-negative, three-add, three-none, five-none, five-long}
 
 -- A name that is not in a list is none of its names.
 not-same : (w n : List ℕ) → ¬ (w ≡ n) → sameList w n ≡ false
 not-same w n h = sym (same-not w n h)
 
--- With no number, one, two and five.
+-- With no number, one, two, three and five.
 none-alone : OnlyNames (bytes "write" ∷ bytes "round" ∷ bytes "finish" ∷ bytes "length" ∷ bytes "counts" ∷ bytes "list" ∷ []) Zero
 unfolding ofNumbers
 none-alone w n =
@@ -49,6 +50,19 @@ unfolding ofNumbers
 none-two x y w n =
     sym (pair-none w x y (not-same w (bytes "add") (λ e. n (head e))) (not-same w (bytes "withdraw") (λ e. n (tail (head e))))
     (not-same w (bytes "degree") (λ e. n (tail (tail (head e))))) (not-same w (bytes "octant") (λ e. n (tail (tail (tail (head e)))))))
+
+none-three : (x y z : ℤ) → OnlyNames (bytes "add" ∷ []) (Three x y z)
+unfolding ofNumbers
+none-three x y z w n = sym (three-none x y z w (not-same w (bytes "add") (λ e. n (head e))))
+
+-- A negative kind, whatever the name is.
+none-kind : (x y : ℤ) (k : ℕ) → OnlyNames [] (Three x y (negsuc k))
+unfolding ofNumbers
+none-kind x y k w n = go (sameList w (bytes "add")) refl
+  where
+    go : (b : Bool) → sameList w (bytes "add") ≡ b → withThree w x y (negsuc k) ≡ Error
+    go true e = sym (kind-negative x y (negsuc k) refl ∙ three-add x y (negsuc k) w e)
+    go false e = sym (three-none x y (negsuc k) w e)
 
 none-five : (x y u v p : ℤ) → OnlyNames (bytes "arrow" ∷ []) (Five x y u v p)
 unfolding ofNumbers
@@ -86,7 +100,7 @@ unfolding ofWords
 other-name w l n = rw (not-same w (bytes "read") n) refl
 
 pub names : Names
-unfolding sameList ofOneWord withSize withNumber withPair withFive ofNumbers ofWords
+unfolding sameList ofOneWord withSize withNumber withPair withKind withThree withFive ofNumbers ofWords
 names =
     record {
       write = refl;
@@ -106,7 +120,9 @@ names =
       degree = λ x y. refl;
       octant = λ x y. refl;
       twoNumbers = none-two;
-      threeNumbers = λ x y z w n. refl;
+      addKind = λ x y k. refl;
+      threeNumbers = none-three;
+      threeNegative = none-kind;
       fourNumbers = λ x y u v w n. refl;
       arrow = λ x y u v p t. rw (true-of (areShort x y u v) t) refl;
       arrowBeyond = none-beyond;

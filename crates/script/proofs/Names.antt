@@ -13,11 +13,11 @@ use Rattle.script.specs.declared.Direction.the-variants.{Octant, Arrow, 
 use Rattle.script.specs.declared.Command.the-variants as command
 use Rattle.arrays.specs.Text.{bytes}
 use Rattle.arrays.specs.Same.{sameList}
-use Rattle.script.specs.Commands.{ofOneWord, withSize, withNumber, withPair, areShort, withFive}
+use Rattle.script.specs.Commands.{ofOneWord, withSize, withNumber, withPair, withKind, withThree, areShort, withFive}
 
 -- The names of one word.
 module _ (w : List ℕ) where
-  pub alone-write : sameList w (bytes "write") ≡ true → Write 784 ≡ ofOneWord w
+  pub alone-write : sameList w (bytes "write") ≡ true → Write 856 ≡ ofOneWord w
   unfolding ofOneWord
   alone-write a = rw a refl
 
@@ -82,7 +82,7 @@ module _ (w : List ℕ) (i : ℤ) where
 
 -- Those with two numbers.
 module _ (w : List ℕ) (i j : ℤ) where
-  pub pair-add : sameList w (bytes "add") ≡ true → Call (Add i j) ≡ withPair w i j
+  pub pair-add : sameList w (bytes "add") ≡ true → Call (Add i j 0) ≡ withPair w i j
   unfolding withPair
   pair-add a = rw a refl
 
@@ -104,6 +104,24 @@ module _ (w : List ℕ) (i j : ℤ) where
         pub pair-none : sameList w (bytes "octant") ≡ false → Error ≡ withPair w i j
         unfolding withPair
         pair-none d = rw (a, b, c, d) refl
+
+-- Those with three numbers.
+module _ (x y kind : ℤ) where
+  pub kind-negative : ltZ kind (pos 0) ≡ true → Error ≡ withKind x y kind
+  unfolding withKind
+  kind-negative e = if-negative (λ (k : ℕ). Call (Add x y k)) Error kind e
+
+  pub kind-natural : ltZ kind (pos 0) ≡ false → Call (Add x y (natAbs kind)) ≡ withKind x y kind
+  unfolding withKind
+  kind-natural e = if-natural (λ (k : ℕ). Call (Add x y k)) Error kind e
+
+  pub three-add : (w : List ℕ) → sameList w (bytes "add") ≡ true → withKind x y kind ≡ withThree w x y kind
+  unfolding withThree
+  three-add w a = rw a refl
+
+  pub three-none : (w : List ℕ) → sameList w (bytes "add") ≡ false → Error ≡ withThree w x y kind
+  unfolding withThree
+  three-none w a = rw a refl
 
 -- Those with five numbers.
 module _ (w : List ℕ) (x y u v pitch : ℤ) where

@@ -24,7 +24,7 @@ OnlyNames names a = (w : List ℕ) → ¬ List·Memᴰ w names → ofNumbers w a
 
 pub record Names : Type 0 where
   -- no number
-  pub write : ofNumbers (bytes "write") Zero ≡ Write 784
+  pub write : ofNumbers (bytes "write") Zero ≡ Write 856
   pub round : ofNumbers (bytes "round") Zero ≡ Call Round
   pub finish : ofNumbers (bytes "finish") Zero ≡ Call Finish
   pub length : ofNumbers (bytes "length") Zero ≡ Ask Length
@@ -38,13 +38,16 @@ pub record Names : Type 0 where
   pub oneNumber : (z : ℤ) → OnlyNames (bytes "write" ∷ bytes "run" ∷ bytes "glyph" ∷ []) (One z)
   pub oneNegative : (n : ℕ) → OnlyNames (bytes "glyph" ∷ []) (One (negsuc n))
   -- two
-  pub add : (x y : ℤ) → ofNumbers (bytes "add") (Two x y) ≡ Call (Add x y)
+  pub add : (x y : ℤ) → ofNumbers (bytes "add") (Two x y) ≡ Call (Add x y 0)
   pub withdraw : (x y : ℤ) → ofNumbers (bytes "withdraw") (Two x y) ≡ Call (Withdraw x y)
   pub degree : (x y : ℤ) → ofNumbers (bytes "degree") (Two x y) ≡ Ask (Degree x y)
   pub octant : (x y : ℤ) → ofNumbers (bytes "octant") (Two x y) ≡ Direct (Octant x y)
   pub twoNumbers : (x y : ℤ) → OnlyNames (bytes "add" ∷ bytes "withdraw" ∷ bytes "degree" ∷ bytes "octant" ∷ []) (Two x y)
-  -- three and four
-  pub threeNumbers : (x y z : ℤ) → OnlyNames [] (Three x y z)
+  -- three: `add` with a kind that is not negative
+  pub addKind : (x y : ℤ) (k : ℕ) → ofNumbers (bytes "add") (Three x y (pos k)) ≡ Call (Add x y k)
+  pub threeNumbers : (x y z : ℤ) → OnlyNames (bytes "add" ∷ []) (Three x y z)
+  pub threeNegative : (x y : ℤ) (n : ℕ) → OnlyNames [] (Three x y (negsuc n))
+  -- four
   pub fourNumbers : (x y u v : ℤ) → OnlyNames [] (Four x y u v)
   -- five: `arrow`, the first four of 16 bits
   pub arrow : (x y u v pitch : ℤ) → T (areShort x y u v) → ofNumbers (bytes "arrow") (Five x y u v pitch) ≡ Direct (Arrow x y u v pitch)

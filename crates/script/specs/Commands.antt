@@ -26,7 +26,7 @@ abbrev pub lineLimit : ℕ
 lineLimit = 4000
 
 abbrev pub longestFile : ℕ
-longestFile = 784
+longestFile = 856
 
 -- One word: `write`, `round`, `finish`, `length`, `counts`, `list`. The capacity of `write` is then that of the longest file.
 unfoldable pub ofOneWord : List ℕ → Command
@@ -48,13 +48,20 @@ withSize w n =
 unfoldable pub withNumber : List ℕ → ℤ → Command
 withNumber w i = if (sameList w (bytes "glyph")) (λ _. Direct (Glyph i)) (λ _. ifNatural (withSize w) Error i)
 
--- A word and two numbers: `add X Y`, `withdraw X Y`, `degree X Y`, `octant DX DY`.
+-- A word and two numbers: `add X Y`, which adds a sensor, `withdraw X Y`, `degree X Y`, `octant DX DY`.
 unfoldable pub withPair : List ℕ → ℤ → ℤ → Command
 withPair w i j =
-    if (sameList w (bytes "add")) (λ _. Call (Add i j))
+    if (sameList w (bytes "add")) (λ _. Call (Add i j 0))
     (λ _. if (sameList w (bytes "withdraw")) (λ _. Call (Withdraw i j))
     (λ _. if (sameList w (bytes "degree")) (λ _. Ask (Degree i j))
     (λ _. if (sameList w (bytes "octant")) (λ _. Direct (Octant i j)) (λ _. Error))))
+
+-- A word and three numbers: `add X Y KIND`, of which the third is not negative.
+unfoldable pub withKind : ℤ → ℤ → ℤ → Command
+withKind x y kind = ifNatural (λ (k : ℕ). Call (Add x y k)) Error kind
+
+unfoldable pub withThree : List ℕ → ℤ → ℤ → ℤ → Command
+withThree w x y kind = if (sameList w (bytes "add")) (λ _. withKind x y kind) (λ _. Error)
 
 -- A number that 16 bits hold, and four of them.
 unfoldable pub isShort : ℤ → Bool
@@ -70,12 +77,12 @@ withFive w x y u v pitch =
     (λ _. if (areShort x y u v) (λ _. Direct (Arrow x y u v pitch)) (λ _. Error))
     (λ _. Error)
 
--- A name and the numbers behind it; no name has three or four.
+-- A name and the numbers behind it; no name has four.
 unfoldable pub ofNumbers : List ℕ → Arguments → Command
 ofNumbers w Zero = ofOneWord w
 ofNumbers w (One i) = withNumber w i
 ofNumbers w (Two i j) = withPair w i j
-ofNumbers w (Three i j k) = Error
+ofNumbers w (Three i j k) = withThree w i j k
 ofNumbers w (Four i j k l) = Error
 ofNumbers w (Five i j k l m) = withFive w i j k l m
 ofNumbers w Invalid = Error

@@ -9,14 +9,14 @@ use words::next;
 ghost use mathlib.Core.Path.{_≡_};
 ghost use Prim.Native.Nat.{_≤_};
 ghost use lib.ListN.{length, take, drop};
-ghost use Rattle.script.specs.Commands.{commandOf, ofWords, withFile, ofFile, ofNumbers, ofOneWord, withNumber, withSize, withPair, withFive};
-ghost use Rattle.script.specs.Commands.{isShort, areShort, fileInLine};
+ghost use Rattle.script.specs.Commands.{commandOf, ofWords, withFile, ofFile, ofNumbers, ofOneWord, withNumber, withSize, withPair, withThree, withFive};
+ghost use Rattle.script.specs.Commands.{withKind, isShort, areShort, fileInLine};
 ghost use Rattle.arrays.specs.Paste.{Pasted};
 ghost use Rattle.words.specs.Words.{wordsOf};
 
 // A call that changes the deck.
 pub enum Change {
-    Add(i32, i32),
+    Add(i32, i32, u32),
     Withdraw(i32, i32),
     Round,
     Finish,
@@ -55,7 +55,10 @@ pub enum Command {
 pub const LINE_LIMIT: usize = 4000;
 
 // The most bytes of a deck file, the capacity of `write` where none is given (SPEC 9.3). A line knows no deck, so the number stands here too.
-pub const LONGEST_FILE: u32 = 784;
+pub const LONGEST_FILE: u32 = 856;
+
+// The kind of a device where a line names none: a sensor.
+const SENSOR: u32 = 0;
 
 // The smallest and the largest number of 16 bits.
 const SMALLEST_SHORT: i32 = -32768;
@@ -136,7 +139,7 @@ fn of_numbers(name: &[u8], a: Arguments) -> Command
         Arguments::Zero => by_name(name),
         Arguments::One(i) => with_number(name, i),
         Arguments::Two(i, j) => with_pair(name, i, j),
-        Arguments::Three(i, j, k) => Command::Error,
+        Arguments::Three(i, j, k) => with_three(name, i, j, k),
         Arguments::Four(i, j, k, l) => Command::Error,
         Arguments::Five(i, j, k, l, m) => with_five(name, i, j, k, l, m),
         Arguments::Invalid => Command::Error,
@@ -199,7 +202,7 @@ fn with_pair(name: &[u8], i: i32, j: i32) -> Command
     ensures { λ r. ⌜ r ≡ withPair (now (name .entry)) i j ⌝ }
 {
     if same_bytes(name, b"add") {
-        return Command::Call(Change::Add(i, j));
+        return Command::Call(Change::Add(i, j, SENSOR));
     }
     if same_bytes(name, b"withdraw") {
         return Command::Call(Change::Withdraw(i, j));
@@ -209,6 +212,26 @@ fn with_pair(name: &[u8], i: i32, j: i32) -> Command
     }
     if same_bytes(name, b"octant") {
         return Command::Direct(Direction::Octant(i, j));
+    }
+    Command::Error
+}
+
+// The command `add` with a kind, which is not negative.
+fn with_kind(x: i32, y: i32, kind: i32) -> Command
+    ensures { λ r. ⌜ r ≡ withKind x y kind ⌝ }
+{
+    if kind < 0 {
+        return Command::Error;
+    }
+    Command::Call(Change::Add(x, y, kind as u32))
+}
+
+// The command of a word and three numbers.
+fn with_three(name: &[u8], x: i32, y: i32, kind: i32) -> Command
+    ensures { λ r. ⌜ r ≡ withThree (now (name .entry)) x y kind ⌝ }
+{
+    if same_bytes(name, b"add") {
+        return with_kind(x, y, kind);
     }
     Command::Error
 }

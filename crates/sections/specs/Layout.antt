@@ -4,7 +4,7 @@ use mathlib.Core.List.{List}
 use Prim.Native.Nat.{ℕ, suc, _+_, _%_, _≤_}
 use lib.ListN.{length}
 use Rattle.model.specs.Sections.{headerSize, sectionCount, offset, size, Follow}
-use Rattle.model.specs.File.{fewestSections, shortest, longest}
+use Rattle.model.specs.File.{fewestSections, mostSections, shortest, longest}
 
 -- Section k lies within the file, as its pair does, and consists of whole points.
 pub record PointSection (b : List ℕ) (k : ℕ) : Type 0 where
@@ -16,7 +16,8 @@ pub record PointSection (b : List ℕ) (k : ℕ) : Type 0 where
 pub record Sections (b : List ℕ) : Type 0 where
   pub long : shortest ≤ length b
   pub short : length b ≤ longest
-  pub count : sectionCount b ≡ fewestSections
+  pub fewest : fewestSections ≤ sectionCount b
+  pub most : sectionCount b ≤ mostSections
   pub follow : Follow b (headerSize (sectionCount b)) 0 (sectionCount b)
   pub whole₀ : size b 0 % 4 ≡ 0
   pub whole₁ : size b 1 % 4 ≡ 0

@@ -7,12 +7,12 @@ ghost use mathlib.Core.Path.{_≡_};
 ghost use Prim.Native.Nat.{suc, _≤_, _<_};
 ghost use lib.ListN.{length};
 ghost use Rattle.model.specs.Sections as model;
-ghost use Rattle.model.specs.File.{shortest, headed, whole, plain};
+ghost use Rattle.model.specs.File.{shortest, headed, whole, plain, hasKinds};
 
 // The bytes of an offset or a length, of a pair of them, and of the count.
 const NUMBER_SIZE: usize = 4;
 
-const PAIR_SIZE: usize = NUMBER_SIZE + NUMBER_SIZE;
+pub const PAIR_SIZE: usize = NUMBER_SIZE + NUMBER_SIZE;
 
 const COUNT_SIZE: usize = 2;
 
@@ -21,29 +21,37 @@ const COUNT: usize = 4;
 
 const PAIRS: usize = COUNT + COUNT_SIZE;
 
-// The sections by their numbers, and how many there are.
+// The sections by their numbers, and the fewest and the most that there are: a deck of sensors alone does without the kinds.
 pub const PINS: usize = 0;
 
 pub const STEINER: usize = 1;
 
 pub const EDGES: usize = 2;
 
-pub const SECTIONS: usize = 3;
+pub const KINDS: usize = 3;
+
+const FEWEST_SECTIONS: usize = 3;
+
+const MOST_SECTIONS: usize = 4;
 
 // The shortest file: the header, and nothing in its sections.
-pub const SHORTEST: usize = PAIRS + PAIR_SIZE * SECTIONS;
+pub const SHORTEST: usize = PAIRS + PAIR_SIZE * FEWEST_SECTIONS;
 
 // Bytes of a point and of an edge.
 pub const POINT_SIZE: usize = 4;
 
 pub const EDGE_SIZE: usize = 2;
 
-// The most points of a file, and the edges of their tree. The longest file has them all.
+// The most points of a file, and the edges of their tree. The longest file has them all, and a kind for each pin.
 const MOST_POINTS: usize = MAX_PINS + MAX_STEINER;
 
 const MOST_EDGES: usize = MOST_POINTS - 1;
 
-pub const LONGEST: usize = SHORTEST + MOST_POINTS * POINT_SIZE + MOST_EDGES * EDGE_SIZE;
+pub const LONGEST: usize = PAIRS
+    + PAIR_SIZE * MOST_SECTIONS
+    + MOST_POINTS * POINT_SIZE
+    + MOST_EDGES * EDGE_SIZE
+    + MAX_PINS;
 
 // Returns how many bytes the header of n sections has. The first section starts behind it.
 pub fn header_size(n: usize) -> usize
@@ -82,7 +90,8 @@ pub fn is_headed(b: &[u8]) -> bool
     if !arrays::same::same_bytes(&b[..COUNT], b"DECK") {
         return false;
     }
-    number2(b, COUNT) == SECTIONS
+    let n = number2(b, COUNT);
+    (FEWEST_SECTIONS <= n) & (n <= MOST_SECTIONS)
 }
 
 // Check 2 (SPEC 8.2): returns whether there are bytes for all the pairs, and the sections follow the header and one another, up to the end
@@ -119,6 +128,14 @@ pub fn is_whole(b: &[u8]) -> bool
         return false;
     }
     size(b, EDGES) % EDGE_SIZE == 0
+}
+
+// Returns whether the file has a section of kinds (SPEC 7.8).
+pub fn has_kinds(b: &[u8]) -> bool
+    requires { ⌜ shortest ≤ length (now b) ⌝ }
+    ensures { λ r. ⌜ r ≡ hasKinds (now (b .entry)) ⌝ }
+{
+    KINDS < number2(b, COUNT)
 }
 
 // Returns whether the file is plain (SPEC 7.4): it has no taps and no runs.

@@ -23,9 +23,9 @@ pub read-place : (k : ℕ) (n : List ℕ) (x y : ℤ) {l m : List ℤ} → SFits
 read-place k n x y f g e i = partsIn k n (toZ-ofZ w32 x f i ∷ toZ-ofZ w32 y g i ∷ e i)
 
 -- The outcome put is that of the call on the deck in the words.
-pub of-call : {d e : Deck} {a b : Call} {o : Outcome} {w : List ℕ} {p : Parts} → e ≡ d → b ≡ a → o ≡ called e b → Holds o w p
-    → Holds (called d a) w p
-of-call {w = w} {p = p} u v x h = subst (λ (o : Outcome). Holds o w p) (x ∙ (λ i. called (u i) (v i))) h
+pub of-call : {d e : Deck} {a b : Call} {o : Outcome} {w k : List ℕ} {p : Parts} → e ≡ d → b ≡ a → o ≡ called e b → Holds o w k p
+    → Holds (called d a) w k p
+of-call {w = w} {k = k} {p = p} u v x h = subst (λ (o : Outcome). Holds o w k p) (x ∙ (λ i. called (u i) (v i))) h
 
 -- The parts put are those of the answer to the question on that deck.
 pub of-question : {d e : Deck} {f g : Question} {a : Answer} {p q : Parts} → e ≡ d → g ≡ f → a ≡ asked e g → q ≡ partsOfAnswer a → p ≡ q

@@ -38,6 +38,6 @@ partsOfAnswer answer.NoEdge = oneNumber 8 0
 partsOfAnswer (answer.Degree n) = oneNumber 9 n
 
 -- The caller's arrays hold an outcome: the next deck, and the reply in its parts.
-pub record Holds (o : Outcome) (w : List ℕ) (p : Parts) : Type 0 where
-  pub next : deckIn w ≡ o .next
+pub record Holds (o : Outcome) (w kinds : List ℕ) (p : Parts) : Type 0 where
+  pub next : deckIn w kinds ≡ o .next
   pub reply : p ≡ partsOfReply (o .reply)

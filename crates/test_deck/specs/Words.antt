@@ -1,4 +1,4 @@
--- A deck as words, part behind part.
+-- A deck as words, part behind part, and the kinds of its pins.
 use mathlib.Core.List.{List, _∷_, _++_}
 use Prim.Native.Nat.{ℕ, _+_}
 use lib.ListN.{take, drop, getD}
@@ -31,9 +31,9 @@ endsWord = steinerCountWord + 1
 abbrev pub wordCount : ℕ
 wordCount = endsWord + endPlaces
 
--- The deck that stands in the words.
-abbrev pub deckIn : List ℕ → Deck
-deckIn w =
+-- The deck that stands in the words and the kinds.
+abbrev pub deckIn : List ℕ → List ℕ → Deck
+deckIn w kinds =
     record {
       points = record {
         pins = take pinPlaces w;
@@ -41,6 +41,7 @@ deckIn w =
         steiner = take steinerPlaces (drop steinerWord w);
         nsteiner = getD w steinerCountWord 0;
       };
+      kinds = kinds;
       ends = take endPlaces (drop endsWord w);
     }
 

@@ -1,8 +1,10 @@
 // Where the parts of a deck stand in the array of words that tests hand over. The entries here use this list, and the bindings in Rust include
 // this very file, so it keeps to what both languages read. The contracts hold it against the places of the definition (specs/Words.antt).
 
-// How many words there are for pins, for Steiner points and for the ends of edges.
+// How many words there are for pins, for Steiner points and for the ends of edges. The kinds of the pins are bytes beside the words.
 pub const PIN_PLACES: usize = 64;
+
+pub const KIND_PLACES: usize = PIN_PLACES;
 
 pub const STEINER_PLACES: usize = 128;
 

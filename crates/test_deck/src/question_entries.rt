@@ -1,6 +1,7 @@
-// The questions. The deck asked stands in the words and stays as it is; the answer is its kind.
+// The questions. The deck asked stands in the words and the kinds and stays as it is; the answer is its kind.
 use super::parts::parts_of_answer;
 use super::parts::put_parts;
+use super::places::KIND_PLACES;
 use super::places::WORDS;
 use super::words::deck_in;
 ghost use mathlib.Core.Path.{_≡_};
@@ -12,10 +13,10 @@ ghost use Rattle.test_deck.specs.Parts.{partsIn, partsOfAnswer};
 
 // Returns whether the deck is sound.
 #[no_mangle]
-pub extern "C" fn entry_is_valid(words: &[u64; WORDS]) -> bool
-    ensures { λ r. ⌜ r ≡ sound (deckIn (now (words .entry))) ⌝ }
+pub extern "C" fn entry_is_valid(words: &[u64; WORDS], kinds: &[u8; KIND_PLACES]) -> bool
+    ensures { λ r. ⌜ r ≡ sound (deckIn (now (words .entry)) (now (kinds .entry))) ⌝ }
 {
-    let d = deck_in(*words);
+    let d = deck_in(*words, *kinds);
     d.is_valid()
 }
 
@@ -23,13 +24,14 @@ pub extern "C" fn entry_is_valid(words: &[u64; WORDS]) -> bool
 #[no_mangle]
 pub extern "C" fn entry_length(
     words: &[u64; WORDS],
+    kinds: &[u8; KIND_PLACES],
     numbers: &mut [u64; 3],
     places: &mut [i32; 4],
 ) -> u8
     ensures { λ r. ⌜ partsIn r (now (numbers .exit)) (now (places .exit))
-        ≡ partsOfAnswer (asked (deckIn (now (words .entry))) ofLength) ⌝ }
+        ≡ partsOfAnswer (asked (deckIn (now (words .entry)) (now (kinds .entry))) ofLength) ⌝ }
 {
-    let d = deck_in(*words);
+    let d = deck_in(*words, *kinds);
     put_parts(parts_of_answer(d.length()), numbers, places)
 }
 
@@ -37,13 +39,14 @@ pub extern "C" fn entry_length(
 #[no_mangle]
 pub extern "C" fn entry_counts(
     words: &[u64; WORDS],
+    kinds: &[u8; KIND_PLACES],
     numbers: &mut [u64; 3],
     places: &mut [i32; 4],
 ) -> u8
     ensures { λ r. ⌜ partsIn r (now (numbers .exit)) (now (places .exit))
-        ≡ partsOfAnswer (asked (deckIn (now (words .entry))) ofCounts) ⌝ }
+        ≡ partsOfAnswer (asked (deckIn (now (words .entry)) (now (kinds .entry))) ofCounts) ⌝ }
 {
-    let d = deck_in(*words);
+    let d = deck_in(*words, *kinds);
     put_parts(parts_of_answer(d.counts()), numbers, places)
 }
 
@@ -52,13 +55,14 @@ pub extern "C" fn entry_counts(
 pub extern "C" fn entry_edge_at(
     i: usize,
     words: &[u64; WORDS],
+    kinds: &[u8; KIND_PLACES],
     numbers: &mut [u64; 3],
     places: &mut [i32; 4],
 ) -> u8
     ensures { λ r. ⌜ partsIn r (now (numbers .exit)) (now (places .exit))
-        ≡ partsOfAnswer (asked (deckIn (now (words .entry))) (ofEdge i)) ⌝ }
+        ≡ partsOfAnswer (asked (deckIn (now (words .entry)) (now (kinds .entry))) (ofEdge i)) ⌝ }
 {
-    let d = deck_in(*words);
+    let d = deck_in(*words, *kinds);
     put_parts(parts_of_answer(d.edge_at(i)), numbers, places)
 }
 
@@ -68,12 +72,13 @@ pub extern "C" fn entry_degree_at(
     x: i32,
     y: i32,
     words: &[u64; WORDS],
+    kinds: &[u8; KIND_PLACES],
     numbers: &mut [u64; 3],
     places: &mut [i32; 4],
 ) -> u8
     ensures { λ r. ⌜ partsIn r (now (numbers .exit)) (now (places .exit))
-        ≡ partsOfAnswer (asked (deckIn (now (words .entry))) (ofDegree (record { x = x; y = y }))) ⌝ }
+        ≡ partsOfAnswer (asked (deckIn (now (words .entry)) (now (kinds .entry))) (ofDegree (record { x = x; y = y }))) ⌝ }
 {
-    let d = deck_in(*words);
+    let d = deck_in(*words, *kinds);
     put_parts(parts_of_answer(d.degree_at(x, y)), numbers, places)
 }

@@ -1,6 +1,8 @@
-// A deck as an array of words, part behind part (places.rt). Any words are the words of some deck, sound or not.
+// A deck as an array of words, part behind part (places.rt), and the kinds of its pins. Any words and any bytes are those of some deck, sound or
+// not.
 use super::places::END_PLACES;
 use super::places::ENDS;
+use super::places::KIND_PLACES;
 use super::places::PIN_COUNT;
 use super::places::PIN_PLACES;
 use super::places::PINS;
@@ -14,9 +16,9 @@ use points::Points;
 ghost use mathlib.Core.Path.{_≡_};
 ghost use Rattle.test_deck.specs.Words.{deckIn, wordsOf};
 
-// Returns the deck that stands in the words.
-pub fn deck_in(words: [u64; WORDS]) -> Deck
-    ensures { λ r. ⌜ r ≡ deckIn words ⌝ }
+// Returns the deck that stands in the words and the kinds.
+pub fn deck_in(words: [u64; WORDS], kinds: [u8; KIND_PLACES]) -> Deck
+    ensures { λ r. ⌜ r ≡ deckIn words kinds ⌝ }
 {
     let mut pins = [0u64; PIN_PLACES];
     let mut steiner = [0u64; STEINER_PLACES];
@@ -32,17 +34,22 @@ pub fn deck_in(words: [u64; WORDS]) -> Deck
         steiner,
         nsteiner,
     };
-    Deck { points, ends }
+    Deck {
+        points,
+        kinds,
+        ends,
+    }
 }
 
-// Puts a deck into the words. Returns nothing.
-pub fn put_deck(d: Deck, words: &mut [u64; WORDS])
+// Puts a deck into the words and the kinds. Returns nothing.
+pub fn put_deck<'a>(d: Deck, words: &'a mut [u64; WORDS], kinds: &'a mut [u8; KIND_PLACES])
     ensures { λ _. ⌜ now (words .exit) ≡ wordsOf d ⌝ }
-    ensures { λ _. ⌜ deckIn (now (words .exit)) ≡ d ⌝ }
+    ensures { λ _. ⌜ deckIn (now (words .exit)) (now (kinds .exit)) ≡ d ⌝ }
 {
     let pins = d.points.pins;
     let steiner = d.points.steiner;
     let ends = d.ends;
+    let k = d.kinds;
     let mut w = [0u64; WORDS];
     put_numbers(&mut w, PINS, &pins);
     w[PIN_COUNT] = d.points.npins as u64;
@@ -50,4 +57,5 @@ pub fn put_deck(d: Deck, words: &mut [u64; WORDS])
     w[STEINER_COUNT] = d.points.nsteiner as u64;
     put_numbers(&mut w, ENDS, &ends);
     *words = w;
+    *kinds = k;
 }

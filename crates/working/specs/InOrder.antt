@@ -6,7 +6,6 @@ use lib.Dec.{ltb}
 use lib.ListN.{length, take}
 use Rattle.arrays.specs.Set.{union}
 use Rattle.model.specs.State.{State, points}
-use Rattle.model.specs.Contents.{Contents, ofState}
 use Rattle.tree.specs.Keys.{treeKeys}
 use Rattle.arrays.specs.Tab.{tab}
 use Rattle.tree.specs.Held.{held}
@@ -22,10 +21,6 @@ allCodes q = union ltb (take (q .npins) (q .pins)) (take (q .nsteiner) (q .stein
 -- The state of a working form.
 abbrev pub stateOf : Working → State
 stateOf w = coded.stateOf (w .points)
-
--- The contents of the deck that it is the form of.
-abbrev pub contentsOf : Working → Contents
-contentsOf w = ofState (stateOf w)
 
 -- A working form is in order: its codes are arranged, its points are those of its state, and its keys are those of their tree.
 pub record InOrder (w : Working) : Type 0 where

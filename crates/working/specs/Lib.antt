@@ -1,3 +1,4 @@
 pub mod Edges
 pub mod InOrder
 pub mod Weak
+pub mod WorkingDeck

@@ -6,9 +6,11 @@
 
 #ifdef REPLAY
 #include "replay.h"
+#define LONGEST REPLAY_LONGEST
 #define STACK REPLAY_STACK
 #else
 #include "planner.h"
+#define LONGEST PLANNER_LONGEST
 #define STACK PLANNER_STACK
 #endif
 
@@ -17,9 +19,9 @@ static size_t length;
 
 static void *call(void *answer)
 {
-    static uint8_t out[784];
+    static uint8_t out[LONGEST];
 #ifdef REPLAY
-    static const uint8_t calls[36] = {2, [12] = 3, [24] = 2};
+    static const uint8_t calls[48] = {2, [12] = 3, [24] = 2, [36] = 0, 1};
     *(size_t *)answer = replay_calls(file, length, calls, sizeof calls, out, sizeof out);
 #else
     *(size_t *)answer = planner_plan(file, length, out, sizeof out);

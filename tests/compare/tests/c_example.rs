@@ -6,8 +6,8 @@ use compare::binding::programs::{build, in_repository as at};
 use compare::check::entries::{planned, Expected};
 use reference::arrows::{arrow, glyph};
 use reference::damage::damaged;
-use reference::examples::comb;
-use reference::file::write;
+use reference::examples::{comb, mixed};
+use reference::file::{write, LONGEST, SHORTEST};
 use reference::generate::{good_file, Random, KINDS};
 use reference::refusals::{Refusals, OF_ARROW, OF_FILE};
 use reference::script::arrow_line;
@@ -77,6 +77,17 @@ fn the_headers() {
 }
 
 #[test]
+fn the_lengths_stated() {
+    for (name, prefix) in [("planner", "PLANNER"), ("replay", "REPLAY")] {
+        let text = fs::read_to_string(at(&format!("include/{name}.h"))).expect("a header");
+        for (word, length) in [("LONGEST", LONGEST), ("SHORTEST", SHORTEST)] {
+            let line = format!("#define {prefix}_{word} {length}\n");
+            assert!(text.contains(&line), "{line}");
+        }
+    }
+}
+
+#[test]
 fn the_stack_stated() {
     let source = "tests/compare/c/stack.c";
     let plan = scratch("plan_stack");
@@ -85,7 +96,7 @@ fn the_stack_stated() {
     let replay = build(replay, source, "libreplay.a", &["-pthread", "-DREPLAY"]);
     let path = scratch("stack.deck");
     let mut random = Random::new(83);
-    let mut files = vec![write(&comb(62))];
+    let mut files = vec![write(&comb(62)), write(&mixed(comb(62)))];
     files.extend(KINDS.map(|kind| good_file(&mut random, kind, 64)));
     for file in &files {
         fs::write(&path, file).expect("a file written");
@@ -129,14 +140,14 @@ fn the_samples() {
             planned_decks += 1;
         }
     }
-    assert!(planned_decks >= 3);
+    assert!(planned_decks >= 4);
 }
 
 #[test]
 fn files_taken_and_refused() {
     let program = build_plan("plan_files");
     let mut random = Random::new(79);
-    let longest = write(&comb(62));
+    let longest = write(&mixed(comb(62)));
     let mut files = vec![vec![], longest.clone(), [&longest[..], &[0]].concat()];
     files.push([&longest[..], &[0; 9_000]].concat());
     files.extend(KINDS.map(|kind| good_file(&mut random, kind, 9)));

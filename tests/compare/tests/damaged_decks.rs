@@ -1,39 +1,43 @@
 //! Damaged decks: every call is refused by 11 and hands the deck back, in every
-//! word. Where a damage gives a sound deck, the calls are the reference's.
+//! word and kind. Where a damage gives a sound deck, the calls are the reference's.
 
 use compare::binding::deck::Deck;
-use compare::binding::places::WORDS;
+use compare::binding::places::{KIND_PLACES, WORDS};
 use compare::binding::questions::Question;
 use compare::check::questions;
 use compare::check::replies::Replies;
 use compare::check::sessions::{refused_call, same_call, session};
 use compare::input::calls::Shape;
-use compare::input::damaged_decks::{counts, points, unused, words, Damaged};
+use compare::input::damaged_decks::{counts, kinds, points, unused, words, Damaged};
 use compare::input::damaged_trees::{edges, other_trees, roles, weak_points};
 use compare::input::points::crossings;
 use compare::input::states::{grid, start};
-use reference::examples::comb;
+use reference::examples::{comb, mixed};
 use reference::generate::{Kind, Place, Random, KINDS};
+use reference::pins::{sensors, DISPLAY};
 use reference::plane::Point;
 use reference::refusals::NOT_SOUND;
 use reference::session::{finish, Call, State};
 use std::collections::BTreeMap;
 
-/// What was seen: for each kind of damage how many decks were not sound and how
-/// many were, and for each word how many that are not sound differ there.
+/// What was seen: for each damage how many decks were not sound and how many were,
+/// and for each word and each kind how many that are not sound differ there.
 struct Seen {
-    kinds: BTreeMap<&'static str, (usize, usize)>,
+    damages: BTreeMap<&'static str, (usize, usize)>,
     words: [usize; WORDS],
+    kinds: [usize; KIND_PLACES],
 }
 
-/// Calls at places held, free and out of range; on few points every call.
+/// Calls at places held, free and out of range, and with a kind that there is not;
+/// on few points every call.
 fn calls(state: &State, few: bool) -> Vec<Call> {
     let held = state.points().first().copied().unwrap_or(Point::new(0, 0));
     let mut places = vec![(30_001, held.y)];
     if few {
         places.extend([(held.x, held.y), (held.x + 1, held.y - 7)]);
     }
-    let add = places.iter().map(|&(x, y)| Call::Add(x, y));
+    let add = places.iter().map(|&(x, y)| Call::Add(x, y, DISPLAY));
+    let add = add.chain([Call::Add(held.x, held.y, 3)]);
     let withdraw = places.iter().map(|&(x, y)| Call::Withdraw(x, y));
     let rounds: &[Call] = if few {
         &[Call::Round, Call::Finish]
@@ -87,6 +91,7 @@ fn damages(random: &mut Random, state: &State) -> Vec<Damaged> {
     all.retain(|_| count < 40 || random.once_in(4));
     all.extend(other_trees(state, &deck, 20));
     all.extend(unused(&deck));
+    all.extend(kinds(&deck));
     all
 }
 
@@ -95,12 +100,16 @@ fn damage(random: &mut Random, state: &State, seen: &mut Seen) {
     let right = Deck::of(state);
     for (name, damaged) in damages(random, state) {
         let refused = answers(random, state, &damaged);
-        let kind = seen.kinds.entry(name).or_default();
-        kind.0 += refused as usize;
-        kind.1 += !refused as usize;
+        let counts = seen.damages.entry(name).or_default();
+        counts.0 += refused as usize;
+        counts.1 += !refused as usize;
         for place in 0..WORDS {
             let differs = damaged.words[place] != right.words[place];
             seen.words[place] += (refused && differs) as usize;
+        }
+        for place in 0..KIND_PLACES {
+            let differs = damaged.kinds[place] != right.kinds[place];
+            seen.kinds[place] += (refused && differs) as usize;
         }
     }
 }
@@ -128,21 +137,22 @@ fn bases(random: &mut Random) -> Vec<State> {
 
 /// Decks of few points and of the most.
 fn special(random: &mut Random) -> Vec<State> {
-    let mut found = vec![State::default(), comb(1), comb(2), comb(8), comb(62)];
+    let mut found = vec![State::default(), comb(1), comb(2), mixed(comb(8))];
+    found.extend([comb(62), mixed(comb(62))]);
     for count in [1, 2, 3, 63, 64] {
         found.push(grid(random, count, 9));
     }
     let place = Place::new(random, Kind::Scattered);
     found.push(State {
-        pins: place.points(random, 64),
+        pins: sensors(&place.points(random, 64)),
         steiner: Vec::new(),
     });
     found
 }
 
-/// Every kind of damage, with the least number of decks that are not sound and
-/// the least number that are.
-const LEAST: [(&str, usize, usize); 28] = [
+/// Every damage, with the least number of decks that are not sound and the least
+/// number that are.
+const LEAST: [(&str, usize, usize); 31] = [
     ("count of pins", 800, 1),
     ("count of Steiner points", 800, 0),
     ("pin moved", 2_000, 1_000),
@@ -167,6 +177,9 @@ const LEAST: [(&str, usize, usize); 28] = [
     ("edge doubled", 1_500, 0),
     ("edge missing", 500, 0),
     ("edges swapped", 500, 0),
+    ("kind changed", 0, 800),
+    ("no kind", 3_000, 0),
+    ("unused kind", 10_000, 0),
     ("unused pin", 10_000, 0),
     ("unused Steiner point", 10_000, 0),
     ("unused edge", 20_000, 0),
@@ -177,21 +190,24 @@ const LEAST: [(&str, usize, usize); 28] = [
 fn damaged_decks() {
     let mut random = Random::new(51);
     let mut seen = Seen {
-        kinds: BTreeMap::new(),
+        damages: BTreeMap::new(),
         words: [0; WORDS],
+        kinds: [0; KIND_PLACES],
     };
     let states = [special(&mut random), bases(&mut random)].concat();
     for state in &states {
         damage(&mut random, state, &mut seen);
     }
-    for (name, (refused, sound)) in &seen.kinds {
+    for (name, (refused, sound)) in &seen.damages {
         println!("{name}: {refused} refused, {sound} sound");
     }
     println!("least of a word: {:?}", seen.words.iter().min());
-    assert_eq!(seen.kinds.len(), LEAST.len());
+    println!("least of a kind: {:?}", seen.kinds.iter().min());
+    assert_eq!(seen.damages.len(), LEAST.len());
     for (name, refused, sound) in LEAST {
-        let found = seen.kinds[name];
+        let found = seen.damages[name];
         assert!(found.0 >= refused && found.1 >= sound, "{name}: {found:?}");
     }
-    assert!(seen.words.iter().all(|&count| count > 100));
+    let places = seen.words.iter().chain(&seen.kinds);
+    assert!(places.min() > Some(&100));
 }

@@ -1,13 +1,14 @@
-//! The listing program prints what the reference prints, for whole and damaged
-//! files, files of every length and random bytes.
+//! The listing program prints what the reference prints, for the samples, whole
+//! and damaged files, files of every length and random bytes.
 
+use compare::binding::programs::{decklist, in_repository as at};
 use compare::check::programs::{refusal_of, same_listing};
-use compare::input::files::{any_bytes, resized};
-use reference::damage::damaged;
-use reference::examples::comb;
-use reference::file::write;
+use compare::input::files::{any_bytes, damaged_twice, resized};
+use reference::examples::{comb, mixed};
+use reference::file::{write, LONGEST};
 use reference::generate::{good_file, Random, KINDS};
 use reference::refusals::{Refusals, OF_FILE};
+use std::fs;
 
 /// Lists a file by both. Returns the number by which it is refused, if it is.
 fn refusal(file: &[u8]) -> Option<u8> {
@@ -26,21 +27,29 @@ fn whole_files() {
         }
     }
     assert!(taps > 500, "only {taps} taps");
-    assert!(same_listing(&write(&comb(62))).starts_with("deck 64 62 "));
+    let longest = same_listing(&write(&mixed(comb(62))));
+    assert!(longest.starts_with("deck 64 62 "));
+    // The text says nothing of kinds.
+    assert_eq!(same_listing(&write(&comb(62))), longest);
+}
+
+/// Each sample is listed as the text beside it.
+#[test]
+fn the_samples() {
+    for name in ["devices", "example", "lane", "sixty_four"] {
+        let file = fs::read(at(&format!("samples/{name}.deck"))).expect("a sample");
+        let text = fs::read_to_string(at(&format!("samples/{name}.txt"))).expect("its text");
+        assert_eq!(decklist(&file), text, "{name}");
+    }
 }
 
 #[test]
 fn damaged_files() {
     let mut random = Random::new(82);
     let mut seen = Refusals::default();
-    for first in OF_FILE {
-        for second in first..=6 {
-            for _ in 0..20 {
-                let file = damaged(&mut random, &[first, second]);
-                assert_eq!(refusal(&file), Some(first), "{first} and {second}");
-                seen.see(first);
-            }
-        }
+    for (file, number) in damaged_twice(&mut random, 20) {
+        assert_eq!(refusal(&file), Some(number), "{file:?}");
+        seen.see(number);
     }
     seen.are_exactly(&OF_FILE, 20);
 }
@@ -49,7 +58,7 @@ fn damaged_files() {
 fn every_length() {
     let mut random = Random::new(83);
     let mut seen = Refusals::default();
-    for length in 0..=800 {
+    for length in 0..=LONGEST + 16 {
         let file = good_file(&mut random, KINDS[length % KINDS.len()], 12);
         let resized = resized(&mut random, &file, length);
         for bytes in [resized, any_bytes(&mut random, length)] {

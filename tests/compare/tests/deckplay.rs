@@ -4,10 +4,9 @@
 use compare::binding::programs::deckplay;
 use compare::check::programs::{refusal_of, same_script};
 use compare::input::calls::Shape;
-use compare::input::files::any_bytes;
+use compare::input::files::{any_bytes, damaged_twice};
 use compare::input::scripts::session;
 use compare::input::states::nearly_full;
-use reference::damage::damaged;
 use reference::generate::{good_file, Place, Random, KINDS};
 use reference::refusals::{Refusals, NO_ROOM, OF_ARROW, OF_CALL, OF_FILE};
 use reference::script::hex_of;
@@ -67,30 +66,42 @@ fn sessions() {
 #[test]
 fn files() {
     let mut random = Random::new(92);
-    let mut script = String::new();
-    for round in 0..600 {
-        let file = match round % 3 {
-            0 => damaged(&mut random, &[1 + (round / 3 % 6) as u8]),
-            1 => any_bytes(&mut random, round),
-            _ => good_file(&mut random, KINDS[round % KINDS.len()], 10),
-        };
-        script += &format!("read {}\nfinish\nwrite\nlist\n", hex_of(&file));
+    let damaged = damaged_twice(&mut random, 10);
+    let mut files: Vec<Vec<u8>> = damaged.into_iter().map(|(file, _)| file).collect();
+    for round in 0..210 {
+        files.push(any_bytes(&mut random, 3 * round));
+        files.push(good_file(&mut random, KINDS[round % KINDS.len()], 10));
     }
-    let answers = same_script(script.as_bytes());
-    refusals(&answers).are_exactly(&OF_FILE, 30);
+    let script = random.shuffled(&files).into_iter();
+    let script = script.map(|file| format!("read {}\nfinish\nwrite\nlist\n", hex_of(&file)));
+    let answers = same_script(script.collect::<String>().as_bytes());
+    refusals(&answers).are_exactly(&OF_FILE, 10);
     // A file is written for each that is taken, and for the empty deck else.
-    assert_eq!(count(&answers, "file"), 600);
+    assert_eq!(count(&answers, "file"), 280 + 2 * 210);
     let empty = "rounds 0\nfile 30 ";
-    assert!(answers.matches(empty).count() >= 400, "{answers}");
+    assert!(answers.matches(empty).count() >= 280 + 210, "{answers}");
 }
 
 /// Lines that are empty, a comment, no call, or a call with odd spaces.
-const OTHER_LINES: [&str; 25] = [
+const OTHER_LINES: [&str; 39] = [
     "",
     " ",
     "add",
     "add 1",
     "add 1 2 3",
+    "add 1 2 0",
+    "add 1 3 1",
+    "add 1 4\t002 ",
+    "add 1 5 -0",
+    "add 1 6 -1",
+    "add 1 6 +1",
+    "add 1 6 x",
+    "add 1 6 1 1",
+    "add 1 6 300",
+    "add 1 6 65536",
+    "add 1 6 2147483647",
+    "add 1 6 2147483648",
+    "withdraw 1 2 0",
     "add +1 2",
     "add -0 2147483647",
     "add 2147483648 0",
@@ -103,7 +114,8 @@ const OTHER_LINES: [&str; 25] = [
     "read 0g",
     "read -",
     "write -1",
-    "write 784 ",
+    "write 856 ",
+    "write 857",
     "  length",
     "octant 0 0",
     "arrow 0 0 0 0",

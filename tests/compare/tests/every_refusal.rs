@@ -3,23 +3,23 @@
 
 use compare::binding::deck::Deck;
 use compare::binding::display;
-use compare::binding::places::{STEINER_COUNT, WORDS};
+use compare::binding::places::{KIND_PLACES, STEINER_COUNT, WORDS};
 use compare::binding::programs::{decklist, deckplay};
 use compare::check::entries::Seen;
 use compare::check::questions;
 use compare::check::replays::replayed;
 use compare::check::replies::Replies;
 use compare::check::sessions::refused_call;
-use compare::input::call_bytes::call_bytes;
+use compare::input::call_bytes::{call_bytes, in_bytes};
 use reference::damage::damaged;
-use reference::examples::{comb, cross, points, EXAMPLE};
+use reference::examples::{comb, cross, deck, mixed, EXAMPLE};
 use reference::file::{write, write_plain};
 use reference::generate::Random;
 use reference::refusals::{refused_arrows, refused_calls, refused_scripts, Refusals, NOT_SOUND};
 use reference::refusals::{OF_ANY_DECK, OF_ARROW, OF_CALL, OF_ENTRY, OF_FILE, OF_SCRIPT};
 use reference::session::{Call, State};
 
-/// The planner for C: 1 to 6 and 12, and the buffer keeps every byte.
+/// The planner for C: 1 to 6, 12 and 15, and the buffer keeps every byte.
 #[test]
 fn of_the_planner_for_c() {
     let mut random = Random::new(101);
@@ -30,20 +30,20 @@ fn of_the_planner_for_c() {
             assert_eq!(seen.plan(&file), Err(number));
         }
     }
-    for state in [State::default(), cross(), comb(62)] {
+    for state in [State::default(), cross(), comb(62), mixed(comb(62))] {
         assert_eq!(seen.plan(&write(&state)), Ok(write(&state)));
     }
-    let plain = write_plain(&points(&EXAMPLE));
+    let plain = write_plain(&deck(&EXAMPLE).pins);
     assert_eq!(seen.plan(&plain).map(|file| file.len()), Ok(52));
     seen.refused.are_exactly(&OF_ENTRY, 8);
 }
 
-/// Lists of calls for C: 1 to 6 and 12, and the buffer keeps every byte.
+/// Lists of calls for C: 1 to 6, 12 and 15, and the buffer keeps every byte.
 #[test]
 fn of_lists_of_calls_for_c() {
     let mut random = Random::new(102);
     let mut seen = Seen::default();
-    let add = call_bytes(&mut random, Call::Add(7, 9));
+    let add = call_bytes(&mut random, Call::Add(7, 9, 2));
     for number in OF_FILE {
         for _ in 0..50 {
             let file = damaged(&mut random, &[number]);
@@ -59,32 +59,36 @@ fn of_lists_of_calls_for_c() {
     seen.refused.are_exactly(&OF_ENTRY, 6);
 }
 
-/// A call in a list for C that is refused, by 7, 8, 9 or 10, leaves the deck;
+/// A call in a list for C that is refused, by 7, 8, 9, 10 or 15, leaves the deck;
 /// one behind it is made all the same.
 #[test]
 fn of_the_calls_in_a_list_for_c() {
     let mut random = Random::new(103);
     let mut seen = Seen::default();
     let mut replies = Replies::default();
-    for (state, asked, _) in refused_calls() {
+    let mut cases = refused_calls();
+    // A byte holds no kind above 255.
+    cases.retain(|&(_, asked, _)| in_bytes(asked) == asked);
+    for (state, asked, _) in cases {
         let file = write(&state);
         let refused = call_bytes(&mut random, asked);
         assert_eq!(replayed(&file, &refused, &mut replies), Ok(file.clone()));
         seen.replay(&file, &refused, &Ok(file.clone()));
         if let Some(&pin) = state.pins.first() {
-            let leave = call_bytes(&mut random, Call::Withdraw(pin.x, pin.y));
+            let leave = call_bytes(&mut random, Call::Withdraw(pin.point.x, pin.point.y));
             let left = replayed(&file, &leave, &mut Replies::default());
             assert_ne!(left, Ok(file.clone()));
             seen.replay(&file, &[refused, leave].concat(), &left);
         }
     }
     replies.refused.are_exactly(&OF_CALL, 19);
-    assert!(seen.given > 250, "{seen:?}");
+    assert!(seen.given > 1_000, "{seen:?}");
 }
 
-/// Calls and questions on a deck: 7, 8, 9 and 10 on a sound one, 11 before all
-/// of them on one with a tap too many or a number in the last place, which no
-/// deck uses. The deck is handed back, in every word.
+/// Calls and questions on a deck: 7, 8, 9, 10 and 15 on a sound one, 11 before all
+/// of them on one with a tap too many, a number in the last place, which no deck
+/// uses, or a wrong kind in the last place for kinds. The deck is handed back, in
+/// every word and kind.
 #[test]
 fn of_a_deck() {
     let mut seen = Refusals::default();
@@ -93,7 +97,9 @@ fn of_a_deck() {
         refused_call(&deck, asked, number);
         seen.see(number);
         let one_tap_more = deck.with(STEINER_COUNT, deck.words[STEINER_COUNT] + 1);
-        for damaged in [one_tap_more, deck.with(WORDS - 1, 1)] {
+        let last_word = deck.with(WORDS - 1, 1);
+        let last_kind = deck.with_kind(KIND_PLACES - 1, 3);
+        for damaged in [one_tap_more, last_word, last_kind] {
             for any in [asked, Call::Round, Call::Finish] {
                 refused_call(&damaged, any, NOT_SOUND);
                 seen.see(NOT_SOUND);
@@ -115,7 +121,7 @@ fn of_the_arrows_for_c() {
     seen.are_exactly(&OF_ARROW, 80);
 }
 
-/// The listing program: 1 to 6, in one line that says nothing else.
+/// The listing program: 1 to 6 and 15, in one line that says nothing else.
 #[test]
 fn of_the_listing_program() {
     let mut random = Random::new(104);

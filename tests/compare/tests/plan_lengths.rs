@@ -1,15 +1,18 @@
-//! The planner for C on files of every length from 0 to 800 bytes, and on bytes
-//! that are no file.
+//! The planner for C on files of every length from none to more than any file has,
+//! and on bytes that are no file.
 
 use compare::check::entries::Seen;
-use compare::input::files::{any_bytes, overwritten, resized, taken, with_points, with_table};
-use reference::examples::comb;
-use reference::file::{write, write_plain, HEADER, LONGEST};
+use compare::input::files::{any_bytes, finished, overwritten, plain, resized};
+use compare::input::files::{with_points, with_table};
+use reference::devices::with_count;
+use reference::examples::{comb, mixed};
+use reference::file::{write, write_plain, LONGEST, SHORTEST, WITHOUT_DEVICES, WITH_DEVICES};
 use reference::generate::{good_file, most_pins, Random, KINDS};
+use reference::pins::sensors;
 use reference::refusals::{NO_ROOM, OF_ENTRY};
 
 /// Bytes of one length: files cut or too long, files in which less and less is
-/// wrong, and files that are taken.
+/// wrong, and plain files that are taken.
 fn of_length(random: &mut Random, bases: &[Vec<u8>], length: usize) -> Vec<Vec<u8>> {
     let mut files = vec![any_bytes(random, length)];
     for base in bases {
@@ -20,10 +23,10 @@ fn of_length(random: &mut Random, bases: &[Vec<u8>], length: usize) -> Vec<Vec<u
         let other = good_file(random, kind, 8);
         files.push(resized(random, &other, length));
     }
-    if length >= HEADER {
+    if length >= SHORTEST {
         let mut started = any_bytes(random, length);
-        started[..6].copy_from_slice(b"DECK\x03\x00");
-        files.push(started);
+        started[..4].copy_from_slice(b"DECK");
+        files.extend([WITHOUT_DEVICES, WITH_DEVICES].map(|count| with_count(&started, count)));
         for unit in [1, 2, 4] {
             files.push(with_table(random, length, unit));
         }
@@ -31,39 +34,54 @@ fn of_length(random: &mut Random, bases: &[Vec<u8>], length: usize) -> Vec<Vec<u
             files.push(with_points(random, length));
         }
     }
-    files.extend(taken(random, length));
+    files.extend(plain(random, length));
     files
 }
 
-/// The lengths that a plain file has, and those that a full one has.
+/// The lengths that a plain file has, and those that a full one has, without kinds
+/// and with them.
 fn is_length_of_file(length: usize) -> bool {
     let plain = (0..=64).any(|pins| length == 30 + 4 * pins);
-    plain || (1..=126).any(|points| length == 28 + 6 * points)
+    let full = (1..=126).any(|points| length == 28 + 6 * points);
+    let plain_kinds = (1..=64).any(|pins| length == 38 + 5 * pins);
+    let most_taps = |pins: usize| pins.saturating_sub(2);
+    let full_kinds = (1..=64).any(|p| (0..=most_taps(p)).any(|t| length == 36 + 7 * p + 6 * t));
+    plain || full || plain_kinds || full_kinds
 }
 
 #[test]
 fn every_length() {
     let mut random = Random::new(61);
     let mut seen = Seen::default();
-    let pins = most_pins(&mut random);
-    let bases = [write(&comb(1)), write(&comb(62)), write_plain(&pins)];
-    for length in 0..=800 {
+    let pins = sensors(&most_pins(&mut random));
+    let longest = write(&mixed(comb(62)));
+    let bases = [
+        write(&comb(1)),
+        write(&comb(62)),
+        longest,
+        write_plain(&pins),
+    ];
+    for length in 0..=LONGEST + 16 {
         let before = seen.plain + seen.full;
         for file in of_length(&mut random, &bases, length) {
             assert_eq!(file.len(), length);
             let refused = seen.plan(&file).err();
-            if !(HEADER..=LONGEST).contains(&length) {
+            if !(SHORTEST..=LONGEST).contains(&length) {
                 assert_eq!(refused, Some(1));
             }
+        }
+        for file in finished(&mut random, length) {
+            assert_eq!(file.len(), length);
+            seen.plan_to(&file, &Ok(file.clone()));
         }
         let taken = seen.plain + seen.full > before;
         assert_eq!(taken, is_length_of_file(length), "{length} bytes");
     }
     println!("every length: {seen:?}");
     assert!(seen.given > 10_000);
-    assert!(seen.plain > 65 && seen.full > 125);
+    assert!(seen.plain > 129 && seen.full > 800 && seen.with_kinds > 800);
     seen.refused.are_exactly(&OF_ENTRY, 400);
-    for (number, least) in [(1, 4_000), (2, 20_000), (3, 10_000), (5, 1_000), (6, 5_000)] {
+    for (number, least) in [(1, 4_000), (2, 20_000), (3, 10_000), (5, 1_000), (6, 4_000)] {
         assert!(seen.refused.by(number) > least, "{number}");
     }
 }
@@ -95,6 +113,6 @@ fn random_bytes_behind_right_ones() {
     println!("random bytes behind right ones: {seen:?}");
     assert_eq!(seen.given, 7_000);
     // A table of random bytes is not right by chance, so 3 and 4 do not arise.
-    seen.refused.are_exactly(&[1, 2, 5, 6, NO_ROOM], 200);
+    seen.refused.are_exactly(&[1, 2, 5, 6, 15, NO_ROOM], 200);
     assert!(seen.plain > 20 && seen.full > 20);
 }

@@ -4,7 +4,7 @@
 use compare::binding::deck::Deck;
 use compare::check::entries::Seen;
 use compare::input::damaged_trees::{edges, other_trees, roles, weak_points};
-use compare::input::files::of_deck;
+use compare::input::files::{damaged_twice, of_deck};
 use compare::input::points::crossings;
 use reference::damage::damaged;
 use reference::examples::comb;
@@ -31,30 +31,24 @@ fn one_damage() {
 fn the_earlier_of_two_damages() {
     let mut random = Random::new(65);
     let mut seen = Seen::default();
-    for first in 1..=6 {
-        for second in first + 1..=6 {
-            for _ in 0..300 {
-                let file = damaged(&mut random, &[first, second]);
-                assert_eq!(seen.plan(&file), Err(first), "{first} and {second}");
-            }
-        }
+    for (file, number) in damaged_twice(&mut random, 300) {
+        assert_eq!(seen.plan(&file), Err(number), "{file:?}");
     }
-    assert_eq!(seen.given, 4_500);
-    // Number 6 has no later damage beside it.
-    seen.refused.are_exactly(&OF_FILE[..5], 4 * 300);
+    assert_eq!(seen.given, 28 * 300);
+    seen.refused.are_exactly(&OF_FILE, 4 * 300);
 }
 
 #[test]
 fn the_earliest_of_many_damages() {
     let mut random = Random::new(66);
     let mut seen = Seen::default();
-    for first in 1..=4u8 {
+    for (place, &first) in OF_FILE[..5].iter().enumerate() {
         for _ in 0..300 {
-            let file = damaged(&mut random, &(first..=6).collect::<Vec<_>>());
+            let file = damaged(&mut random, &OF_FILE[place..]);
             assert_eq!(seen.plan(&file), Err(first));
         }
     }
-    seen.refused.are_exactly(&OF_FILE[..4], 4 * 300);
+    seen.refused.are_exactly(&OF_FILE[..5], 4 * 300);
 }
 
 /// Every byte of some files changed, one at a time.
@@ -80,7 +74,8 @@ fn one_byte_changed() {
     assert!(seen.given > 14_000);
     assert!(seen.plain > 1_000 && seen.full > 1_000);
     // One byte cannot move the end of a section and the start of the next.
-    seen.refused.are_exactly(&[1, 2, 5, 6, NO_ROOM], 5_000);
+    seen.refused.are_exactly(&[1, 2, 5, 6, 15, NO_ROOM], 3_000);
+    assert!(seen.with_kinds > 500);
 }
 
 /// Full files of a deck whose runs or whose taps are wrong.
@@ -101,7 +96,7 @@ fn wrong_trees(random: &mut Random, state: &State) -> Vec<(&'static str, Vec<u8>
 /// 6 and taken.
 const LEAST: [(&str, [usize; 3]); 14] = [
     ("Steiner point made a pin", [0, 0, 80]),
-    ("Steiner point of two edges", [0, 3_000, 0]),
+    ("Steiner point of two edges", [0, 2_500, 0]),
     ("Steiner point on a pin", [800, 0, 0]),
     ("edge changed", [0, 3_000, 0]),
     ("edge doubled", [0, 2_000, 0]),

@@ -1,14 +1,16 @@
 //! The bytes that the entry for lists of calls is given: limits of coordinates,
-//! numbers that are no call, parts of a call, files that are refused and none.
+//! kinds, numbers that are no call, parts of a call, files that are refused and
+//! none.
 
 use compare::check::entries::{planned, Seen};
 use compare::check::replays::replayed;
 use compare::check::replies::Replies;
 use compare::input::call_bytes::{any_call_bytes, call_bytes, numbered_bytes, SIZE};
-use compare::input::files::{any_bytes, start};
-use reference::damage::damaged;
-use reference::file::{write, write_plain};
+use compare::input::files::{any_bytes, damaged_twice, start};
+use reference::examples::{deck, mixed};
+use reference::file::write;
 use reference::generate::{good_file, Kind, Place, Random, KINDS};
+use reference::pins::{Pin, CONTROLLER, DISPLAY};
 use reference::plane::Point;
 use reference::refusals::OF_FILE;
 use reference::session::{Call, State};
@@ -24,13 +26,13 @@ fn limits_of_coordinates() {
     .concat();
     let mut random = Random::new(78);
     let (mut seen, mut replies) = (Seen::default(), Replies::default());
-    let one = write_plain(&[Point::new(-1, -1)]);
+    let one = write(&mixed(deck(&[(-1, -1)])));
     for (&x, &y) in limits
         .iter()
         .flat_map(|x| limits.iter().map(move |y| (x, y)))
     {
         for file in [&[][..], &one] {
-            for asked in [Call::Add(x, y), Call::Withdraw(x, y)] {
+            for asked in [Call::Add(x, y, CONTROLLER), Call::Withdraw(x, y)] {
                 let calls = call_bytes(&mut random, asked);
                 let expected = replayed(file, &calls, &mut replies);
                 seen.replay(file, &calls, &expected);
@@ -55,7 +57,7 @@ fn unknown_numbers() {
         let expected = Ok(write(&state));
         let unknown = numbered_bytes(&mut random, number);
         let (x, y) = (random.range(-9, 9), random.range(20_000, 30_000));
-        let there = call_bytes(&mut random, Call::Add(x, y));
+        let there = call_bytes(&mut random, Call::Add(x, y, DISPLAY));
         let back = call_bytes(&mut random, Call::Withdraw(x, y));
         let between = [there, unknown, back].concat();
         let without = replayed(&file, &[there, back].concat(), &mut Replies::default());
@@ -71,9 +73,9 @@ fn unknown_numbers() {
 fn part_of_a_call() {
     let mut random = Random::new(81);
     let mut seen = Seen::default();
-    let one = write(&State::new(vec![Point::new(3, 4)], Vec::new()));
+    let one = write(&deck(&[(3, 4)]));
     let empty = write(&State::default());
-    for asked in [Call::Add(7, 9), Call::Withdraw(3, 4)] {
+    for asked in [Call::Add(7, 9, DISPLAY), Call::Withdraw(3, 4)] {
         let call = call_bytes(&mut random, asked);
         for length in 0..SIZE {
             for (file, left) in [(&[][..], &empty), (&one, &one)] {
@@ -92,8 +94,7 @@ fn bytes_of_calls() {
     let pin = [0x30, 0x75, 0, 0, 0xd0, 0x8a, 0xff, 0xff];
     let least = [0, 0, 0, 0x80, 0xd0, 0x8a, 0xff, 0xff];
     let most = [0x30, 0x75, 0, 0, 0xff, 0xff, 0xff, 0x7f];
-    let there = State::new(vec![Point::new(30_000, -30_000)], Vec::new());
-    let there = Ok(write(&there));
+    let there = Ok(write(&deck(&[(30_000, -30_000)])));
     let none = Ok(write(&State::default()));
     for (coordinates, left) in [(pin, there), (least, none.clone()), (most, none)] {
         let calls = [&[0, 0, 0, 0][..], &coordinates].concat();
@@ -101,6 +102,33 @@ fn bytes_of_calls() {
         seen.replay(&[], &calls, &left);
     }
     assert_eq!((replies.done, replies.refused.by(7)), (1, 2));
+}
+
+/// Byte 1 is the kind of a pin that is added, whatever bytes 2 and 3 are: 0, 1 and 2
+/// make the device that they name, and every other number no pin. Byte 1 of a call
+/// that withdraws the pin again does nothing.
+#[test]
+fn every_kind_byte() {
+    let mut replies = Replies::default();
+    let mut seen = Seen::default();
+    let place = [3, 0, 0, 0, 4, 0, 0, 0];
+    let none = State::default();
+    for byte in 0..=u8::MAX {
+        let left = match byte {
+            0..=2 => State::new(vec![Pin::new(Point::new(3, 4), byte.into())], Vec::new()),
+            _ => none.clone(),
+        };
+        let left = Ok(write(&left));
+        for more in [[0, 0], [byte, 1], [2, byte], [255, 255]] {
+            let add = [&[0, byte][..], &more, &place].concat();
+            assert_eq!(replayed(&[], &add, &mut replies), left);
+            seen.replay(&[], &add, &left);
+            let withdraw = [&[1, byte][..], &more, &place].concat();
+            seen.replay(&[], &[add, withdraw].concat(), &Ok(write(&none)));
+        }
+    }
+    assert_eq!((replies.done, replies.refused.by(15)), (4 * 3, 4 * 253));
+    assert_eq!((seen.given, seen.with_kinds), (2 * 4 * 256, 4 * 2));
 }
 
 /// A file that is refused is refused whatever the calls are; so is a short one,
@@ -114,13 +142,9 @@ fn refused_files() {
         let calls: Vec<u8> = (0..count).flat_map(|_| any_call_bytes(random)).collect();
         seen.replay(file, &calls, &Err(number));
     };
-    for first in 1..=6 {
-        for second in first..=6 {
-            for _ in 0..50 {
-                let file = damaged(&mut random, &[first, second]);
-                let number = if file.is_empty() { continue } else { first };
-                refused(&file, number, &mut random);
-            }
+    for (file, number) in damaged_twice(&mut random, 50) {
+        if !file.is_empty() {
+            refused(&file, number, &mut random);
         }
     }
     let empty = write(&State::default());

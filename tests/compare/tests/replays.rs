@@ -27,7 +27,7 @@ fn same_replays(
     seen.replay(file, &calls, &expected);
     let length = calls.len();
     let (x, y) = (random.range(-9, 9), random.range(-9, 9));
-    calls.extend(call_bytes(random, Call::Add(x, y)));
+    calls.extend(call_bytes(random, Call::Add(x, y, 1)));
     let ragged = length + random.range(1, SIZE as i64 - 1) as usize;
     seen.replay(file, &calls[..ragged], &expected);
 }
@@ -74,7 +74,8 @@ fn short_lists() {
     assert!(replies.taps > 1_000 && replies.finished > 1_000);
     assert!(replies.runs > 500 && replies.runs_that_add > 100);
     // No deck of so few calls has 64 pins.
-    replies.refused.are_exactly(&[7, 8, 9], 1_000);
+    replies.refused.are_exactly(&[7, 8, 9, 15], 800);
+    assert!(seen.with_kinds > 2_000 && seen.given - seen.with_kinds > 2_000);
 }
 
 #[test]
@@ -126,4 +127,5 @@ fn any_lists() {
     assert_eq!(seen.given, 3_000);
     assert!(replies.done > 2_000 && replies.runs > 5_000);
     assert!(replies.refused.by(7) > 5_000 && replies.refused.by(9) > 5_000);
+    assert!(replies.refused.by(15) > 500 && replies.with_devices > 2_000);
 }

@@ -1,11 +1,13 @@
-//! Runs to the end by every way of the bench, on decks of every kind: each has
-//! the taps, the length and the number of rounds of the reference.
+//! Runs to the end by every way of the bench, on decks of every kind and with any
+//! devices: each has the taps, the length and the number of rounds of the
+//! reference.
 
 use compare::binding::deck::Deck;
 use compare::by_hand::afresh::run_afresh;
 use compare::by_hand::run::run_to_end;
 use compare::by_hand::{prim, scoring, sorted_pairs};
 use compare::check::runs::{ended, run_proved, run_reference};
+use reference::devices::devices;
 use reference::generate::{most_pins, pins, Random, KINDS};
 use reference::session::State;
 
@@ -15,7 +17,7 @@ fn compare(seed: u64, decks: usize, most: usize) -> usize {
     let mut rounds = 0;
     for at in 0..decks {
         let held = pins(&mut random, KINDS[at % KINDS.len()], most);
-        let state = State::new(held.clone(), Vec::new());
+        let state = State::new(devices(&mut random, &held), Vec::new());
         let end = run_reference(&state);
         assert_eq!(end, run_to_end(&held), "by hand, {held:?}");
         assert_eq!(end, ended(&run_proved(&Deck::of(&state))), "{held:?}");
@@ -43,7 +45,7 @@ fn full_decks_of_even_pitch() {
     let mut rounds = 0;
     for _ in 0..200 {
         let held = most_pins(&mut random);
-        let deck = Deck::of(&State::new(held.clone(), Vec::new()));
+        let deck = Deck::of(&State::new(devices(&mut random, &held), Vec::new()));
         let end = ended(&run_proved(&deck));
         assert_eq!(run_to_end(&held), end, "{held:?}");
         rounds += end.rounds;

@@ -6,7 +6,7 @@ use compare::check::programs::same_answers;
 
 /// The names, each with the counts of numbers that it is taken with.
 const NAMES: [(&str, &[usize]); 17] = [
-    ("add", &[2]),
+    ("add", &[2, 3]),
     ("withdraw", &[2]),
     ("round", &[0]),
     ("finish", &[0]),

@@ -1,5 +1,5 @@
-//! Random sessions: after every call the reply and every word of the deck are
-//! those of the reference.
+//! Random sessions: after every call the reply, every word of the deck and every
+//! kind are those of the reference.
 
 use compare::binding::calls::empty;
 use compare::binding::deck::Deck;
@@ -7,7 +7,7 @@ use compare::check::replies::Replies;
 use compare::check::sessions::{same_call, session};
 use compare::input::calls::Shape;
 use compare::input::states::{grid, nearly_full, start};
-use reference::examples::comb;
+use reference::examples::{comb, mixed};
 use reference::generate::{Kind, Place, Random, KINDS};
 use reference::refusals::OF_CALL;
 use reference::session::{Call, Reply, State};
@@ -42,7 +42,8 @@ fn short_sessions() {
     assert!(seen.questions > 750_000);
     assert!(seen.done > 75_000);
     // No deck of so few calls has 64 pins.
-    seen.refused.are_exactly(&[7, 8, 9], 6_000);
+    seen.refused.are_exactly(&[7, 8, 9, 15], 5_000);
+    assert!(seen.with_devices > 100_000 && seen.calls - seen.with_devices > 20_000);
     assert!(seen.finished > 7_500);
     assert!(seen.taps > 4_500);
     assert!(seen.runs > 3_700);
@@ -108,16 +109,16 @@ fn rounds_on_full_decks() {
 /// The most points of all: no pin more, also on a Steiner point.
 #[test]
 fn the_most_points() {
-    let state = comb(62);
+    let state = mixed(comb(62));
     let deck = Deck::of(&state);
     assert_eq!((deck.npins(), deck.nsteiner()), (64, 62));
-    let on_steiner = Call::Add(state.steiner[7].x, state.steiner[7].y);
+    let (x, y) = (state.steiner[7].x, state.steiner[7].y);
     for (asked, reply) in [
-        (on_steiner, Reply::Refused(10)),
-        (Call::Add(-1, 5), Reply::Refused(10)),
-        (Call::Add(0, 0), Reply::Refused(8)),
-        (Call::Add(30_001, 0), Reply::Refused(7)),
-        (Call::Add(0, 30_001), Reply::Refused(7)),
+        (Call::Add(x, y, 1), Reply::Refused(10)),
+        (Call::Add(-1, 5, 2), Reply::Refused(10)),
+        (Call::Add(0, 0, 0), Reply::Refused(8)),
+        (Call::Add(30_001, 0, 0), Reply::Refused(7)),
+        (Call::Add(0, 30_001, 0), Reply::Refused(7)),
         (Call::Withdraw(0, 30_001), Reply::Refused(9)),
         (Call::Round, Reply::Finished),
         (Call::Finish, Reply::Rounds(0)),

@@ -1,14 +1,15 @@
 //! Three pins, run to the end, are as long as the box around them is wide and
 //! high (SPEC 6.6): by the script program and by the entries for C, in every
-//! order, and from decks with a tap anywhere. The length that is expected is
-//! worked out from the coordinates alone.
+//! order, with devices of any kind, and from decks with a tap anywhere. The length
+//! that is expected is worked out from the coordinates alone.
 
 use compare::binding::entries::{plan, replay};
 use compare::binding::programs::deckplay;
 use compare::check::entries::{length_of, steiner_of};
 use compare::input::call_bytes::call_bytes;
 use compare::input::points::on_grid;
-use compare::input::triples::{half_perimeter, middle, orders, triples, with_tap, Triple};
+use compare::input::triples::Triple;
+use compare::input::triples::{device, half_perimeter, middle, orders, triples, with_tap};
 use reference::file::{read, write, write_plain, LONGEST};
 use reference::generate::Random;
 use reference::plane::Point;
@@ -18,9 +19,19 @@ use reference::session::Call;
 /// How many triples there are of each of the ten kinds.
 const OF_KIND: usize = 300;
 
+/// The call that adds the device at a point.
+fn add(at: Point) -> Call {
+    Call::Add(at.x, at.y, device(at).kind)
+}
+
+/// The call that withdraws it.
+fn withdraw(at: Point) -> Call {
+    Call::Withdraw(at.x, at.y)
+}
+
 /// A line of a script for each pin.
-fn lines(pins: &[Point], call: fn(i64, i64) -> Call) -> String {
-    let line = |pin: &Point| call_line(call(pin.x, pin.y)) + "\n";
+fn lines(pins: &[Point], call: fn(Point) -> Call) -> String {
+    let line = |&pin: &Point| call_line(call(pin)) + "\n";
     pins.iter().map(line).collect()
 }
 
@@ -49,7 +60,7 @@ fn number(answer: &str, word: &str) -> i64 {
 fn play_in_every_order(triples: &[Triple], asked: &str, expected: impl Fn(&Triple) -> String) {
     let all: Vec<Triple> = triples.iter().copied().flat_map(orders).collect();
     let script = |pins: &Triple| {
-        let (add, withdraw) = (lines(pins, Call::Add), lines(pins, Call::Withdraw));
+        let (add, withdraw) = (lines(pins, add), lines(pins, withdraw));
         format!("{add}{asked}{withdraw}counts\n")
     };
     let found = played(&all.iter().map(script).collect::<Vec<_>>());
@@ -119,13 +130,14 @@ fn entries_for_c() {
     for pins in triples {
         let (mut planned, mut left) = ([0; LONGEST], [0; LONGEST]);
         let rising = orders(pins).into_iter().min().unwrap();
-        let length = plan(&write_plain(&rising), &mut planned);
+        let devices = rising.map(device);
+        let length = plan(&write_plain(&devices), &mut planned);
         let file = &planned[..length];
-        assert_eq!(read(file).map(|deck| deck.pins), Ok(rising.to_vec()));
+        assert_eq!(read(file).map(|deck| deck.pins), Ok(devices.to_vec()));
         assert_eq!(length_of(file), half_perimeter(&pins), "{pins:?}");
         taps += steiner_of(file);
         for order in orders(pins) {
-            let mut calls = order.map(|pin| Call::Add(pin.x, pin.y)).to_vec();
+            let mut calls = order.map(add).to_vec();
             calls.push(Call::Finish);
             let bytes = calls.iter().map(|&call| call_bytes(&mut random, call));
             let length = replay(&[], &bytes.collect::<Vec<_>>().concat(), &mut left);
@@ -181,9 +193,10 @@ fn files_with_a_tap() {
     let found = played(&decks.iter().map(script).collect::<Vec<_>>());
     for (deck, answers) in decks.iter().zip(found) {
         assert_eq!(answers[0], "ok", "{deck:?}");
-        let before = seen.see(&deck.pins, &answers[1..]);
+        let pins = deck.places();
+        let before = seen.see(&pins, &answers[1..]);
         let run = |pin: &Point| half_perimeter(&[*pin, deck.steiner[0]]);
-        assert_eq!(before, deck.pins.iter().map(run).sum::<i64>(), "{deck:?}");
+        assert_eq!(before, pins.iter().map(run).sum::<i64>(), "{deck:?}");
     }
     println!("files with a tap: {seen:?}");
     assert!(seen.finished > 1_000 && seen.unfinished > 3_000);
@@ -207,8 +220,8 @@ fn taps_that_calls_leave() {
     let decks: Vec<_> = (0..8_000).map(|_| more_than_three(&mut random)).collect();
     let script = |pins: &Vec<Point>| {
         let (left, others) = pins.split_at(3);
-        let (add, remove) = (lines(pins, Call::Add), lines(others, Call::Withdraw));
-        let withdraw = lines(left, Call::Withdraw);
+        let (add, remove) = (lines(pins, add), lines(others, withdraw));
+        let withdraw = lines(left, withdraw);
         format!("{add}finish\n{remove}counts\n{ASKED}{withdraw}")
     };
     let found = played(&decks.iter().map(script).collect::<Vec<_>>());
@@ -234,8 +247,8 @@ fn no_third_pin() {
     let (a, b) = (Point::new(-4, 7), Point::new(30_000, -30_000));
     let others = [Point::new(30_001, 0), Point::new(0, -30_001), a, b];
     let all: Vec<Triple> = others.iter().flat_map(|&c| orders([a, b, c])).collect();
-    let withdraw = lines(&[a, b], Call::Withdraw);
-    let script = |pins: &Triple| format!("{}counts\n{withdraw}", lines(pins, Call::Add));
+    let withdraw = lines(&[a, b], withdraw);
+    let script = |pins: &Triple| format!("{}counts\n{withdraw}", lines(pins, add));
     let found = played(&all.iter().map(script).collect::<Vec<_>>());
     let (mut by_7, mut by_8) = (0, 0);
     for (pins, answers) in all.iter().zip(found) {

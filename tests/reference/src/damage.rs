@@ -1,49 +1,55 @@
-//! Deck files with damages, each for one refusal number from 1 to 6.
+//! Deck files with damages, each for one refusal number: 1 to 6 and 15.
 
-use crate::file::{assemble, header, point_bytes, write, COUNT, HEADER, LONGEST};
+use crate::devices::{with_count, with_start};
+use crate::file::*;
 use crate::generate::{full_state, many_pins, Kind, Random};
 use crate::plane::{Point, LIMIT};
-use crate::session::State;
+use crate::session::{State, BAD_KIND};
 
-/// The parts of a file, put together at the end.
+/// The sections of a file, put together at the end.
 struct Draft {
     pins: Vec<u8>,
     steiner: Vec<u8>,
     edges: Vec<u8>,
-    /// A change of a number of the table: its place and the difference.
-    table: Option<(usize, u32)>,
-    /// Bytes after the last section.
-    tail: usize,
+    kinds: Option<Vec<u8>>,
 }
 
 /// A file with damages for the numbers given: the least of them is refused.
-/// Later checks are damaged first where one damage would undo another.
+/// Later checks are damaged first where one damage would undo another. Some files
+/// are plain, where neither points nor runs are to be damaged.
 pub fn damaged(random: &mut Random, numbers: &[u8]) -> Vec<u8> {
     let state = base(random);
+    let file = write(&state);
+    let parts = sections(&file).expect("a file");
     let mut draft = Draft {
-        pins: point_bytes(&state.pins),
-        steiner: point_bytes(&state.steiner),
-        edges: write(&state)[HEADER + 4 * state.points().len()..].to_vec(),
-        table: None,
-        tail: 0,
+        pins: parts[PINS].to_vec(),
+        steiner: parts[STEINER].to_vec(),
+        edges: parts[EDGES].to_vec(),
+        kinds: parts.get(DEVICES).map(|kinds| kinds.to_vec()),
     };
-    for number in [6, 4, 5, 3, 2] {
+    if !numbers.contains(&5) && !numbers.contains(&6) && random.once_in(3) {
+        draft.steiner.clear();
+        draft.edges.clear();
+    }
+    for number in [BAD_KIND, 6, 4, 5, 3] {
         if numbers.contains(&number) {
             match number {
+                BAD_KIND => damage_kinds(random, &mut draft),
                 6 => damage_edges(random, &state, &mut draft),
                 4 => draft.pins = many_pins(random.range(65, 70) as usize),
                 5 => damage_points(random, &mut draft),
-                3 => damage_lengths(random, &mut draft),
-                _ => damage_table(random, &mut draft),
+                _ => damage_lengths(random, &mut draft),
             }
         }
     }
-    let bytes = finished(&draft);
-    if numbers.contains(&1) {
-        damage_start(random, bytes)
-    } else {
-        bytes
+    let mut bytes = finished(&draft);
+    if numbers.contains(&2) {
+        bytes = damage_table(random, bytes);
     }
+    if numbers.contains(&1) {
+        bytes = damage_start(random, bytes);
+    }
+    bytes
 }
 
 /// A valid state to damage: four pins or more, and a Steiner point.
@@ -59,14 +65,9 @@ fn base(random: &mut Random) -> State {
 }
 
 fn finished(draft: &Draft) -> Vec<u8> {
-    let mut bytes = assemble(&draft.pins, &draft.steiner, &draft.edges);
-    if let Some((place, difference)) = draft.table {
-        let at = header(0) + 4 * place;
-        let old = u32::from_le_bytes(bytes[at..at + 4].try_into().unwrap());
-        bytes[at..at + 4].copy_from_slice(&old.wrapping_add(difference).to_le_bytes());
-    }
-    bytes.extend(vec![0; draft.tail]);
-    bytes
+    let mut parts = vec![&draft.pins[..], &draft.steiner, &draft.edges];
+    parts.extend(draft.kinds.as_deref());
+    of_sections(&parts)
 }
 
 /// Damage 1: the first bytes, the section count, or the size.
@@ -74,23 +75,36 @@ fn damage_start(random: &mut Random, mut bytes: Vec<u8>) -> Vec<u8> {
     match random.range(0, 3) {
         0 => bytes[random.range(0, 3) as usize] ^= 1 << random.range(0, 7),
         1 => {
-            let count = random.pick(&[0u16, 1, 2, 4, 5, 259, 768, 65_535]);
-            bytes[COUNT..COUNT + 2].copy_from_slice(&count.to_le_bytes());
+            let count = random.pick(&[0, 1, 2, 5, 259, 260, 768, 1_024, 65_535]);
+            bytes = with_count(&bytes, count);
         }
-        2 => bytes.truncate(random.range(0, HEADER as i64 - 1) as usize),
-        _ => bytes.resize(random.range(LONGEST as i64 + 1, 900) as usize, 0),
+        2 => bytes.truncate(random.range(0, SHORTEST as i64 - 1) as usize),
+        _ => bytes.resize(random.range(LONGEST as i64 + 1, 1_000) as usize, 0),
     }
     bytes
 }
 
-/// Damage 2: one number of the table, or bytes past the last section.
-fn damage_table(random: &mut Random, draft: &mut Draft) {
-    if random.once_in(4) {
-        draft.tail = random.range(1, 4) as usize;
-    } else {
-        let difference = random.pick(&[1, 2, 4, u32::MAX, u32::MAX - 3, 1 << 16, 1 << 31]);
-        draft.table = Some((random.range(0, 5) as usize, difference));
+/// Damage 2: bytes past the last section, the count or the start of the other
+/// form, too few bytes for four pairs, or one number of the table.
+fn damage_table(random: &mut Random, mut bytes: Vec<u8>) -> Vec<u8> {
+    let count = sections(&bytes).expect("a file").len();
+    let other = WITHOUT_DEVICES + WITH_DEVICES - count;
+    match random.range(0, 7) {
+        0 => bytes.extend(vec![0; random.range(1, 4) as usize]),
+        1 => bytes = with_count(&bytes, other),
+        2 => bytes = with_start(&bytes, header(other)),
+        3 => {
+            bytes = with_count(&bytes, WITH_DEVICES);
+            bytes.truncate(random.range(SHORTEST as i64, header(WITH_DEVICES) as i64 - 1) as usize);
+        }
+        _ => {
+            let at = header(0) + 4 * random.range(0, 2 * count as i64 - 1) as usize;
+            let difference = random.pick(&[1, 2, 4, u32::MAX, u32::MAX - 3, 1 << 16, 1 << 31]);
+            let old = u32::from_le_bytes(bytes[at..at + 4].try_into().unwrap());
+            bytes[at..at + 4].copy_from_slice(&old.wrapping_add(difference).to_le_bytes());
+        }
     }
+    bytes
 }
 
 /// Damage 3: a section whose length is no multiple.
@@ -138,6 +152,20 @@ fn damage_edges(random: &mut Random, state: &State, draft: &mut Draft) {
         4 => edges.clear(),
         5 => edges[place] = edges[place + 1],
         _ => *edges = other_tree(state, edges),
+    }
+}
+
+/// Damage 15: a kind that there is not, a byte less or more than pins, or
+/// sensors alone.
+fn damage_kinds(random: &mut Random, draft: &mut Draft) {
+    let pins = draft.pins.len() / 4;
+    let kinds = draft.kinds.get_or_insert(vec![1; pins]);
+    let place = random.range(0, pins as i64 - 1) as usize;
+    match random.range(0, 3) {
+        0 => kinds[place] = random.pick(&[3, 4, 128, 255]),
+        1 => kinds.drain(place..=place).for_each(drop),
+        2 => kinds.insert(place, random.range(0, 2) as u8),
+        _ => kinds.fill(0),
     }
 }
 

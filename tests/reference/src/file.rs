@@ -1,7 +1,8 @@
 //! The deck file.
 
+use crate::pins::{only_sensors, places, sensors, Pin};
 use crate::plane::Point;
-use crate::session::{rises, valid, State, MOST_PINS};
+use crate::session::{rises, valid, State, BAD_KIND, MOST_PINS};
 use crate::tree::{degree, listing_order, tree};
 
 /// The first four bytes of a file.
@@ -9,16 +10,26 @@ pub const MAGIC: &[u8; 4] = b"DECK";
 /// Where the count of sections stands, two bytes.
 pub const COUNT: usize = MAGIC.len();
 
-/// The sections by their numbers, and how many there are.
+/// The sections by their numbers. The last one, the kinds of the devices, may be
+/// missing.
 pub const PINS: usize = 0;
 pub const STEINER: usize = 1;
 pub const EDGES: usize = 2;
-pub const SECTIONS: usize = 3;
+pub const DEVICES: usize = 3;
 
-/// The bytes before the first section.
-pub const HEADER: usize = header(SECTIONS);
-/// The length of the longest file.
-pub const LONGEST: usize = 784;
+/// How many sections there are without the kinds, and with them.
+pub const WITHOUT_DEVICES: usize = DEVICES;
+pub const WITH_DEVICES: usize = DEVICES + 1;
+
+/// The length of the shortest file.
+pub const SHORTEST: usize = header(WITHOUT_DEVICES);
+/// The length of the longest file: of p pins it has p - 2 taps, one run less
+/// than points, and the kinds.
+pub const LONGEST: usize = header(WITH_DEVICES)
+    + 4 * MOST_PINS
+    + 4 * (MOST_PINS - 2)
+    + 2 * (2 * MOST_PINS - 3)
+    + MOST_PINS;
 
 /// The bytes of the header of some sections: the four letters, the count, and
 /// offset and length of each.
@@ -35,16 +46,23 @@ pub fn write(state: &State) -> Vec<u8> {
         edges.push(number(edge.lower));
         edges.push(number(edge.higher));
     }
-    assemble(
-        &point_bytes(&state.pins),
-        &point_bytes(&state.steiner),
-        &edges,
-    )
+    with_devices(&state.pins, &point_bytes(&state.steiner), &edges)
 }
 
 /// The plain file of some pins (SPEC 7.4: plain), in the order given.
-pub fn write_plain(pins: &[Point]) -> Vec<u8> {
-    assemble(&point_bytes(pins), &[], &[])
+pub fn write_plain(pins: &[Pin]) -> Vec<u8> {
+    with_devices(pins, &[], &[])
+}
+
+/// The file of some pins and two sections. It has the kinds exactly if one of
+/// the pins is no sensor.
+fn with_devices(pins: &[Pin], steiner: &[u8], edges: &[u8]) -> Vec<u8> {
+    let points = point_bytes(&places(pins));
+    if only_sensors(pins) {
+        assemble(&points, steiner, edges)
+    } else {
+        of_sections(&[&points, steiner, edges, &kind_bytes(pins)])
+    }
 }
 
 /// The file of three sections.
@@ -85,6 +103,12 @@ pub fn point_bytes(points: &[Point]) -> Vec<u8> {
     bytes
 }
 
+/// The bytes of a section of kinds, one for each pin.
+pub fn kind_bytes(pins: &[Pin]) -> Vec<u8> {
+    let byte = |pin: &Pin| u8::try_from(pin.kind).expect("a kind of one byte");
+    pins.iter().map(byte).collect()
+}
+
 /// Writes the file at the start of a buffer. Checks 11, 12.
 pub fn write_into(state: &State, buffer: &mut [u8]) -> Result<usize, u8> {
     valid(state)?;
@@ -96,10 +120,9 @@ pub fn write_into(state: &State, buffer: &mut [u8]) -> Result<usize, u8> {
     Ok(bytes.len())
 }
 
-/// Reads a file. Checks 1 to 6, in this order.
+/// Reads a file. Checks 1 to 6 and 15, in this order.
 pub fn read(bytes: &[u8]) -> Result<State, u8> {
-    check_start(bytes)?;
-    let sections = sections(bytes, SECTIONS)?;
+    let sections = sections(bytes)?;
     let (pins, steiner, edges) = (sections[PINS], sections[STEINER], sections[EDGES]);
     if pins.len() % 4 != 0 || steiner.len() % 4 != 0 || edges.len() % 2 != 0 {
         return Err(3);
@@ -109,29 +132,47 @@ pub fn read(bytes: &[u8]) -> Result<State, u8> {
     }
     let (pins, steiner) = (points_of(pins), points_of(steiner));
     check_points(&pins, &steiner)?;
-    let state = State { pins, steiner };
+    let pins = sensors(&pins);
+    let mut state = State { pins, steiner };
     let plain = state.steiner.is_empty() && edges.is_empty();
     if !plain && !shows_valid(&state, edges) {
         return Err(6);
     }
+    if let Some(kinds) = sections.get(DEVICES) {
+        state.pins = named(&state.pins, kinds)?;
+    }
     Ok(state)
 }
 
-/// Check 1: the size, the first four bytes and the section count.
-fn check_start(bytes: &[u8]) -> Result<(), u8> {
-    if bytes.len() < HEADER || bytes.len() > LONGEST {
-        return Err(1);
+/// Check 15: a kind for each pin, each of them known, and not sensors alone.
+/// The pins with these kinds.
+fn named(pins: &[Pin], kinds: &[u8]) -> Result<Vec<Pin>, u8> {
+    let pair = |(pin, &kind): (&Pin, &u8)| Pin::new(pin.point, kind.into());
+    let named: Vec<Pin> = pins.iter().zip(kinds).map(pair).collect();
+    let known = named.iter().all(|pin| pin.is_known());
+    if kinds.len() != pins.len() || !known || only_sensors(&named) {
+        return Err(BAD_KIND);
     }
-    let count = u16::from_le_bytes([bytes[COUNT], bytes[COUNT + 1]]);
-    if &bytes[..COUNT] != MAGIC || count as usize != SECTIONS {
-        return Err(1);
-    }
-    Ok(())
+    Ok(named)
 }
 
-/// Check 2: bytes for the pairs of so many sections, and these sections, each
-/// from where the one before ends.
-fn sections(bytes: &[u8], count: usize) -> Result<Vec<&[u8]>, u8> {
+/// Check 1: the size, the first four bytes and the section count, which is
+/// handed back.
+fn check_start(bytes: &[u8]) -> Result<usize, u8> {
+    if bytes.len() < SHORTEST || bytes.len() > LONGEST || &bytes[..COUNT] != MAGIC {
+        return Err(1);
+    }
+    let count = u16::from_le_bytes([bytes[COUNT], bytes[COUNT + 1]]) as usize;
+    if count != WITHOUT_DEVICES && count != WITH_DEVICES {
+        return Err(1);
+    }
+    Ok(count)
+}
+
+/// The sections of a file. Checks 1 and 2: bytes for all the pairs, and each
+/// section from where the one before ends.
+pub fn sections(bytes: &[u8]) -> Result<Vec<&[u8]>, u8> {
+    let count = check_start(bytes)?;
     if bytes.len() < header(count) {
         return Err(2);
     }

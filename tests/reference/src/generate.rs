@@ -1,8 +1,9 @@
 //! Pseudo-random decks and call lists for tests.
 
+use crate::devices::{any_kind, any_line, devices, kind as device_kind};
 use crate::file::{point_bytes, write, write_plain};
 use crate::plane::{Point, LIMIT};
-use crate::script::{arrow_line, call_line, hex_of};
+use crate::script::{arrow_line, hex_of};
 use crate::session::{call, prune, Call, State, MOST_PINS};
 use crate::sights::sight;
 
@@ -52,7 +53,7 @@ impl Random {
     }
 }
 
-/// The kinds of decks.
+/// The kinds of decks, by where their points are.
 #[derive(Clone, Copy, Debug, PartialEq, Eq)]
 pub enum Kind {
     /// Anywhere in the whole range.
@@ -150,13 +151,13 @@ impl Place {
     }
 }
 
-/// Some pins of a kind, rising.
+/// The points of some pins, on a deck of a kind, rising.
 pub fn pins(random: &mut Random, kind: Kind, most: usize) -> Vec<Point> {
     let place = Place::new(random, kind);
     place.points(random, most)
 }
 
-/// Exactly 64 pins on a grid of even pitch, rising.
+/// The points of exactly 64 pins, on a grid of even pitch, rising.
 pub fn most_pins(random: &mut Random) -> Vec<Point> {
     let mut points = Vec::new();
     while points.len() < MOST_PINS {
@@ -170,7 +171,8 @@ pub fn most_pins(random: &mut Random) -> Vec<Point> {
     points
 }
 
-/// A valid state with Steiner points anywhere, also on lines of no pin.
+/// A valid state with devices of any kind and with Steiner points anywhere, also
+/// on lines of no pin.
 pub fn full_state(random: &mut Random, kind: Kind, most: usize) -> State {
     let place = Place::new(random, kind);
     full_state_at(random, &place, most)
@@ -178,9 +180,10 @@ pub fn full_state(random: &mut Random, kind: Kind, most: usize) -> State {
 
 /// The same at a given place.
 pub fn full_state_at(random: &mut Random, place: &Place, most: usize) -> State {
-    let pins = place.points(random, most);
+    let points = place.points(random, most);
     let mut steiner = place.points(random, most);
-    steiner.retain(|tap| !pins.contains(tap));
+    steiner.retain(|tap| !points.contains(tap));
+    let pins = devices(random, &points);
     prune(State { pins, steiner })
 }
 
@@ -197,17 +200,23 @@ pub fn good_file(random: &mut Random, kind: Kind, most: usize) -> Vec<u8> {
 /// A call on a state: most are taken, some are refused.
 pub fn one_call(random: &mut Random, place: &Place, state: &State) -> Call {
     let near = place.point(random);
+    let far = random.pick(&[-LIMIT - 1, -LIMIT, LIMIT, LIMIT + 1]);
+    let device = any_kind(random);
     let held = state.points();
     match random.range(0, 15) {
-        0 => Call::Add(random.pick(&[-LIMIT - 1, -LIMIT, LIMIT, LIMIT + 1]), near.y),
-        1 => Call::Add(near.x, random.pick(&[-LIMIT - 1, -LIMIT, LIMIT, LIMIT + 1])),
+        0 => Call::Add(far, near.y, device),
+        1 => Call::Add(near.x, far, device),
         2 => Call::Withdraw(near.x, near.y),
-        3 | 4 if !held.is_empty() => {
+        3 if !held.is_empty() => {
             let point = random.pick(&held);
-            Call::Add(point.x, point.y)
+            Call::Add(point.x, point.y, device)
+        }
+        4 if !state.steiner.is_empty() => {
+            let point = random.pick(&state.steiner);
+            Call::Add(point.x, point.y, device)
         }
         5..=7 if !state.pins.is_empty() => {
-            let point = random.pick(&state.pins);
+            let point = random.pick(&state.pins).point;
             Call::Withdraw(point.x, point.y)
         }
         8 if !state.steiner.is_empty() => {
@@ -216,7 +225,7 @@ pub fn one_call(random: &mut Random, place: &Place, state: &State) -> Call {
         }
         9 => Call::Finish,
         10 | 11 => Call::Round,
-        _ => Call::Add(near.x, near.y),
+        _ => Call::Add(near.x, near.y, device),
     }
 }
 
@@ -228,7 +237,7 @@ pub fn call_list(random: &mut Random, kind: Kind, from: &State, calls: usize) ->
     for i in 0..calls {
         let next = if 2 * i < calls {
             let point = place.point(random);
-            Call::Add(point.x, point.y)
+            Call::Add(point.x, point.y, device_kind(random))
         } else {
             one_call(random, &place, &state)
         };
@@ -249,7 +258,7 @@ pub fn script(random: &mut Random, kind: Kind, calls: usize) -> String {
     }
     for one in call_list(random, kind, &state, calls) {
         state = call(&state, one).0;
-        text += &format!("{}\nlist\n", call_line(one));
+        text += &format!("{}\nlist\n", any_line(random, one));
         text += &question(random, &state);
     }
     text + "write\n"

@@ -3,30 +3,32 @@
 
 use crate::arrows::{Sight, BAD_PITCH, FARTHEST, TOO_FAR};
 use crate::damage::damaged;
-use crate::examples::{comb, cross, deck, points, square_of_64};
+use crate::devices::{refused_files, NO_KINDS};
+use crate::examples::{comb, cross, deck, mixed, points, square_of_64};
 use crate::file::write;
 use crate::generate::Random;
+use crate::pins::{sensors, Pin, CONTROLLER, SENSOR};
 use crate::plane::Point;
 use crate::script::{arrow_line, call_line, hex_of};
-use crate::session::{Call, State};
+use crate::session::{Call, State, BAD_KIND};
 use crate::sights::{across, LEAST, MOST, NO_PITCHES, PITCHES};
 
 /// The numbers by which a file is refused.
-pub const OF_FILE: [u8; 6] = [1, 2, 3, 4, 5, 6];
+pub const OF_FILE: [u8; 7] = [1, 2, 3, 4, 5, 6, BAD_KIND];
 
-/// The numbers by which a call on a sound deck is refused: 7, 8 and 10 for
+/// The numbers by which a call on a sound deck is refused: 7, 15, 8 and 10 for
 /// adding, 9 for withdrawing.
-pub const OF_CALL: [u8; 4] = [7, 8, 9, 10];
+pub const OF_CALL: [u8; 5] = [7, 8, 9, 10, BAD_KIND];
 
 /// The numbers that an entry for C answers: those of a file, and 12.
-pub const OF_ENTRY: [u8; 7] = [1, 2, 3, 4, 5, 6, 12];
+pub const OF_ENTRY: [u8; 8] = [1, 2, 3, 4, 5, 6, NO_ROOM, BAD_KIND];
 
 /// The numbers that a call on any deck at all is refused by: those of a call on
 /// a sound one, and 11.
-pub const OF_ANY_DECK: [u8; 5] = [7, 8, 9, 10, 11];
+pub const OF_ANY_DECK: [u8; 6] = [7, 8, 9, 10, NOT_SOUND, BAD_KIND];
 
 /// The numbers that a script can cause: all but 11, since its decks are sound.
-pub const OF_SCRIPT: [u8; 13] = [1, 2, 3, 4, 5, 6, 7, 8, 9, 10, 12, 13, 14];
+pub const OF_SCRIPT: [u8; 14] = [1, 2, 3, 4, 5, 6, 7, 8, 9, 10, 12, 13, 14, 15];
 
 /// The numbers by which an arrow is refused.
 pub const OF_ARROW: [u8; 2] = [BAD_PITCH, TOO_FAR];
@@ -38,7 +40,7 @@ pub const NOT_SOUND: u8 = 11;
 pub const NO_ROOM: u8 = 12;
 
 /// The last number of a refusal; the first is 1.
-const LAST: u8 = 14;
+const LAST: u8 = BAD_KIND;
 
 /// How many refusals of each number a test has seen.
 #[derive(Clone, Debug, Default, PartialEq, Eq)]
@@ -47,7 +49,7 @@ pub struct Refusals {
 }
 
 impl Refusals {
-    /// Counts one refusal; there are the numbers from 1 to 14 only.
+    /// Counts one refusal; there are the numbers from 1 to `LAST` only.
     pub fn see(&mut self, number: u8) {
         assert!((1..=LAST).contains(&number), "no refusal has {number}");
         self.counts[number as usize] += 1;
@@ -81,38 +83,56 @@ impl Refusals {
 /// Sound decks with calls that are refused, and by which number. Where a call
 /// has two faults, the number is that of the check that comes first.
 pub fn refused_calls() -> Vec<(State, Call, u8)> {
-    let (least, most) = (i64::from(i32::MIN), i64::from(i32::MAX));
-    let full = State::new(square_of_64(), Vec::new());
+    let full = State::new(sensors(&square_of_64()), Vec::new());
     let mut cases = Vec::new();
     for state in [
         State::default(),
         deck(&[(0, 0)]),
         cross(),
+        mixed(cross()),
         full.clone(),
+        mixed(full),
         comb(62),
     ] {
-        for out in [30_001, -30_001, least, most] {
-            for (x, y) in [(out, 1), (1, out), (out, out)] {
-                cases.push((state.clone(), Call::Add(x, y), 7));
-                cases.push((state.clone(), Call::Withdraw(x, y), 9));
+        let mut refuse = |call: Call, number: u8| cases.push((state.clone(), call, number));
+        for call in out_of_range() {
+            let adds = matches!(call, Call::Add(..));
+            refuse(call, if adds { 7 } else { 9 });
+        }
+        for pin in state.pins.iter().step_by(20) {
+            let Point { x, y } = pin.point;
+            refuse(Call::Add(x, y, pin.kind), 8);
+            refuse(Call::Add(x, y, (pin.kind + 1) % 3), 8);
+            for kind in NO_KINDS {
+                refuse(Call::Add(x, y, kind), BAD_KIND);
             }
         }
-        for pin in state.pins.iter().step_by(5) {
-            cases.push((state.clone(), Call::Add(pin.x, pin.y), 8));
-        }
-        for tap in state.steiner.iter().step_by(5) {
-            cases.push((state.clone(), Call::Withdraw(tap.x, tap.y), 9));
+        let taps: Vec<Point> = state.steiner.iter().copied().step_by(20).collect();
+        let free = points(&[(5, 4), (-30_000, 30_000), (70, 71)]);
+        for Point { x, y } in [&taps[..], &free].concat() {
+            refuse(Call::Withdraw(x, y), 9);
+            for kind in NO_KINDS {
+                refuse(Call::Add(x, y, kind), BAD_KIND);
+            }
             if state.pins.len() == 64 {
-                cases.push((state.clone(), Call::Add(tap.x, tap.y), 10));
+                refuse(Call::Add(x, y, SENSOR), 10);
+                refuse(Call::Add(x, y, CONTROLLER), 10);
             }
         }
-        cases.push((state.clone(), Call::Withdraw(5, 1), 9));
-    }
-    for (x, y) in [(5, 5), (-30_000, 30_000), (70, 71)] {
-        cases.push((full.clone(), Call::Add(x, y), 10));
-        cases.push((comb(62), Call::Add(x, y), 10));
     }
     cases
+}
+
+/// Calls at places out of range, with kinds that there are and that there are not.
+fn out_of_range() -> Vec<Call> {
+    let mut calls = Vec::new();
+    for out in [30_001, -30_001, i64::from(i32::MIN), i64::from(i32::MAX)] {
+        for (x, y) in [(out, 1), (1, out), (out, out)] {
+            calls.extend([SENSOR, CONTROLLER, 3, 65_536].map(|kind| Call::Add(x, y, kind)));
+            calls.push(Call::Withdraw(x, y));
+        }
+    }
+    calls
 }
 
 /// Bays that a display is refused an arrow for, and by which number: each pitch
@@ -139,8 +159,12 @@ pub fn refused_arrows() -> Vec<(Sight, u8)> {
 /// Decks that are not sound, each by one rule.
 pub fn unsound() -> Vec<State> {
     let state = |pins: &[(i64, i64)], taps: &[(i64, i64)]| State {
-        pins: points(pins),
+        pins: sensors(&points(pins)),
         steiner: points(taps),
+    };
+    let of_kind = |kind: u32| State {
+        pins: vec![Pin::new(Point::new(0, 0), kind)],
+        steiner: Vec::new(),
     };
     let mut many = square_of_64();
     many.push(Point::new(100, 100));
@@ -156,7 +180,9 @@ pub fn unsound() -> Vec<State> {
             &[(0, 0), (5, 8), (10, 0), (40, 0), (45, 8), (50, 0)],
             &[(45, 0), (5, 0)],
         ),
-        State::new(many, Vec::new()),
+        State::new(sensors(&many), Vec::new()),
+        of_kind(CONTROLLER + 1),
+        of_kind(u32::MAX),
     ]
 }
 
@@ -178,13 +204,15 @@ pub fn refused_scripts(random: &mut Random) -> Vec<(String, String, u8)> {
     for (state, asked, number) in refused_calls() {
         scripts.push(script(&state, call_line(asked), &state, number));
     }
+    let mut files = refused_files();
     for number in OF_FILE {
-        for _ in 0..20 {
-            let line = format!("read {}", hex_of(&damaged(random, &[number])));
-            scripts.push(script(&cross(), line, &State::default(), number));
-        }
+        files.extend((0..20).map(|_| (damaged(random, &[number]), number)));
     }
-    for state in [State::default(), cross(), comb(62)] {
+    for (bytes, number) in files {
+        let line = format!("read {}", hex_of(&bytes));
+        scripts.push(script(&cross(), line, &State::default(), number));
+    }
+    for state in [State::default(), cross(), comb(62), mixed(comb(62))] {
         let size = write(&state).len();
         for short in (0..10).chain(size - 10..size) {
             let line = format!("write {short}");

@@ -4,6 +4,7 @@
 use crate::arrows::{arrow, glyph, Sight};
 use crate::file::{read, write_into, LONGEST};
 use crate::listing::listing;
+use crate::pins::SENSOR;
 use crate::plane::{octant, Point};
 use crate::session::{call, counts, degree_at, edge_at, length};
 use crate::session::{Call, Reply, State};
@@ -47,7 +48,11 @@ pub fn answer_line(state: &mut State, line: &[u8]) -> Option<String> {
 /// The call that may change the deck, if the words ask for one.
 pub fn call_of(words: &[&str]) -> Option<Call> {
     match words {
-        ["add", x, y] => Some(Call::Add(number(x)?, number(y)?)),
+        ["add", x, y] => Some(Call::Add(number(x)?, number(y)?, SENSOR)),
+        ["add", x, y, kind] => {
+            let kind = u32::try_from(number(kind)?).ok()?;
+            Some(Call::Add(number(x)?, number(y)?, kind))
+        }
         ["withdraw", x, y] => Some(Call::Withdraw(number(x)?, number(y)?)),
         ["round"] => Some(Call::Round),
         ["finish"] => Some(Call::Finish),
@@ -62,10 +67,11 @@ fn answer_call(state: &mut State, words: &[&str]) -> Option<String> {
     Some(reply_line(reply))
 }
 
-/// The line of a script that asks for a call.
+/// The line of a script that asks for a call. A sensor need not be named.
 pub fn call_line(call: Call) -> String {
     match call {
-        Call::Add(x, y) => format!("add {x} {y}"),
+        Call::Add(x, y, SENSOR) => format!("add {x} {y}"),
+        Call::Add(x, y, kind) => format!("add {x} {y} {kind}"),
         Call::Withdraw(x, y) => format!("withdraw {x} {y}"),
         Call::Round => "round".to_string(),
         Call::Finish => "finish".to_string(),

@@ -1,25 +1,29 @@
 //! The calls and questions on a deck.
 
+use crate::pins::{places, Pin};
 use crate::plane::{Edge, Point};
 use crate::tree::{degree, length as tree_length, listing_order, tree};
 
 /// The greatest number of pins.
 pub const MOST_PINS: usize = 64;
 
+/// The refusal of a call with a wrong kind, or of a file with wrong kinds.
+pub const BAD_KIND: u8 = 15;
+
 /// A deck between calls (SPEC 1.2: deck), both lists rising. Its tree is
 /// worked out from them whenever it is needed.
 #[derive(Clone, Debug, Default, PartialEq, Eq, Hash)]
 pub struct State {
-    pub pins: Vec<Point>,
+    pub pins: Vec<Pin>,
     /// The Steiner points (SPEC 1.2: taps).
     pub steiner: Vec<Point>,
 }
 
 /// A call that may change the deck (SPEC 4: add, withdraw, round, run to
-/// the end).
+/// the end). Adding names the kind of the device after x and y.
 #[derive(Clone, Copy, Debug, PartialEq, Eq, Hash)]
 pub enum Call {
-    Add(i64, i64),
+    Add(i64, i64, u32),
     Withdraw(i64, i64),
     Round,
     Finish,
@@ -44,15 +48,25 @@ pub enum Reply {
 
 impl State {
     /// The state with these pins and Steiner points, in any order.
-    pub fn new(mut pins: Vec<Point>, mut steiner: Vec<Point>) -> State {
+    pub fn new(mut pins: Vec<Pin>, mut steiner: Vec<Point>) -> State {
         pins.sort();
         steiner.sort();
         State { pins, steiner }
     }
 
+    /// The points of the pins.
+    pub fn places(&self) -> Vec<Point> {
+        places(&self.pins)
+    }
+
+    /// The kinds of the pins, in their order.
+    pub fn kinds(&self) -> Vec<u32> {
+        self.pins.iter().map(|pin| pin.kind).collect()
+    }
+
     /// All points held, rising.
     pub fn points(&self) -> Vec<Point> {
-        let mut points = [self.pins.clone(), self.steiner.clone()].concat();
+        let mut points = [self.places(), self.steiner.clone()].concat();
         points.sort();
         points
     }
@@ -69,7 +83,8 @@ pub fn is_valid(state: &State) -> bool {
     let points = state.points();
     state.pins.len() <= MOST_PINS
         && points.iter().all(|point| point.in_range())
-        && rises(&state.pins)
+        && state.pins.iter().all(|pin| pin.is_known())
+        && rises(&state.places())
         && rises(&state.steiner)
         && rises(&points)
         && lowest_idle(state).is_none()
@@ -98,7 +113,7 @@ fn lowest_idle(state: &State) -> Option<usize> {
 /// One call: the deck that follows and the answer.
 pub fn call(state: &State, call: Call) -> (State, Reply) {
     match call {
-        Call::Add(x, y) => add(state, Point::new(x, y)),
+        Call::Add(x, y, kind) => add(state, Pin::new(Point::new(x, y), kind)),
         Call::Withdraw(x, y) => withdraw(state, Point::new(x, y)),
         Call::Round => round(state),
         Call::Finish => finish(state),
@@ -117,29 +132,33 @@ pub fn after(calls: &[Call]) -> (State, Vec<Reply>) {
     (state, replies)
 }
 
-/// Adds a pin. Checks 11, 7, 8, 10.
-pub fn add(state: &State, point: Point) -> (State, Reply) {
+/// Adds a pin. Checks 11, 7, 15, 8, 10.
+pub fn add(state: &State, pin: Pin) -> (State, Reply) {
     if !is_valid(state) {
         return (state.clone(), Reply::Refused(11));
     }
-    if !point.in_range() {
+    if !pin.point.in_range() {
         return (state.clone(), Reply::Refused(7));
     }
-    if state.pins.contains(&point) {
+    if !pin.is_known() {
+        return (state.clone(), Reply::Refused(BAD_KIND));
+    }
+    if state.places().contains(&pin.point) {
         return (state.clone(), Reply::Refused(8));
     }
     if state.pins.len() == MOST_PINS {
         return (state.clone(), Reply::Refused(10));
     }
-    (prune(with_pin(state, point)), Reply::Done)
+    (prune(with_pin(state, pin)), Reply::Done)
 }
 
 /// The state with one more pin, before the prune. A Steiner point that stands
 /// there becomes the pin.
-pub fn with_pin(state: &State, point: Point) -> State {
-    let mut pins = state.pins.clone();
-    pins.push(point);
-    State::new(pins, without(&state.steiner, point))
+pub fn with_pin(state: &State, pin: Pin) -> State {
+    let mut next = state.clone();
+    next.steiner.retain(|&tap| tap != pin.point);
+    next.pins.push(pin);
+    State::new(next.pins, next.steiner)
 }
 
 /// Withdraws a pin. Checks 11, 9.
@@ -147,7 +166,7 @@ pub fn withdraw(state: &State, point: Point) -> (State, Reply) {
     if !is_valid(state) {
         return (state.clone(), Reply::Refused(11));
     }
-    if !state.pins.contains(&point) {
+    if !state.places().contains(&point) {
         return (state.clone(), Reply::Refused(9));
     }
     (prune(without_pin(state, point)), Reply::Done)
@@ -155,11 +174,9 @@ pub fn withdraw(state: &State, point: Point) -> (State, Reply) {
 
 /// The state with one pin less, before the prune.
 pub fn without_pin(state: &State, point: Point) -> State {
-    State::new(without(&state.pins, point), state.steiner.clone())
-}
-
-fn without(points: &[Point], point: Point) -> Vec<Point> {
-    points.iter().copied().filter(|&p| p != point).collect()
+    let mut next = state.clone();
+    next.pins.retain(|pin| pin.point != point);
+    next
 }
 
 /// The candidates of a round, rising: crossings of an x and a y of points

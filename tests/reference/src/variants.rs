@@ -1,6 +1,7 @@
 //! Mistakes that tempt: planners that differ from SPEC in one rule. They serve
 //! to find small decks on which the difference shows.
 
+use crate::pins::Pin;
 use crate::plane::{Edge, Point};
 use crate::session::{best_candidate, Call, State};
 use crate::session::{candidates, saving, with_pin, with_steiner, without_pin};
@@ -10,14 +11,14 @@ use crate::tree::{degree, length, tree};
 /// changes nothing or that prunes more than once.
 pub fn before_prune(state: &State, call: Call) -> Option<State> {
     match call {
-        Call::Add(x, y) => {
-            let point = Point::new(x, y);
-            (!state.pins.contains(&point)).then(|| with_pin(state, point))
+        Call::Add(x, y, kind) => {
+            let pin = Pin::new(Point::new(x, y), kind);
+            (!state.places().contains(&pin.point)).then(|| with_pin(state, pin))
         }
         Call::Withdraw(x, y) => {
             let point = Point::new(x, y);
             state
-                .pins
+                .places()
                 .contains(&point)
                 .then(|| without_pin(state, point))
         }
@@ -135,7 +136,7 @@ pub fn best_of_pins(state: &State) -> Option<(Point, i64)> {
     let points = state.points();
     let now = length(&tree(&points));
     let mut best: Option<(Point, i64)> = None;
-    for candidate in candidates(&state.pins) {
+    for candidate in candidates(&state.places()) {
         let held = points.contains(&candidate);
         let saved = if held {
             0

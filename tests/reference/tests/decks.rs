@@ -1,6 +1,7 @@
 //! The decks of SPEC 11, by number.
 
 use reference::examples::{cross, deck, example, points, CROSS, EXAMPLE};
+use reference::pins::{sensors, SENSOR};
 use reference::plane::{octant, Edge, Point};
 use reference::session::*;
 
@@ -75,17 +76,17 @@ fn decks_6_and_7_withdrawn() {
     assert_eq!(reply, Reply::Done);
     assert_eq!(length(&seven), Ok(10));
     assert_eq!(counts(&seven), Ok((2, 0, 1)));
-    assert_eq!(seven.pins, points(&[(0, 5), (5, 0)]));
+    assert_eq!(seven.pins, sensors(&points(&[(0, 5), (5, 0)])));
 }
 
 #[test]
 fn deck_8_pin_on_tap() {
     let cross = cross();
-    let (next, reply) = call(&cross, Call::Add(5, 5));
+    let (next, reply) = call(&cross, Call::Add(5, 5, SENSOR));
     assert_eq!(reply, Reply::Done);
     assert_eq!(counts(&next), Ok((5, 0, 4)));
     assert_eq!(length(&next), Ok(20));
-    assert!(next.pins.contains(&Point::new(5, 5)));
+    assert!(next.places().contains(&Point::new(5, 5)));
 }
 
 #[test]

@@ -3,10 +3,11 @@
 use reference::buffers::lend;
 use reference::damage::damaged;
 use reference::entry::entry;
-use reference::examples::{deck, points, EXAMPLE};
+use reference::examples::{deck, EXAMPLE};
 use reference::file::*;
 use reference::generate::{full_state, good_file, Random, KINDS};
 use reference::listing::{list_program, listing};
+use reference::pins::only_sensors;
 use reference::refusals::{Refusals, NO_ROOM, OF_ENTRY, OF_FILE};
 use reference::session::*;
 
@@ -20,14 +21,14 @@ run 5 0 10 0 5
 
 #[test]
 fn the_listing_example() {
-    let plain = write_plain(&points(&EXAMPLE));
+    let plain = write_plain(&deck(&EXAMPLE).pins);
     assert_eq!(list_program(&plain), LISTING);
     let full = write(&finish(&read(&plain).unwrap()).0);
     assert_eq!(list_program(&full), LISTING);
     assert_eq!(list_program(&write(&State::default())), "deck 0 0 0\n");
-    let one = write_plain(&points(&[(7, -3)]));
+    let one = write_plain(&deck(&[(7, -3)]).pins);
     assert_eq!(list_program(&one), "deck 1 0 0\n");
-    let two = write_plain(&points(&[(-5, 0), (5, 4)]));
+    let two = write_plain(&deck(&[(-5, 0), (5, 4)]).pins);
     assert_eq!(list_program(&two), "deck 2 0 14\nrun -5 0 5 4 14\n");
 }
 
@@ -55,40 +56,52 @@ fn taps_are_listed_before_runs_and_rising() {
 #[test]
 fn written_and_read_is_the_same() {
     let mut random = Random::new(42);
-    let mut taps = 0;
+    let (mut taps, mut four) = (0, 0);
     for kind in KINDS {
         for _ in 0..300 {
             let most = random.range(0, 24) as usize;
             let state = full_state(&mut random, kind, most);
             let bytes = write(&state);
             let (pins, steiner, edges) = counts(&state).unwrap();
-            assert_eq!(bytes.len(), 30 + 4 * pins + 4 * steiner + 2 * edges);
+            let more = if only_sensors(&state.pins) {
+                0
+            } else {
+                8 + pins
+            };
+            assert_eq!(bytes.len(), 30 + 4 * pins + 4 * steiner + 2 * edges + more);
+            assert_eq!(bytes[COUNT], if more == 0 { 3 } else { 4 });
             assert_eq!(read(&bytes), Ok(state.clone()));
             taps += steiner;
+            four += usize::from(more > 0);
         }
     }
     assert!(taps > 500, "only {taps} taps");
+    assert!(four > 700 && four < 1_700, "{four} of four sections");
 }
 
 #[test]
 fn an_accepted_full_file_is_written_back() {
     let mut random = Random::new(43);
-    let (mut plain, mut full) = (0, 0);
+    let (mut plain, mut full) = ([0; 2], [0; 2]);
     for kind in KINDS {
         for _ in 0..300 {
             let bytes = good_file(&mut random, kind, 16);
             let state = read(&bytes).unwrap();
+            let written = write(&state);
+            let four = usize::from(bytes[COUNT] == 4);
+            assert_eq!(written[COUNT], bytes[COUNT]);
             if is_plain(&bytes) {
-                plain += 1;
+                plain[four] += 1;
                 assert_eq!(write_plain(&state.pins), bytes);
-                assert_eq!(write(&state) == bytes, state.pins.len() < 2);
+                assert_eq!(written == bytes, state.pins.len() < 2);
             } else {
-                full += 1;
-                assert_eq!(write(&state), bytes);
+                full[four] += 1;
+                assert_eq!(written, bytes);
             }
         }
     }
-    assert!(plain > 300 && full > 300, "{plain} plain, {full} full");
+    let least = plain.into_iter().chain(full).min();
+    assert!(least > Some(150), "{plain:?} plain, {full:?} full");
 }
 
 #[test]
@@ -144,7 +157,7 @@ fn every_refusal_of_the_entry() {
         seen.see(number);
     };
     for number in OF_FILE {
-        for size in [0, 29, 784] {
+        for size in [0, 29, LONGEST] {
             for _ in 0..20 {
                 refuse(&damaged(&mut random, &[number]), size, number);
             }
@@ -161,7 +174,7 @@ fn every_refusal_of_the_entry() {
 /// The file that the entry is given would fit, but not the one with a tap.
 #[test]
 fn the_entry_is_short_of_room_for_the_taps() {
-    let plain = write_plain(&points(&EXAMPLE));
+    let plain = write_plain(&deck(&EXAMPLE).pins);
     let want = write(&finish(&deck(&EXAMPLE)).0);
     assert_eq!((plain.len(), want.len()), (42, 52));
     for size in 42..52 {

@@ -2,6 +2,7 @@
 //! is larger than the deck.
 
 use reference::generate::{full_state_at, Kind, Place, Random};
+use reference::pins::sensors;
 use reference::plane::Point;
 use reference::session::*;
 use reference::tree::{length, tree};
@@ -60,9 +61,9 @@ fn small_decks_after_a_withdrawal() {
     for _ in 0..1_000 {
         let place = Place::new(&mut random, Kind::Small);
         let pins = place.points(&mut random, 8);
-        let state = finish(&State::new(pins, Vec::new())).0;
+        let state = finish(&State::new(sensors(&pins), Vec::new())).0;
         let pin = random.pick(&state.pins);
-        let next = withdraw(&state, pin).0;
+        let next = withdraw(&state, pin.point).0;
         kept += next.steiner.len();
         agrees(&next);
         assert!(agrees(&finish(&next).0));
@@ -78,7 +79,7 @@ fn beyond_the_range() {
         (29_997, 30_000),
         (29_996, 29_996),
     ];
-    let pins = pins.map(|(x, y)| Point::new(x, y)).to_vec();
-    let state = finish(&State::new(pins, Vec::new())).0;
+    let pins = pins.map(|(x, y)| Point::new(x, y));
+    let state = finish(&State::new(sensors(&pins), Vec::new())).0;
     assert!(agrees(&state));
 }

@@ -2,9 +2,10 @@
 
 use reference::buffers::lend;
 use reference::entry::entry;
-use reference::examples::{comb, deck, most_points, square_of_64};
+use reference::examples::{comb, deck, mixed, most_points, square_of_64};
 use reference::file::*;
 use reference::generate::{most_pins, Random};
+use reference::pins::sensors;
 use reference::plane::Point;
 use reference::session::*;
 
@@ -36,22 +37,47 @@ fn corners_of_the_range() {
 
 #[test]
 fn the_longest_file() {
-    let state = comb(62);
+    let state = mixed(comb(62));
     assert!(is_valid(&state));
     let bytes = write(&state);
-    assert_eq!(bytes.len(), 784);
+    assert_eq!(bytes.len(), 856);
     assert_eq!(read(&bytes), Ok(state.clone()));
     assert_eq!(read(&[bytes, vec![0]].concat()), Err(1));
     assert_eq!(length(&state), Ok(62 * 3 + 63 * 10));
 }
 
+/// Without kinds the longest file has 784 bytes, but the limit is the same.
+#[test]
+fn the_longest_file_of_three_sections() {
+    let bytes = write(&comb(62));
+    assert_eq!(bytes.len(), 784);
+    assert_eq!(read(&bytes), Ok(comb(62)));
+    for more in 1..=72 {
+        assert_eq!(read(&[bytes.clone(), vec![0; more]].concat()), Err(2));
+    }
+    assert_eq!(read(&[bytes, vec![0; 73]].concat()), Err(1));
+}
+
+#[test]
+fn the_shortest_files() {
+    let empty = write(&State::default());
+    assert_eq!(empty.len(), 30);
+    assert_eq!(read(&empty), Ok(State::default()));
+    assert_eq!(read(&empty[..29]), Err(1));
+    let display = mixed(deck(&[(7, -3)]));
+    assert_eq!(write(&display).len(), 43);
+    assert_eq!(read(&write(&display)), Ok(display));
+}
+
 #[test]
 fn the_longest_file_through_the_entry() {
-    let bytes = write(&comb(62));
-    let entered = |size, written: &[u8]| lend(size, written, "784", |out| entry(&bytes, out));
-    assert_eq!(entered(783, &[]), 12);
-    assert_eq!(entered(784, &bytes), 784);
-    assert_eq!(entered(785, &bytes), 784);
+    for (state, longest) in [(comb(62), 784), (mixed(comb(62)), 856)] {
+        let bytes = write(&state);
+        let entered = |size, written: &[u8]| lend(size, written, longest, |out| entry(&bytes, out));
+        assert_eq!(entered(longest - 1, &[]), 12);
+        assert_eq!(entered(longest, &bytes), longest as u32);
+        assert_eq!(entered(longest + 1, &bytes), longest as u32);
+    }
 }
 
 #[test]
@@ -80,16 +106,16 @@ fn sixty_four_pins_run_to_the_end() {
     for _ in 0..3 {
         let plain = most_pins(&mut random);
         assert_eq!(plain.len(), 64);
-        let state = read(&write_plain(&plain)).unwrap();
+        let state = read(&write_plain(&sensors(&plain))).unwrap();
         let (next, reply) = finish(&state);
         assert!(is_valid(&next));
         assert_eq!(round(&next).1, Reply::Finished);
-        assert_eq!(next.pins, plain);
+        assert_eq!(next.pins, sensors(&plain));
         tapped += next.steiner.len();
         assert_ne!(reply, Reply::Rounds(0));
     }
     assert!(tapped > 10);
-    let square = State::new(square_of_64(), Vec::new());
+    let square = State::new(sensors(&square_of_64()), Vec::new());
     assert_eq!(finish(&square), (square.clone(), Reply::Rounds(0)));
     assert_eq!(length(&square), Ok(630));
 }

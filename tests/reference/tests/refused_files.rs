@@ -1,10 +1,11 @@
 //! Refusals 1 to 6, each beside its nearest accepted neighbour, and several
-//! damages at once.
+//! damages at once. Those of kinds are in kind_files.rs.
 
 use reference::damage::damaged;
 use reference::examples::{self, deck, points, square_of_64};
 use reference::file::*;
 use reference::generate::{full_state, many_pins, Random, KINDS};
+use reference::pins::sensors;
 use reference::plane::Point;
 use reference::refusals::{Refusals, OF_FILE};
 use reference::session::State;
@@ -54,7 +55,7 @@ fn refusal_1() {
             assert_eq!(read(&changed(&empty, place, byte)), Err(1));
         }
     }
-    for (low, high) in [(0, 0), (2, 0), (4, 0), (5, 0), (3, 1), (0, 3), (3, 3)] {
+    for (low, high) in [(0, 0), (2, 0), (5, 0), (3, 1), (4, 1), (0, 3), (3, 3)] {
         let bytes = changed(&changed(&empty, 4, low), 5, high);
         assert_eq!(read(&bytes), Err(1));
     }
@@ -101,7 +102,7 @@ fn refusal_2() {
 
 #[test]
 fn empty_sections_share_an_offset() {
-    let plain = write_plain(&points(&[(1, 2), (3, 4)]));
+    let plain = write_plain(&deck(&[(1, 2), (3, 4)]).pins);
     assert_eq!(plain.len(), 38);
     assert_eq!(&plain[14..18], &38u32.to_le_bytes());
     assert_eq!(&plain[22..26], &38u32.to_le_bytes());
@@ -133,12 +134,12 @@ fn refusal_3() {
 
 #[test]
 fn refusal_4() {
-    let most = read(&write_plain(&square_of_64())).unwrap();
-    assert_eq!(most.pins, square_of_64());
-    for count in 65..=188 {
+    let most = read(&write_plain(&sensors(&square_of_64()))).unwrap();
+    assert_eq!(most.places(), square_of_64());
+    for count in 65..=206 {
         assert_eq!(read(&assemble(&many_pins(count), &[], &[])), Err(4));
     }
-    assert_eq!(read(&assemble(&many_pins(189), &[], &[])), Err(1));
+    assert_eq!(read(&assemble(&many_pins(207), &[], &[])), Err(1));
     assert_eq!(read(&assemble(&[0; 4 * 65], &[], &[])), Err(4));
     assert_eq!(read(&assemble(&[0; 4 * 65 + 1], &[], &[])), Err(3));
     assert_eq!(read(&assemble(&[0; 4 * 64], &[], &[])), Err(5));
@@ -234,7 +235,8 @@ fn refusal_6_by_no_valid_deck() {
         "a run and no pin"
     );
     assert_eq!(read(&assemble(&line[..4], &[], &[0, 0])), Err(6), "one pin");
-    let far = State::new(points(&[(0, 0), (4, 9), (9, 3)]), points(&[(5, 4)]));
+    let pins = deck(&[(0, 0), (4, 9), (9, 3)]).pins;
+    let far = State::new(pins, points(&[(5, 4)]));
     assert_eq!(read(&write(&far)), Ok(far), "a tap on no line of a pin");
 }
 
@@ -255,10 +257,9 @@ fn the_earlier_damage_wins() {
     seen.are_exactly(&OF_FILE, 300);
     for _ in 0..300 {
         assert!(read(&damaged(&mut random, &[])).is_ok());
-        assert_eq!(read(&damaged(&mut random, &[1, 2, 3, 4, 5, 6])), Err(1));
-        assert_eq!(read(&damaged(&mut random, &[2, 3, 4, 5, 6])), Err(2));
-        assert_eq!(read(&damaged(&mut random, &[3, 4, 5, 6])), Err(3));
-        assert_eq!(read(&damaged(&mut random, &[4, 5, 6])), Err(4));
+        for (place, first) in OF_FILE.into_iter().enumerate() {
+            assert_eq!(read(&damaged(&mut random, &OF_FILE[place..])), Err(first));
+        }
     }
 }
 
@@ -284,5 +285,5 @@ fn any_byte_changed_is_refused_or_written_back() {
     }
     assert!(taken > 100, "only {taken} accepted");
     // One byte cannot move the end of a section and the start of the next.
-    seen.are_exactly(&[1, 2, 5, 6], 500);
+    seen.are_exactly(&[1, 2, 5, 6, 15], 500);
 }

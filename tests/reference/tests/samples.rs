@@ -3,10 +3,13 @@
 //! `example` is that of SPEC 7.7. `lane` has bays 250 cm apart on both sides of a
 //! lane, and a display at each end. `sixty_four` has two lanes of 28 bays each,
 //! a display at each end of both, a controller half way between these ends on
-//! both sides, and a display at the way in and at the way out.
+//! both sides, and a display at the way in and at the way out. In these three all
+//! pins are filed as sensors. `devices` names the kinds: a lane of nine sensors
+//! 250 cm apart, a display at its end, and the lane's controller beside it.
 
 use reference::file::read;
 use reference::listing::list_program;
+use reference::pins::{CONTROLLER, DISPLAY, SENSOR};
 use std::collections::BTreeSet;
 use std::fs;
 use std::path::{Path, PathBuf};
@@ -28,7 +31,7 @@ fn names(ending: &str) -> BTreeSet<String> {
 fn each_sample_is_listed_as_its_text() {
     let decks = names(".deck");
     assert_eq!(decks, names(".txt"));
-    for needed in ["example", "lane", "sixty_four"] {
+    for needed in ["devices", "example", "lane", "sixty_four"] {
         assert!(decks.contains(needed), "{needed}");
     }
     for name in &decks {
@@ -50,4 +53,14 @@ fn the_sizes_of_the_samples() {
         assert_eq!(bytes.len(), 30 + 4 * pins, "{name} is not plain");
         assert!(list_program(&bytes).starts_with(header), "{name}");
     }
+}
+
+#[test]
+fn the_kinds_of_the_devices() {
+    let bytes = fs::read(folder().join("devices.deck")).unwrap();
+    let state = read(&bytes).unwrap();
+    let count = |kind: u32| state.kinds().iter().filter(|&&other| other == kind).count();
+    assert_eq!([SENSOR, DISPLAY, CONTROLLER].map(count), [9, 1, 1]);
+    assert_eq!(bytes.len(), 38 + 5 * 11, "not plain");
+    assert!(list_program(&bytes).starts_with("deck 11 1 2850\n"));
 }

@@ -1,12 +1,8 @@
 //! The script interpreter.
 
-use reference::file::{read, write};
-use reference::generate::{script, Random, KINDS};
-use reference::listing::list_program;
-use reference::plane::Point;
+use reference::generate::Random;
 use reference::refusals::{refused_scripts, Refusals, OF_SCRIPT};
 use reference::script::{bytes_of, hex_of, play};
-use reference::session::State;
 
 /// Each line of the script beside its answer.
 fn answers(pairs: &[(&str, &str)]) {
@@ -70,6 +66,41 @@ fn refusals_in_a_session() {
     ]);
 }
 
+/// The kind is named after the place, or left out for a sensor.
+#[test]
+fn kinds() {
+    let sensors =
+        "4445434b03001e000000080000002600000000000000260000000200000000000000090000000001";
+    let kinds = "4445434b04002600000008000000\
+                 2e000000000000002e0000000200000030000000020000000000000009000000\
+                 00010102";
+    answers(&[
+        ("add 9 0 2", "ok"),
+        ("add 0 0 1", "ok"),
+        ("write", &format!("file 50 {kinds}")),
+        ("write 49", "refused 12"),
+        ("add 5 5 3", "refused 15"),
+        ("add 5 5 300", "refused 15"),
+        ("add 5 5 65536", "refused 15"),
+        ("add 5 5 2147483647", "refused 15"),
+        ("add 0 0 3", "refused 15"),
+        ("add 30001 0 3", "refused 7"),
+        ("add 0 0 2", "refused 8"),
+        ("add 30001 0 -1", "error"),
+        ("withdraw 0 0 1", "error"),
+        ("withdraw 0 0", "ok"),
+        ("withdraw 9 0", "ok"),
+        ("add 0 0", "ok"),
+        ("add 9 0 0", "ok"),
+        ("write", &format!("file 40 {sensors}")),
+        (&format!("read {kinds}"), "ok"),
+        ("list", "deck 2 0 9 / run 0 0 9 0 9"),
+        ("write", &format!("file 50 {kinds}")),
+        (&format!("read {}03", &kinds[..98]), "refused 15"),
+        ("counts", "counts 0 0 0"),
+    ]);
+}
+
 /// Every number but 11, which no script can cause: a refused call or writing
 /// leaves the deck, a refused file leaves an empty one.
 #[test]
@@ -115,7 +146,12 @@ fn octants_and_errors() {
         ("octant 0 0", "error"),
         ("octant 2147483648 0", "error"),
         ("add 1", "error"),
-        ("add 1 2 3", "error"),
+        ("add 1 2 0 0", "error"),
+        ("add 1 2 -1", "error"),
+        ("add 1 2 x", "error"),
+        ("add 1 2 +1", "error"),
+        ("add 1 2 2147483648", "error"),
+        ("add 1 x 3", "error"),
         ("add 1 x", "error"),
         ("add +1 2", "error"),
         ("add 2147483648 2", "error"),
@@ -192,7 +228,7 @@ fn lines() {
     let comment = format!("#{}\n", "x".repeat(4_000));
     assert_eq!(play(comment.as_bytes()), "error\n");
     // A file of any length that a line can hold is read, and one over the limit refused as a file.
-    for bytes in [785, 1_000, 1_997] {
+    for bytes in [857, 1_000, 1_997] {
         let line = format!("read {}\n", "00".repeat(bytes));
         assert_eq!(play(line.as_bytes()), "refused 1\n");
     }
@@ -206,65 +242,4 @@ fn hexadecimal_digits() {
     assert_eq!(bytes_of("-"), Some(Vec::new()));
     assert_eq!(bytes_of("+f"), None);
     assert_eq!(bytes_of("0aFf"), Some(vec![10, 255]));
-}
-
-/// The beginnings of the answers that a random script has to bring about.
-const WORDS: [&str; 20] = [
-    "ok",
-    "refused 7",
-    "refused 8",
-    "refused 9",
-    "refused 12",
-    "refused 13",
-    "refused 14",
-    "tap",
-    "finished",
-    "rounds",
-    "length",
-    "counts",
-    "run",
-    "no run",
-    "degree",
-    "octant",
-    "arrow",
-    "glyph",
-    "deck",
-    "file",
-];
-
-/// The listing that the last file of a script gives is the last listing.
-#[test]
-fn random_scripts() {
-    let mut random = Random::new(61);
-    let mut all = String::new();
-    for kind in KINDS {
-        for _ in 0..60 {
-            let text = script(&mut random, kind, 10) + "finish\nlist\nwrite\n";
-            let answers = play(text.as_bytes());
-            all += &answers;
-            let lines: Vec<&str> = answers.lines().collect();
-            assert_eq!(lines.len(), text.lines().count());
-            let words: Vec<&str> = lines[lines.len() - 1].split(' ').collect();
-            let bytes = bytes_of(words[2]).unwrap();
-            assert_eq!(words[1], bytes.len().to_string());
-            let listed = list_program(&bytes).trim_end().replace('\n', " / ");
-            assert_eq!(lines[lines.len() - 2], listed);
-            assert!(lines
-                .iter()
-                .all(|line| *line != "error" || text.contains("octant 0 0")));
-        }
-    }
-    for word in WORDS {
-        let count = all.lines().filter(|line| line.starts_with(word)).count();
-        assert!(count > 10, "{count} answers {word}");
-    }
-}
-
-#[test]
-fn a_script_and_a_file_agree() {
-    let pin = Point::new(3, -4);
-    let state = State::new(vec![pin], Vec::new());
-    let answer = format!("file 34 {}\n", hex_of(&write(&state)));
-    assert_eq!(play(b"add 3 -4\nwrite\n"), format!("ok\n{answer}"));
-    assert_eq!(read(&write(&state)), Ok(state));
 }

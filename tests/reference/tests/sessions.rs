@@ -3,6 +3,7 @@
 use reference::examples::square_of_64;
 use reference::file::{read, write};
 use reference::generate::*;
+use reference::pins::{only_sensors, sensors, Pin, SENSOR};
 use reference::plane::Point;
 use reference::refusals::{Refusals, OF_CALL};
 use reference::session::*;
@@ -13,15 +14,16 @@ use reference::tree::{degree, tree};
 fn reckoned(state: &State, asked: Call) -> State {
     let (mut pins, mut taps) = (state.pins.clone(), state.steiner.clone());
     match asked {
-        Call::Add(x, y) => {
-            pins.push(Point::new(x, y));
+        Call::Add(x, y, kind) => {
+            pins.push(Pin::new(Point::new(x, y), kind));
             taps.retain(|tap| *tap != Point::new(x, y));
         }
-        Call::Withdraw(x, y) => pins.retain(|pin| *pin != Point::new(x, y)),
+        Call::Withdraw(x, y) => pins.retain(|pin| pin.point != Point::new(x, y)),
         _ => taps.extend(best_candidate(state).map(|(tap, _)| tap)),
     }
     loop {
-        let edges = tree(&[pins.clone(), taps.clone()].concat());
+        let places = pins.iter().map(|pin| pin.point);
+        let edges = tree(&places.chain(taps.clone()).collect::<Vec<_>>());
         let few = taps.iter().filter(|tap| degree(&edges, **tap) < 3);
         let Some(&lowest) = few.min() else {
             return State::new(pins, taps);
@@ -51,8 +53,9 @@ fn checked(state: &State, asked: Call) -> (State, Reply) {
     (next, reply)
 }
 
-/// A run to the end is its rounds.
+/// A run to the end is its rounds, and keeps the pins with their kinds.
 fn finishes(state: &State, end: &State, rounds: usize) {
+    assert_eq!(end.pins, state.pins);
     let mut now = state.clone();
     for _ in 0..rounds {
         let (next, reply) = round(&now);
@@ -108,7 +111,7 @@ fn every_refusal_of_a_call_arises() {
     for kind in KINDS {
         for n in 0..100 {
             let mut state = match n % 20 {
-                0 => State::new(square_of_64()[n / 20 % 3..].to_vec(), Vec::new()),
+                0 => State::new(sensors(&square_of_64()[n / 20 % 3..]), Vec::new()),
                 _ => State::default(),
             };
             for asked in call_list(&mut random, kind, &state.clone(), 16) {
@@ -133,8 +136,8 @@ fn the_order_of_entry_does_not_matter() {
             let pins = pins(&mut random, kind, 10);
             let other = random.shuffled(&pins);
             let enter = |pins: &[Point]| {
-                let calls: Vec<Call> = pins.iter().map(|pin| Call::Add(pin.x, pin.y)).collect();
-                finish(&after(&calls).0)
+                let add = |pin: &Point| Call::Add(pin.x, pin.y, (pin.x % 3).unsigned_abs() as u32);
+                finish(&after(&pins.iter().map(add).collect::<Vec<_>>()).0)
             };
             assert_eq!(enter(&pins), enter(&other));
             differ += usize::from(pins != other);
@@ -155,4 +158,31 @@ fn a_finished_deck_may_be_longer_than_its_pins_alone() {
         longer += usize::from(length(&end) > length(&alone));
     }
     assert!(longer > 0);
+}
+
+/// The same calls with sensors alone get the same answers, and lead to the same
+/// points.
+#[test]
+fn trees_and_rounds_ignore_kinds() {
+    let mut random = Random::new(55);
+    let (mut answered, mut other) = (0, 0);
+    for kind in KINDS {
+        for _ in 0..100 {
+            let mut calls = call_list(&mut random, kind, &State::default(), 14);
+            calls.retain(|one| !matches!(one, Call::Add(_, _, 3..)));
+            let plain = calls.iter().map(|&one| match one {
+                Call::Add(x, y, _) => Call::Add(x, y, SENSOR),
+                same => same,
+            });
+            let (state, replies) = after(&calls);
+            let (sensors, same) = after(&plain.collect::<Vec<_>>());
+            assert_eq!(replies, same, "{calls:?}");
+            assert_eq!(state.places(), sensors.places());
+            assert_eq!(state.steiner, sensors.steiner);
+            assert!(only_sensors(&sensors.pins));
+            answered += replies.len();
+            other += usize::from(state != sensors);
+        }
+    }
+    assert!(answered > 8_000 && other > 500, "{answered} {other}");
 }

@@ -2,6 +2,7 @@
 //! set of three points of a small grid: the end of a run, the round that is
 //! finished, and that no further points give a shorter tree.
 
+use reference::pins::sensors;
 use reference::plane::Point;
 use reference::session::*;
 use reference::tree::{length as tree_length, tree};
@@ -51,7 +52,7 @@ fn one_between([a, b, c]: [Point; 3]) -> bool {
 fn runs_to_the_end() {
     let (mut none, mut one) = (0, 0);
     for pins in triples(&grid(5)) {
-        let state = State::new(pins.to_vec(), Vec::new());
+        let state = State::new(sensors(&pins), Vec::new());
         let (end, reply) = finish(&state);
         assert_eq!(length(&end), Ok(half_perimeter(&pins)), "{pins:?}");
         assert_eq!(round(&state).0, end, "{pins:?}");
@@ -76,7 +77,7 @@ fn decks_with_a_tap() {
     for pins in triples(&places) {
         let least = half_perimeter(&pins);
         for tap in others(&places, &pins) {
-            let state = State::new(pins.to_vec(), vec![tap]);
+            let state = State::new(sensors(&pins), vec![tap]);
             let Ok(before) = length(&state) else {
                 continue;
             };

@@ -2,8 +2,14 @@
 //! that the wrong turn would answer otherwise.
 
 use reference::cases::CASES;
+use reference::damage::damaged;
+use reference::devices::{refused_files, taken_files};
+use reference::file::read;
+use reference::generate::{call_list, good_file, Random, KINDS};
+use reference::kind_variants::{WRONG_CALLS, WRONG_READERS};
+use reference::refusals::{refused_calls, OF_FILE};
 use reference::script::{call_of, play};
-use reference::session::{after, Call};
+use reference::session::{after, call, Call, Reply, State};
 
 /// The case's title up to the colon, the calls, and the answers to the last
 /// call and to the listing after it.
@@ -124,5 +130,69 @@ fn each_case_has_an_example() {
     for case in &CASES {
         let (title, _) = case.title.split_once(':').unwrap();
         assert!(EXAMPLES.iter().any(|example| example.0 == title), "{title}");
+    }
+}
+
+/// Calls on decks with kinds, those that are refused and random ones, with the
+/// right answers.
+fn asked() -> Vec<(State, Call, (State, Reply))> {
+    let mut random = Random::new(71);
+    let mut asked = Vec::new();
+    for (state, one, number) in refused_calls() {
+        asked.push((state.clone(), one, (state, Reply::Refused(number))));
+    }
+    for kind in KINDS {
+        for _ in 0..40 {
+            let mut state = State::default();
+            for one in call_list(&mut random, kind, &state.clone(), 16) {
+                let right = call(&state, one);
+                asked.push((state, one, right.clone()));
+                state = right.0;
+            }
+        }
+    }
+    asked
+}
+
+#[test]
+fn wrong_calls_with_kinds_show() {
+    let asked = asked();
+    for (title, wrong) in WRONG_CALLS {
+        let shows = asked
+            .iter()
+            .filter(|(state, one, right)| wrong(state, *one) != *right);
+        let shown = shows.count();
+        println!("{title}: {shown} of {}", asked.len());
+        assert!(shown > 9, "{title}: {shown} calls");
+    }
+}
+
+#[test]
+fn wrong_readers_of_kinds_show() {
+    let refused = refused_files().into_iter().map(|(file, _)| file);
+    let files: Vec<Vec<u8>> = taken_files().into_iter().chain(refused).collect();
+    for (title, wrong) in WRONG_READERS {
+        let shows = files.iter().any(|file| wrong(file) != read(file));
+        assert!(shows, "{title}");
+    }
+}
+
+/// Random files show them too, but for those that need a file of one length.
+#[test]
+fn wrong_readers_of_kinds_show_at_random() {
+    let mut random = Random::new(72);
+    let mut files = Vec::new();
+    for kind in KINDS {
+        files.extend((0..20).map(|_| good_file(&mut random, kind, 10)));
+    }
+    for first in OF_FILE {
+        for second in OF_FILE {
+            files.extend((0..20).map(|_| damaged(&mut random, &[first, second])));
+        }
+    }
+    let rare = ["no pin is taken", "three sections keep a shorter limit"];
+    for (title, wrong) in WRONG_READERS {
+        let shows = files.iter().any(|file| wrong(file) != read(file));
+        assert_eq!(shows, !rare.contains(&title), "{title}");
     }
 }

@@ -6,7 +6,9 @@ use Rattle.calls.proofs.round.Tie as tie
 
 returns : tie.Need-returns
 returns c =
-    round-is _ _ _ (c .before .before .round-of .ensures) (c .reply-of .ensures)
+    let at-round-of = c .before .before .before in
+    let entry = at-round-of .before in
+    round-is _ (entry .pre .0) (entry .pre .1) _ _ (at-round-of .round-of .ensures) (c .reply-of .ensures)
 
 pub round-spec : {M : Type 1} → statement M
 round-spec = tie.close (tie.spec (λ c κs. search needs) (λ c κs. search needs) returns)

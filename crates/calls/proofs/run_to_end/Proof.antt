@@ -6,7 +6,9 @@ use Rattle.calls.proofs.run_to_end.Tie as tie
 
 returns : tie.Need-returns
 returns c =
-    end-is _ _ (c .before .finish-of .ensures)
+    let at-finish-of = c .before .before in
+    let entry = at-finish-of .before in
+    end-is _ (entry .pre .0) (entry .pre .1) _ (at-finish-of .finish-of .ensures)
 
 pub run-to-end-spec : {M : Type 1} → statement M
 run-to-end-spec = tie.close (tie.spec (λ c κs. search needs) returns)

@@ -1,4 +1,4 @@
--- `calls::withdraw_at` meets its contract: the test for 9, else the pin leaves.
+-- `calls::withdraw_at` meets its contract: the test for 9, else the pin leaves, and its kind with it.
 use mathlib.Core.Path.{sym, _∙_}
 use borrow.Author.Tests.{not-true, not-false}
 use Rattle.calls.proofs.PointCalls.{refused-is, done-is, withdraw-none, withdraw-done, pin-there}
@@ -17,13 +17,21 @@ returns c =
 
 returns-2 : tie.Need-returns-2
 returns-2 c =
-    let at-test = c .before in
+    let at-remove = c .before in
+    let at-test = at-remove .before in
     let at-has = at-test .before in
     let entry = at-has .before .before .before in
-    done-is _ _ _ _ (c .remove .ensures .0) (c .remove .ensures .1)
+    done-is _ _ _ _ _ (at-remove .remove .ensures) _ (c .follow .ensures)
     (withdraw-done _ _ (sym (pin-there _ (entry .pre .0) _ (entry .pre .1)) ∙ sym (at-has .has .ensures) ∙ not-false _ (at-test .if1 .left)))
 
 pub withdraw-at-spec : {M : Type 1} → statement M
 withdraw-at-spec =
     tie.close
-    (tie.spec (λ c. search needs) (λ c κs. search needs) (λ c κs. search needs) returns (λ c κs. search needs) returns-2)
+    (tie.spec
+    (λ c. search needs)
+    (λ c κs. search needs)
+    (λ c κs. search needs)
+    returns
+    (λ c κs. search needs)
+    (λ c κs. search needs)
+    returns-2)

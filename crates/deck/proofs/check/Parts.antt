@@ -1,22 +1,26 @@
 -- The parts of check 11 say together that a deck is sound, and each fails only where it is not: a search for a weak Steiner point in
--- the working form of arranged points tells whether they are those of a valid state; with the same edges the deck is sound.
+-- the working form of arranged points tells whether they are those of a valid state; with kinds, zeros behind them and the same edges the deck is
+-- sound.
 use mathlib.Core.Path.{_≡_, refl, sym, ap, _∙_, subst, subst⁻¹}
-use mathlib.Core.Bool.{Bool, true, false}
+use mathlib.Core.Bool.{Bool, true, false, _&&_}
 use mathlib.Core.Option.{Option, none}
 use mathlib.Core.List.{List, List·Memᴰ}
 use Prim.Native.Nat.{ℕ, _≤_, _<_}
 use native.Mathlib.Omega.{arith}
-use lib.Dec.{T}
+use lib.Dec.{T, leb→le, le→leb}
 use lib.ListN.{length, take}
+use lib.Seq.{length-take-le}
 use Rattle.arrays.specs.Same.{sameList}
+use Rattle.arrays.specs.Set.{all}
+use Rattle.arrays.proofs.Set.{all-in}
 use Rattle.arrays.proofs.Test.{and-parts, and-both, true-of, of-true, false-of}
 use Rattle.arrays.proofs.same.Alike.{same-refl, same-eq}
 use Rattle.plane.specs.Point.{Point}
 use Rattle.model.specs.Tree.{mst, edgesAt}
-use Rattle.model.specs.State.{State, points, Valid, valid, lowestWeak}
-use Rattle.model.specs.Contents.{ofState}
+use Rattle.model.specs.State.{State, points, Valid, valid, lowestWeak, maxPins}
+use Rattle.model.specs.DeviceKinds.{largestKind, isKind}
 use Rattle.model.proofs.Prune.{LowestWeakView, all-strong, weak, lowest-weak-view}
-use Rattle.model.proofs.Validity.{valid-is, of-state-valid}
+use Rattle.model.proofs.Validity.{valid-is}
 use Rattle.points.specs.declared.Points.{Points}
 use Rattle.points.specs.Coded as coded
 use Rattle.points.proofs.Codes.{codes-full}
@@ -24,14 +28,17 @@ use Rattle.points.proofs.Coded.{pins-count, arranged-coded}
 use Rattle.points.proofs.check.Tests.{arranged-passes}
 use Rattle.working.specs.Weak.{weakAt}
 use Rattle.working.specs.declared.Working.{Working}
+use Rattle.working.specs.declared.deck.WorkingDeck.{WorkingDeck}
+use Rattle.working.specs.WorkingDeck as workingDeck
 use Rattle.working.specs.InOrder as work
 use Rattle.working.proofs.InOrder.{arranged-placed}
 use Rattle.working.proofs.prune.Sweep.{Found, none-weak, at, found, order-degree}
 use Rattle.deck.specs.declared.Deck.{Deck}
+use Rattle.deck.specs.declared.check.Formed.{Formed}
 use Rattle.deck.specs.declared.check.Checked.{Checked}
 use Rattle.deck.specs.Form.{deckOf, contentsOf, stateOf, Sound, sound}
-use Rattle.deck.specs.Check.{validPoints, Checks}
-use Rattle.deck.proofs.Form.{sound-is, sound-arranged}
+use Rattle.deck.specs.Check.{validPoints, Forms, Checks}
+use Rattle.deck.proofs.Form.{sound-is, sound-arranged, same-contents}
 
 -- The search in a working form for a Steiner point of at most two edges.
 module _ (w : Working) (p : work.InOrder w) (j : ℕ) (is : j ≡ weakAt w) where
@@ -87,13 +94,22 @@ module _ (w : Working) (p : work.InOrder w) (j : ℕ) (is : j ≡ weakAt w) wher
 pub refuted : {a b : Bool} → a ≡ b → a ≡ false → ¬ T b
 refuted e n t = subst T (sym e ∙ n) t
 
--- The answer where a test does not hold, and where it does.
-pub refused : (test : Bool) (q : Points) (r : Checked) → r .ok ≡ false → ¬ T test → Checks test q r
-refused test q r e never =
+-- The answer where a test does not hold, and where it does: of points, and of a deck.
+pub no-form : (test : Bool) (q : Points) (r : Formed) → r .ok ≡ false → ¬ T test → Forms test q r
+no-form test q r e never =
     record { ok = e ∙ sym (false-of test never); inOrder = λ t. absurd (never t); same = λ t. absurd (never t) }
 
-pub accepted : (test : Bool) (q : Points) (r : Checked) → r .ok ≡ true → T test → work.InOrder (r .working) → r .working .points ≡ q → Checks test q r
-accepted test q r e s p f = record { ok = e ∙ sym (true-of test s); inOrder = λ t. p; same = λ t. f }
+pub formed : (test : Bool) (q : Points) (r : Formed) → r .ok ≡ true → T test → work.InOrder (r .form) → r .form .points ≡ q → Forms test q r
+formed test q r e s p f = record { ok = e ∙ sym (true-of test s); inOrder = λ t. p; same = λ t. f }
+
+pub refused : (d : Deck) (r : Checked) → r .ok ≡ false → ¬ T (sound d) → Checks (sound d) d r
+refused d r e never =
+    record {
+      ok = e ∙ sym (false-of (sound d) never);
+      inOrder = λ t. absurd (never t);
+      points = λ t. absurd (never t);
+      kinds = λ t. absurd (never t);
+    }
 
 -- The points of a deck, by the working form of points that are arranged.
 module _ (q : Points) (w : Working) (a : work.InOrder w × (w .points ≡ q)) (j : ℕ) (is : j ≡ weakAt w) where
@@ -107,45 +123,72 @@ module _ (q : Points) (w : Working) (a : work.InOrder w × (w .points ≡ q)) (j
       and-both (coded.arranged q) (valid (coded.stateOf q)) t
       (valid-is (coded.stateOf q) .1 (subst (λ (z : Points). Valid (coded.stateOf z)) (a .1) (none-found w (a .0) j is h)))
 
--- From the points to the whole deck.
-module _ (d : Deck) (r : Checked) (c : Checks (validPoints (d .points)) (d .points) r) where
-  pub points-fail : r .ok ≡ false → Checks (sound d) (d .points) r
-  points-fail e = refused (sound d) (d .points) r e (λ t. refuted (c .ok) e (passed (sound-is d .0 t)))
+-- From the points to the whole deck: a deck that is sound passes each part.
+module _ (d : Deck) (f : Formed) (c : Forms (validPoints (d .points)) (d .points) f) where
+  pub points-fail : f .ok ≡ false → ¬ T (sound d)
+  points-fail e t = refuted (c .ok) e (passed (sound-is d .0 t))
     where
       passed : Sound d → T (validPoints (d .points))
       passed s =
           and-both (coded.arranged (d .points)) (valid (stateOf d)) (arranged-passes (d .points) (sound-arranged d s))
           (valid-is (stateOf d) .1 (s .valid .state))
 
-  module _ (e : r .ok ≡ true) where
+  pub kinds-fail : ¬ T (all isKind (contentsOf d .kinds)) → ¬ T (sound d)
+  kinds-fail n t = n (all-in isKind (contentsOf d .kinds) .1 (λ k i. le→leb k largestKind (sound-is d .0 t .valid .known k i)))
+
+  module _ (e : f .ok ≡ true) where
     test : T (validPoints (d .points))
     test = of-true (sym (c .ok) ∙ e)
 
-    pub points-order : work.InOrder (r .working)
+    pub points-order : work.InOrder (f .form)
     points-order = c .inOrder test
 
-    points-contents : work.contentsOf (r .working) ≡ contentsOf d
-    points-contents = ap (λ (q : Points). ofState (coded.stateOf q)) (c .same test)
+    abbrev whole : WorkingDeck
+    whole = record { form = f .form; kinds = d .kinds }
 
-    pub edges-fail : (a : Deck) → a ≡ deckOf (work.contentsOf (r .working)) → ¬ T (sameList (d .ends) (a .ends)) → ¬ T (sound d)
-    edges-fail a is n t =
-        n (subst (λ (l : List ℕ). T (sameList (d .ends) l))
-        ((λ i. sound-is d .0 t .same i .ends) ∙ sym (λ i. deckOf (points-contents i) .ends) ∙ sym (λ i. is i .ends)) (same-refl (d .ends)))
+    same : workingDeck.contentsOf whole ≡ contentsOf d
+    same = same-contents d whole (c .same test) refl
 
-    pub edges-pass : (a : Deck) → a ≡ deckOf (work.contentsOf (r .working)) → T (sameList (d .ends) (a .ends)) → Checks (sound d) (d .points) r
-    edges-pass a is t = accepted (sound d) (d .points) r e (sound-is d .1 whole) points-order (c .same test)
+    pub rest-fail : (a : Deck) → a ≡ deckOf (workingDeck.contentsOf whole)
+        → ¬ T (sameList (d .kinds) (a .kinds) && sameList (d .ends) (a .ends)) → ¬ T (sound d)
+    rest-fail a is n t =
+        n (subst (λ (b : Deck). T (sameList (d .kinds) (b .kinds) && sameList (d .ends) (b .ends)))
+        (sound-is d .0 t .same ∙ sym (ap deckOf same) ∙ sym is)
+        (and-both (sameList (d .kinds) (d .kinds)) (sameList (d .ends) (d .ends)) (same-refl (d .kinds)) (same-refl (d .ends))))
+
+    pub rest-pass : length (d .kinds) ≡ maxPins → T (all isKind (contentsOf d .kinds)) → (a : Deck) → a ≡ deckOf (workingDeck.contentsOf whole)
+        → T (sameList (d .kinds) (a .kinds) && sameList (d .ends) (a .ends)) → (r : Checked) → r ≡ record { ok = true; working = whole } → Checks (sound d) d r
+    rest-pass long known a is t r made =
+        subst⁻¹ (Checks (sound d) d) made
+        (record { ok = sym (true-of (sound d) (sound-is d .1 proved)); inOrder = λ u. points-order; points = λ u. c .same test; kinds = λ u. refl })
       where
         arranged : coded.Arranged (d .points)
         arranged = subst coded.Arranged (c .same test) (points-order .arranged)
 
-        whole : Sound d
-        whole =
+        valid-state : Valid (stateOf d)
+        valid-state = valid-is (stateOf d) .0 (and-parts (coded.arranged (d .points)) (valid (stateOf d)) test .1)
+
+        deck-is : a ≡ deckOf (contentsOf d)
+        deck-is = is ∙ ap deckOf same
+
+        parts : T (sameList (d .kinds) (a .kinds)) × T (sameList (d .ends) (a .ends))
+        parts = and-parts (sameList (d .kinds) (a .kinds)) (sameList (d .ends) (a .ends)) t
+
+        proved : Sound d
+        proved =
             record {
-              valid = of-state-valid (valid-is (stateOf d) .0 (and-parts (coded.arranged (d .points)) (valid (stateOf d)) test .1));
+              valid =
+                  record {
+                    state = valid-state;
+                    kindCount =
+                        length-take-le (d .points .npins) (d .kinds) (omega (arith, arranged .pinCodes .few, long)) ∙ sym (pins-count (d .points) arranged);
+                    known = λ k i. leb→le k largestKind (all-in isKind (contentsOf d .kinds) .0 known k i);
+                  };
               same =
                   unfold deckOf in
                   (λ i. record {
                     points = arranged-coded (d .points) arranged i;
-                    ends = (same-eq (d .ends) (a .ends) t ∙ (λ k. is k .ends) ∙ (λ k. deckOf (points-contents k) .ends)) i;
+                    kinds = (same-eq (d .kinds) (a .kinds) (parts .0) ∙ (λ k. deck-is k .kinds)) i;
+                    ends = (same-eq (d .ends) (a .ends) (parts .1) ∙ (λ k. deck-is k .ends)) i;
                   });
             }

@@ -4,7 +4,6 @@ use mathlib.Core.Path.{_≡_, refl, sym, ap, _∙_, subst⁻¹}
 use mathlib.Core.Bool.{Bool, true, false}
 use mathlib.Core.List.{List, _++_}
 use Prim.Native.Nat.{ℕ}
-use native.Mathlib.Omega.{arith}
 use lib.Dec.{leb}
 use lib.ListN.{length, drop}
 use borrow.Author.Tests.{le-leb, lt-leb}
@@ -13,13 +12,13 @@ use Rattle.model.specs.Contents.{Contents, ValidContents}
 use Rattle.model.specs.Call.{Call, contentsAfter}
 use Rattle.model.specs.File.{Read, deck, refusal, fileOf}
 use Rattle.model.proofs.Step.{step-valid, after-valid}
-use Rattle.model.proofs.FileAnswer.{Possible, taken, refused, possible-valid}
+use Rattle.model.proofs.FileAnswer.{Possible, taken, refused, not-zero, possible-valid}
 use Rattle.model.proofs.FileSize.{file-size}
 use Rattle.model.proofs.FileRoundTrip.{written-read}
-use Rattle.working.specs.InOrder as work
 use Rattle.working.specs.InOrder.{InOrder}
+use Rattle.working.specs.WorkingDeck.{contentsOf}
 use Rattle.calls.specs.declared.Changed.{Changed}
-use Rattle.working.specs.declared.Working.{Working}
+use Rattle.working.specs.declared.deck.WorkingDeck.{WorkingDeck}
 use Rattle.calls.specs.Changes.{refusalNumber, ChangedBy}
 use Rattle.deck.specs.declared.Deck.{Deck}
 use Rattle.deck.specs.declared.Outcome.{Outcome}
@@ -47,7 +46,7 @@ number-stored c l = go (leb (length (fileOf c)) (length l))
 -- Writing the deck of valid contents.
 module _ (c : Contents) (v : ValidContents c) (l : List ℕ) where
   writes : (storedAnswer c l ≡ written (deckOf c) l) × (storedBuffer c l ≡ bufferAfter (deckOf c) l)
-  writes = write-stored (deckOf c) l (valid-passes c v) (sym (contents-deck c (v .state .placed))) (refl, refl)
+  writes = write-stored (deckOf c) l (valid-passes c v) (sym (contents-deck c v)) (refl, refl)
 
 -- The refusal of a file.
 pub answer-refused : (r : Read) (calls : List Call) (l : List ℕ) {o : Outcome} (n : ℕ) → o ≡ readOutcome r
@@ -66,9 +65,9 @@ answer-deck (deck c) (taken v) calls l e f z is em eb =
     let w = after-valid calls c v in
     let written = writes (contentsAfter c calls) w l in
     (rw q at em ∙ ap writtenNumber (sym (written .0)) ∙ number-stored (contentsAfter c calls) l, rw q at eb ∙ sym (written .1))
-answer-deck (refusal k) (refused h j) calls l e f z is em eb = absurd (omega (arith, rw e at f))
+answer-deck (refusal k) (refused h) calls l e f z is em eb = absurd (not-zero h (sym (rw e at f) ∙ z))
 
--- The same where the working form is handed on. A file that was read has the working form of valid contents.
+-- The same where the deck is handed on in working form. A file that was read has that of valid contents.
 pub read-refused : (r : Read) (calls : List Call) (l : List ℕ) {c : Changed} (n : ℕ) → ReadTo r c
     → n ≡ refusalNumber (c .reply) → ¬ (n ≡ 0) → (n ≡ answerNumber r calls l) × (l ≡ answerBuffer r calls l)
 unfolding readAndWritten refusalNumber replyRead
@@ -76,15 +75,15 @@ read-refused (deck c) calls l n e f h = absurd (h (rw (e .reply) at f))
 read-refused (refusal k) calls l n e f h = (rw (e .reply) at f, refl)
 
 pub read-taken : (r : Read) → Possible r → {c : Changed} {n : ℕ} → ReadTo r c → n ≡ refusalNumber (c .reply) → n ≡ 0
-    → (r ≡ deck (work.contentsOf (c .working))) × InOrder (c .working) × ValidContents (work.contentsOf (c .working))
+    → (r ≡ deck (contentsOf (c .working))) × InOrder (c .working .form) × ValidContents (contentsOf (c .working))
 unfolding refusalNumber replyRead contentsRead
 read-taken (deck c) (taken v) e f z = (ap deck (sym (e .contents)), e .inOrder, subst⁻¹ ValidContents (e .contents) v)
-read-taken (refusal k) (refused h j) e f z = absurd (omega (arith, rw (e .reply) at f))
+read-taken (refusal k) (refused h) e f z = absurd (not-zero h (sym (rw (e .reply) at f) ∙ z))
 
--- A call on a working form of valid contents leaves one.
-pub changed-valid : {w : Working} {c : Call} {r : Changed} → ValidContents (work.contentsOf w) → ChangedBy w c r
-    → InOrder (r .working) × ValidContents (work.contentsOf (r .working))
-changed-valid {w} {c} v by = (by .inOrder, subst⁻¹ ValidContents (by .next) (step-valid (work.contentsOf w) c v))
+-- A call on a deck of valid contents in working form leaves one.
+pub changed-valid : {w : WorkingDeck} {c : Call} {r : Changed} → ValidContents (contentsOf w) → ChangedBy w c r
+    → InOrder (r .working .form) × ValidContents (contentsOf (r .working))
+changed-valid {w} {c} v by = (by .inOrder, subst⁻¹ ValidContents (by .next) (step-valid (contentsOf w) c v))
 
 pub answer-stored : (r : Read) (calls : List Call) (l : List ℕ) {c d : Contents} → r ≡ deck c → d ≡ contentsAfter c calls → {a : Written} {m : ℕ} {b : List ℕ}
     → m ≡ writtenNumber a → (a ≡ storedAnswer d l) × (b ≡ storedBuffer d l) → (m ≡ answerNumber r calls l) × (b ≡ answerBuffer r calls l)

@@ -9,11 +9,11 @@ use lib.Seq.{length-take-le}
 use lib.ListN.{length, take, drop, replicate, length-map}
 use Rattle.arrays.specs.Test.{if}
 use Rattle.arrays.proofs.Test.{and-parts, and-both, same-test, of-true, false-of}
-use Rattle.model.specs.State.{State, empty, Placed, placed, Valid, valid}
-use Rattle.model.specs.Contents.{ofState}
+use Rattle.model.specs.State.{State, Placed, placed, Valid, valid}
+use Rattle.model.specs.Contents.{emptyContents}
 use Rattle.arrays.specs.Same.{sameList}
 use Rattle.model.specs.Sections.{offset, size, section}
-use Rattle.model.specs.File.{Read, deck, refusal, fileState, fileContents, plain, runSection}
+use Rattle.model.specs.File.{Read, deck, refusal, fileState, plain, runSection}
 use Rattle.model.proofs.Validity.{placed-is, valid-is}
 use Rattle.model.proofs.FileSize.{steiner-few}
 use Rattle.arrays.proofs.same.Alike.{same-eq}
@@ -23,25 +23,26 @@ use Rattle.points.specs.Coded.{padded, places, coded, arranged}
 use Rattle.points.proofs.Codes.{drop-zeros, padded-take}
 use Rattle.points.proofs.Coded.{state-coded, valid-arranged}
 use Rattle.points.proofs.check.Tests.{arranged-passes}
-use Rattle.deck.specs.declared.check.Checked.{Checked}
-use Rattle.deck.specs.Check.{validPoints, Checks}
+use Rattle.deck.specs.declared.check.Formed.{Formed}
+use Rattle.deck.specs.Check.{validPoints, Forms}
 use Rattle.deck.specs.Form.{deckOf}
 use Rattle.deck.specs.Calls as called
 use Rattle.calls.specs.declared.Changed.{Changed}
 use Rattle.calls.specs.declared.Reply.the-variants.{Done, Refused}
 use Rattle.points.specs.declared.Points.{Points}
 use Rattle.working.specs.declared.Working.{Working}
-use Rattle.working.specs.InOrder.{InOrder, stateOf, contentsOf}
+use Rattle.working.specs.declared.deck.WorkingDeck.{WorkingDeck}
+use Rattle.working.specs.InOrder.{InOrder, stateOf}
+use Rattle.working.specs.WorkingDeck.{contentsOf}
 use Rattle.working.specs.Edges.{edgeRow}
 use Rattle.arrays.specs.Paste.{Pasted}
 use Rattle.arrays.proofs.paste.Parts.{front-is}
-use Rattle.model.proofs.Session.{empty-valid}
 use Rattle.sections.specs.declared.codes.FilePoints.{FilePoints}
 use Rattle.sections.specs.Bytes.{edgeBytes}
 use Rattle.sections.specs.Codes.{filePlaces, Decodes}
 use Rattle.sections.specs.Layout.{Sections, FewPins}
 use Rattle.deckfile.specs.Reading.{readOutcome}
-use Rattle.deckfile.specs.ReadWorking.{contentsRead, replyRead, ReadTo, WorkingFor, lastAnswer}
+use Rattle.deckfile.specs.ReadWorking.{contentsRead, replyRead, ReadTo, WorkingFor, kindsAnswer, lastAnswer}
 use Rattle.model.proofs.Sections.{part-length}
 use Rattle.sections.proofs.codes.Placed.{inside, pins-count, steiner-count}
 use Rattle.deckfile.proofs.Runs.{edges-are, edges-long}
@@ -58,14 +59,13 @@ read-outcome r c e = (λ i. record { next = deckOf (e .contents i); reply = e .r
     by-cases (deck c) = refl
     by-cases (refusal n) = refl
 
--- A refusal hands back the working form of an empty deck.
-pub refused-read : (n : ℕ) (w : Working) (q : Points) → q ≡ coded empty → InOrder w × (w .points ≡ q)
+-- A refusal hands back an empty deck.
+pub refused-read : (n : ℕ) (w : WorkingDeck) → InOrder (w .form) × (contentsOf w ≡ emptyContents)
     → ReadTo (refusal n) (record { working = w; reply = Refused n })
 unfolding contentsRead replyRead
-refused-read n w q e a =
-    record { inOrder = a .0; contents = ap ofState (ap points.stateOf (a .1 ∙ e) ∙ state-coded empty (empty-valid .placed)); reply = refl }
+refused-read n w a = record { inOrder = a .0; contents = a .1; reply = refl }
 
-pub accepted-read : (w : Working) → InOrder w → ReadTo (deck (contentsOf w)) (record { working = w; reply = Done })
+pub accepted-read : (w : WorkingDeck) → InOrder (w .form) → ReadTo (deck (contentsOf w)) (record { working = w; reply = Done })
 unfolding contentsRead replyRead
 accepted-read w p = record { inOrder = p; contents = refl; reply = refl }
 
@@ -107,20 +107,20 @@ module _ (b : List ℕ) (d : Sections b) (p : T (placed (fileState b))) where
 
   -- The working form of the points found.
   pub working-for : (found : FilePoints) → Decodes b found → (u v : ℕ) → u ≡ size b 0 → v ≡ size b 1 → (row : List ℕ)
-      → row ≡ padded places (map code (s .steiner)) → (r : Checked)
-      → (let q : Points = record { pins = found .pins; npins = u / 4; steiner = row; nsteiner = v / 4 } in Checks (validPoints q) q r) → WorkingFor s r
+      → row ≡ padded places (map code (s .steiner)) → (r : Formed)
+      → (let q : Points = record { pins = found .pins; npins = u / 4; steiner = row; nsteiner = v / 4 } in Forms (validPoints q) q r) → WorkingFor s r
   unfolding coded
   working-for found k u v e f row g r c =
       let n : u / 4 ≡ length (s .pins) = ap (λ (z : ℕ). z / 4) e ∙ sym (pins-count b d) in
       let m : v / 4 ≡ length (s .steiner) = ap (λ (z : ℕ). z / 4) f ∙ sym (steiner-count b d) in
       let q : _≡_ {A = Points} (record { pins = found .pins; npins = u / 4; steiner = row; nsteiner = v / 4 }) (coded s) =
       λ i. record { pins = k .pins p i; npins = n i; steiner = g i; nsteiner = m i } in
-      let h = subst (λ (t : Bool). Checks t (coded s) r) (tests s is-placed) (subst (λ (z : Points). Checks (validPoints z) z r) q c) in
+      let h = subst (λ (t : Bool). Forms t (coded s) r) (tests s is-placed) (subst (λ (z : Points). Forms (validPoints z) z r) q c) in
       record { ok = h .ok; inOrder = h .inOrder; state = λ t. ap points.stateOf (h .same t) ∙ state-coded s is-placed }
 
   -- Whether the file shows a deck, by three tests.
   pick : Bool → Bool → Bool → Read
-  pick bare ok same = if (bare || (ok && same)) (λ _. deck (fileContents b)) (λ _. refusal 6)
+  pick bare ok same = if (bare || (ok && same)) (λ _. kindsAnswer b) (λ _. refusal 6)
 
   same-edges : Bool
   same-edges = sameList (section b 2) (runSection s)
@@ -154,40 +154,39 @@ module _ (b : List ℕ) (d : Sections b) (p : T (placed (fileState b))) where
       by-tests (false-of (plain b) (λ t. let z = no-steiner t in omega (arith, steiner-count b d, d .whole₁)))
       (false-of (valid s) (λ t. omega (arith, steiner-few s (valid-is s .0 t), steiner-count b d, d .whole₁))) refl
 
-  module _ (few : FewPins b) (r : Checked) (c : WorkingFor s r) where
+  module _ (few : FewPins b) (r : Formed) (c : WorkingFor s r) where
     ok-valid : (t : Bool) → r .ok ≡ t → valid s ≡ t
     ok-valid t e = sym (c .ok) ∙ e
 
-    pub found-valid : r .ok ≡ true → InOrder (r .working) × Valid (stateOf (r .working))
+    pub found-valid : r .ok ≡ true → InOrder (r .form) × Valid (stateOf (r .form))
     found-valid e =
         let t : T (valid s) = of-true (ok-valid true e) in
         (c .inOrder t, subst⁻¹ Valid (c .state t) (valid-is s .0 t))
 
-    accepted : r .ok ≡ true → (x : Changed) → ReadTo (deck (contentsOf (r .working))) x → deck (fileContents b) ≡ lastAnswer b → ReadTo (lastAnswer b) x
-    accepted e x g is = read-as (ap (λ (z : State). deck (ofState z)) (c .state (of-true (ok-valid true e))) ∙ is) g
+    pub found-state : r .ok ≡ true → stateOf (r .form) ≡ s
+    found-state e = c .state (of-true (ok-valid true e))
 
     pub last-invalid : r .ok ≡ false → refusal 6 ≡ lastAnswer b
     unfolding pick
     last-invalid e =
         by-tests (false-of (plain b) (λ t. subst T (ok-valid false e) (plain-valid few t))) (ok-valid false e) refl
 
-    pub last-plain : r .ok ≡ true → plain b ≡ true → (x : Changed) → ReadTo (deck (contentsOf (r .working))) x → ReadTo (lastAnswer b) x
+    pub last-plain : plain b ≡ true → kindsAnswer b ≡ lastAnswer b
     unfolding pick
-    last-plain e f x g = accepted e x g (by-tests f refl refl)
+    last-plain f = by-tests f refl refl
 
     module _ (e : r .ok ≡ true) (f : plain b ≡ false) where
-      compared : (t : Bool) → sameList (section b 2) (runSection (stateOf (r .working))) ≡ t → same-edges ≡ t
+      compared : (t : Bool) → sameList (section b 2) (runSection (stateOf (r .form))) ≡ t → same-edges ≡ t
       unfolding same-edges
-      compared t g = ap (λ (x : State). sameList (section b 2) (runSection x)) (sym (c .state (of-true (ok-valid true e)))) ∙ g
+      compared t g = ap (λ (x : State). sameList (section b 2) (runSection x)) (sym (found-state e)) ∙ g
 
-      pub last-other : sameList (section b 2) (runSection (stateOf (r .working))) ≡ false → refusal 6 ≡ lastAnswer b
+      pub last-other : sameList (section b 2) (runSection (stateOf (r .form))) ≡ false → refusal 6 ≡ lastAnswer b
       unfolding pick
       last-other g = by-tests f (ok-valid true e) (compared false g)
 
-      pub last-same : sameList (section b 2) (runSection (stateOf (r .working))) ≡ true → (x : Changed) → ReadTo (deck (contentsOf (r .working))) x
-          → ReadTo (lastAnswer b) x
+      pub last-same : sameList (section b 2) (runSection (stateOf (r .form))) ≡ true → kindsAnswer b ≡ lastAnswer b
       unfolding pick
-      last-same g x h = accepted e x h (by-tests f (ok-valid true e) (compared true g))
+      last-same g = by-tests f (ok-valid true e) (compared true g)
 
 -- The third section and the edges of a working form.
 module _ (b : List ℕ) (d : Sections b) (w : Working) (p : InOrder w) (v : Valid (stateOf w)) where

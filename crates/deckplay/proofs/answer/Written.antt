@@ -48,7 +48,7 @@ module _ (d : Deck) (l : List ℕ) where
       go false b q = let z : _≡_ {A = ℕ} 0 1 = cc in absurd (omega arith)
 
 -- The length of the part that is lent.
-pub part-length : (b : List ℕ) (m c : ℕ) → length b ≡ 784 → m ≡ min c 784 → (m ≤ length b) × (length (take m b) ≡ min c 784)
+pub part-length : (b : List ℕ) (m c : ℕ) → length b ≡ 856 → m ≡ min c 856 → (m ≤ length b) × (length (take m b) ≡ min c 856)
 part-length b m c e f =
     let h : m ≤ length b = omega (arith, e, f) in
     (h, length-take-le m b h ∙ f)

@@ -18,9 +18,10 @@ returns-2 c =
     let at-write-taps-arg = at-write-taps .before in
     let at-head-line = at-write-taps-arg .before .before .before in
     let at-length-of = at-head-line .before .before in
-    let entry = at-length-of .before .before .before in
-    front-put 8192 _ _ _ _ (at-length-of .before .if1 .left)
-    (listing-put (entry .args .w) (entry .pre .0) _ (at-length-of .length-of .ensures) (pasted-then (at-head-line .head-line .ensures .0) (omega arith)
+    let at-room-test = at-length-of .before .before in
+    let entry = at-room-test .before .before in
+    front-put 8192 _ _ _ _ (at-room-test .if1 .left)
+    (listing-put (entry .args .d) (entry .pre .0) _ (at-length-of .length-of .ensures) (pasted-then (at-head-line .head-line .ensures .0) (omega arith)
     (pasted-then (at-write-taps .write-taps .ensures .0) (omega arith) (at-run-lines .run-lines .ensures))))
 
 pub list-working-spec : {M : Type 1} → statement M

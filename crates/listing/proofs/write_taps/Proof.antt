@@ -12,14 +12,14 @@ tap-lines-requires c κs =
     let entry = at-tap-lines-arg .before .before .before in
     let p = entry .pre .1 .0 in
     let s = p .arranged .steinerCodes in
-    (omega (arith, steiner-few _ (entry .pre .1 .1 .state), steiner-count _ (p .arranged)), omega (arith, s .few, s .size))
+    (omega (arith, steiner-few _ (entry .pre .1 .1), steiner-count _ (p .arranged)), omega (arith, s .few, s .size))
 
 returns : tie.Need-returns
 returns c =
     let at-tap-lines = c .before .before in
     let at-tap-lines-arg = at-tap-lines .before .before in
     let entry = at-tap-lines-arg .before .before .before in
-    let few = steiner-few _ (entry .pre .1 .1 .state) in
+    let few = steiner-few _ (entry .pre .1 .1) in
     (at-tap-lines .tap-lines .ensures .0, omega (arith, at-tap-lines .tap-lines .ensures .1, few, steiner-count _ (entry .pre .1 .0 .arranged)))
 
 pub write-taps-spec : {M : Type 1} → statement M

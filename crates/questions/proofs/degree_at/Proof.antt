@@ -1,7 +1,7 @@
 -- `questions::degree_at` meets its contract: no point is held out of range, and in range the edges at the code are counted.
 use mathlib.Core.Path.{ap, _∙_}
 use Rattle.plane.specs.Point.{Point}
-use Rattle.working.specs.InOrder.{contentsOf}
+use Rattle.working.specs.WorkingDeck.{contentsOf}
 use Rattle.plane.proofs.codes.Points.{read-located, out-located, located-is}
 use Rattle.questions.specs.declared.Answer.the-variants.{Degree}
 use Rattle.questions.specs.Answers.{degreeAnswer}
@@ -30,7 +30,7 @@ returns-2 c =
     let at-locate = at-k .before .before in
     let entry = at-locate .before in
     let there = read-located _ _ _ (entry .fits .x) (entry .fits .y) (at-locate .locate .ensures) ∙ at-k .k .given .1 in
-    ap Degree (c .degree-of .ensures) ∙ ap (λ (p : Point). degreeAnswer p (contentsOf (entry .args .w))) (located-is _ _ there .0)
+    ap Degree (c .degree-of .ensures) ∙ ap (λ (p : Point). degreeAnswer p (contentsOf (entry .args .d))) (located-is _ _ there .0)
 
 pub degree-at-spec : {M : Type 1} → statement M
 degree-at-spec =

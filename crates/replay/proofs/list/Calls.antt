@@ -23,25 +23,25 @@ abbrev at : ℤ → ℤ → Point
 at x y = record { x = x; y = y }
 
 -- The call of the number k, on the deck d.
-module _ (d : Deck) {o : Outcome} {n k : ℕ} (is : n ≡ k) where
-  pub one-call : (p : Point) {c : Call} → callOf k p ≡ c ∷ [] → o ≡ called d c → o .next ≡ deckAfter d (callOf n p)
+module _ (d : Deck) {o : Outcome} {n k : ℕ} (is : n ≡ k) (kind : ℕ) where
+  pub one-call : (p : Point) {c : Call} → callOf k kind p ≡ c ∷ [] → o ≡ called d c → o .next ≡ deckAfter d (callOf n kind p)
   unfolding deckAfter
-  one-call p f e = ap (λ (z : Outcome). z .next) e ∙ sym (ap (deckAfter d) (ap (λ (m : ℕ). callOf m p) is ∙ f))
+  one-call p f e = ap (λ (z : Outcome). z .next) e ∙ sym (ap (deckAfter d) (ap (λ (m : ℕ). callOf m kind p) is ∙ f))
 
   -- That of a call at a point, whose numbers are read back from their bits.
-  pub point-call : (call : Point → Call) (x y : ℤ) → SFits w32 x → SFits w32 y → callOf k (at x y) ≡ call (at x y) ∷ []
-      → o ≡ called d (call (at (read x) (read y))) → o .next ≡ deckAfter d (callOf n (at x y))
+  pub point-call : (call : Point → Call) (x y : ℤ) → SFits w32 x → SFits w32 y → callOf k kind (at x y) ≡ call (at x y) ∷ []
+      → o ≡ called d (call (at (read x) (read y))) → o .next ≡ deckAfter d (callOf n kind (at x y))
   point-call call x y fx fy f e = one-call (at x y) f (e ∙ read-two (λ (u v : ℤ). called d (call (at u v))) x y fx fy)
 
-pub no-call : (d : Deck) (n : ℕ) (p : Point) → ¬ (n ≡ 0) → ¬ (n ≡ 1) → ¬ (n ≡ 2) → ¬ (n ≡ 3) → d ≡ deckAfter d (callOf n p)
+pub no-call : (d : Deck) (n kind : ℕ) (p : Point) → ¬ (n ≡ 0) → ¬ (n ≡ 1) → ¬ (n ≡ 2) → ¬ (n ≡ 3) → d ≡ deckAfter d (callOf n kind p)
 unfolding deckAfter callOf
-no-call d n p a b c e = rw (ne-eqb n 0 a, ne-eqb n 1 b, ne-eqb n 2 c, ne-eqb n 3 e)
+no-call d n kind p a b c e = rw (ne-eqb n 0 a, ne-eqb n 1 b, ne-eqb n 2 c, ne-eqb n 3 e)
 
 -- The call in the twelve bytes from place i on.
 pub call-read : (d : Deck) (l : List ℕ) (i : ℕ) {x y : ℤ} → x ≡ signed32 (number4 l (i + 4)) → y ≡ signed32 (number4 l (i + 8))
-    → deckAfter d (callOf (getD l i 0) (at x y)) ≡ deckAfter d (callAt l i)
+    → deckAfter d (callOf (getD l i 0) (getD l (i + 1) 0) (at x y)) ≡ deckAfter d (callAt l i)
 unfolding callAt
-call-read d l i e f = λ k. deckAfter d (callOf (getD l i 0) (at (e k) (f k)))
+call-read d l i e f = λ k. deckAfter d (callOf (getD l i 0) (getD l (i + 1) 0) (at (e k) (f k)))
 
 -- One call more of a list.
 after-both : (l m : List Call) (d : Deck) → deckAfter d (l ++ m) ≡ deckAfter (deckAfter d l) m

@@ -1,8 +1,8 @@
 -- `script::of_numbers` meets its contract: in each arm the numbers are told, and read back from their bits.
 use mathlib.Core.Path.{_∙_}
 use borrow.Author.Needs.{needs}
-use Rattle.arrays.proofs.Signed.{read-one, read-two, read-five}
-use Rattle.script.specs.Commands.{withNumber, withPair, withFive, ofNumbers}
+use Rattle.arrays.proofs.Signed.{read-one, read-two, read-three, read-five}
+use Rattle.script.specs.Commands.{withNumber, withPair, withThree, withFive, ofNumbers}
 use Rattle.script.proofs.Arguments.{same-command}
 use Rattle.script.proofs.of_numbers.Statement.{statement}
 use Rattle.script.proofs.of_numbers.Tie as tie
@@ -26,7 +26,11 @@ returns-3 c =
 
 returns-4 : tie.Need-returns-4
 unfolding ofNumbers
-returns-4 c = same-command _ (c .before .a3 .given .1)
+returns-4 c =
+    let k = c .before .known-told3 .given in
+    c .with-three .ensures
+    ∙ read-three (withThree _) _ _ _ (record { sfits = k .0 .1 }) (record { sfits = k .1 .0 .1 }) (record { sfits = k .1 .1 .0 .1 })
+    ∙ same-command _ (c .before .before .a3 .given .1)
 
 returns-5 : tie.Need-returns-5
 unfolding ofNumbers
@@ -50,5 +54,5 @@ pub of-numbers-spec : {M : Type 1} → statement M
 of-numbers-spec =
     tie.close
     (tie.spec (λ c. search needs) (λ c κs. search needs) (λ c. search needs) (λ c κs. search needs) (λ c. search needs) (λ c κs. search needs)
-    (λ c. search needs) (λ c. search needs) (λ c. search needs) (λ c κs. search needs) (λ c. search needs) returns returns-2 returns-3 returns-4
-    returns-5 returns-6 returns-7)
+    (λ c. search needs) (λ c κs. search needs) (λ c. search needs) (λ c. search needs) (λ c κs. search needs) (λ c. search needs) returns returns-2
+    returns-3 returns-4 returns-5 returns-6 returns-7)

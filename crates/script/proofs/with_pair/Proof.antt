@@ -15,7 +15,7 @@ returns : tie.Need-returns
 returns c =
     let at-same-bytes = c .before in
     let entry = at-same-bytes .before .before .before in
-    read-two (λ (i j : ℤ). Call (Add i j)) _ _ (entry .fits .i) (entry .fits .j)
+    read-two (λ (i j : ℤ). Call (Add i j 0)) _ _ (entry .fits .i) (entry .fits .j)
     ∙ pair-add _ _ _ (sym (at-same-bytes .same-bytes .ensures) ∙ c .if1 .taken)
 
 returns-2 : tie.Need-returns-2

@@ -75,8 +75,8 @@ module _ (b : List ℕ) (d : Sections b) where
   -- Each section lies behind the header and within the file.
   pub inside : (k : ℕ) → k < fewestSections → (shortest ≤ offset b k) × (offset b k + size b k ≤ length b)
   inside k h =
-      let r = section-within b (sectionCount b) (headerSize (sectionCount b)) 0 (d .follow) k (omega arith) (omega (arith, d .count)) in
-      (omega (arith, r .0, d .count), r .1)
+      let r = section-within b (sectionCount b) (headerSize (sectionCount b)) 0 (d .follow) k (omega arith) (omega (arith, d .fewest)) in
+      (omega (arith, r .0, d .fewest), r .1)
 
   pub pins-section : PointSection b 0
   pins-section = record { pair = omega (arith, d .long); within = inside 0 (omega arith) .1; whole = d .whole₀ }

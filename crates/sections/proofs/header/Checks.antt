@@ -10,7 +10,7 @@ use lib.ListN.{length, take}
 use borrow.Author.Tests.{le-leb, lt-leb, eq-eqb, ne-eqb}
 use Rattle.arrays.specs.Same.{sameList}
 use Rattle.model.specs.Sections.{magic, countPlace, headerSize, sectionCount, offset, size, follow, laidOut}
-use Rattle.model.specs.File.{fewestSections, shortest, longest, headed, whole, plain}
+use Rattle.model.specs.File.{fewestSections, mostSections, shortest, longest, headed, whole, plain}
 use Rattle.arrays.proofs.Test.{and-no, and-yes}
 
 -- A test of two numbers that are those of the file.
@@ -37,10 +37,12 @@ module _ (b : List ℕ) where
         and-yes (leb shortest (length b)) _ _ (le-leb shortest (length b) h)
         (and-yes (leb (length b) longest) _ _ (le-leb (length b) longest k) (and-no (sameList (take countPlace b) magic) _ e))
 
-    pub head-count : length b ≤ longest → sameList (take countPlace b) magic ≡ true → (n : ℕ) → n ≡ sectionCount b → eqb n fewestSections ≡ headed b
+    pub head-count : length b ≤ longest → sameList (take countPlace b) magic ≡ true → (n : ℕ) → n ≡ sectionCount b
+        → (leb fewestSections n && leb n mostSections) ≡ headed b
     head-count k e n f =
         and-yes (leb shortest (length b)) _ _ (le-leb shortest (length b) h)
-        (and-yes (leb (length b) longest) _ _ (le-leb (length b) longest k) (and-yes (sameList (take countPlace b) magic) _ _ e (test f refl)))
+        (and-yes (leb (length b) longest) _ _ (le-leb (length b) longest k) (and-yes (sameList (take countPlace b) magic) _ _ e
+        (ap (λ (z : ℕ). leb fewestSections z && leb z mostSections) f)))
 
   -- Check 2 on a file of n sections: the first k stand one behind the other, up to place `at`, and the others decide.
   pub record Passed (n at k : ℕ) : Type 0 where

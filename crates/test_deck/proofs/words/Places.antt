@@ -60,7 +60,7 @@ module _ (d : Deck) (sized : Sized d) where
   drop-steiner = ap (λ (z : ℕ). drop (z + 1) rest) (sym (sized .steiner)) ∙ drop-append-add s (m ∷ d .ends) 1
 
   -- The words of a deck hold that deck: each part is read from its place.
-  pub deck-in-words : deckIn (wordsOf d) ≡ d
+  pub deck-in-words : deckIn (wordsOf d) (d .kinds) ≡ d
   deck-in-words i =
       record {
         points = record {
@@ -69,6 +69,7 @@ module _ (d : Deck) (sized : Sized d) where
           steiner = (ap (take steinerPlaces) (drop-pins 1) ∙ take-at s (m ∷ d .ends) steinerPlaces (sized .steiner)) i;
           nsteiner = (behind-pins (1 + steinerPlaces) ∙ getD-at s m (d .ends) 0 steinerPlaces (sized .steiner)) i;
         };
+        kinds = d .kinds;
         ends = (ap (take endPlaces) (drop-pins (2 + steinerPlaces) ∙ drop-steiner) ∙ take-all endPlaces (d .ends) (omega (arith, sized .ends))) i;
       }
 

@@ -3,20 +3,23 @@
 //! method with each tree afresh from all pairs sorted; 2, with each tree afresh
 //! by Prim's method; 3, the planner's algorithm written by hand; 4, the proved
 //! planner. Then what planner_plan takes for the plain files of the same decks,
-//! beside the run to the end alone.
+//! beside the run to the end alone, and what the last of 64 pins takes to be added.
 
+use compare::binding::calls::call;
 use compare::binding::deck::Deck;
 use compare::binding::entries::plan;
 use compare::by_hand::afresh::run_afresh;
 use compare::by_hand::run::run_to_end;
+use compare::by_hand::tree::tree;
 use compare::by_hand::{prim, sorted_pairs, Ended};
 use compare::check::runs::{ended, run_proved};
 use compare::cpu_time::timed;
-use compare::input::points::on_grid;
+use compare::input::points::{on_grid, Stored};
 use reference::file::{read, write_plain, LONGEST};
 use reference::generate::Random;
+use reference::pins::{sensors, SENSOR};
 use reference::plane::Point;
-use reference::session::State;
+use reference::session::{Call, State, MOST_PINS};
 use std::hint::black_box;
 
 /// Decks of one kind.
@@ -64,6 +67,14 @@ const fn even(name: &'static str, decks: usize, sorted: usize, columns: i64) -> 
 /// How many times the last two ways run each deck.
 const TURNS: usize = 10;
 
+/// How many times a call is made in a turn; one alone is too short to be measured.
+const CALLS: usize = 100;
+
+/// The deck of sensors at the points.
+fn deck(points: &[Point]) -> Deck {
+    Deck::of(&State::new(sensors(points), Vec::new()))
+}
+
 /// What a way finds and takes the second time of two, so that it finds the
 /// caches as it left them itself and not as another way did.
 fn warm<T>(mut way: impl FnMut() -> T) -> (T, f64) {
@@ -88,8 +99,8 @@ struct Run {
 impl Run {
     fn new(pins: Vec<Point>) -> Run {
         Run {
-            deck: Deck::of(&State::new(pins.clone(), Vec::new())),
-            file: write_plain(&pins),
+            deck: deck(&pins),
+            file: write_plain(&sensors(&pins)),
             pins,
             rounds: 0,
             sorted: None,
@@ -191,6 +202,52 @@ fn measure(case: &Case, random: &mut Random) -> String {
     )
 }
 
+/// Three times in nanoseconds: of one tree of the pins by hand; of a call that adds
+/// one of the pins to the others; of two that withdraw it and add it again.
+fn last_pin(random: &mut Random, pins: &[Point]) -> [f64; 3] {
+    let last = random.pick(pins);
+    let (add, withdraw) = (
+        Call::Add(last.x, last.y, SENSOR),
+        Call::Withdraw(last.x, last.y),
+    );
+    let mut others = pins.to_vec();
+    others.retain(|&pin| pin != last);
+    let (all, fewer, stored) = (deck(pins), deck(&others), Stored::of(pins));
+    assert_eq!(call(&fewer, add).0, all, "a pin added");
+    assert_eq!(call(&all, withdraw).0, fewer, "a pin withdrawn");
+    let ways: [&dyn Fn(); 3] = [
+        &|| _ = black_box(tree(black_box(&stored.xs), &stored.ys).length),
+        &|| _ = black_box(call(black_box(&fewer), add)),
+        &|| _ = black_box(call(&call(black_box(&all), withdraw).0, add)),
+    ];
+    let mut least = [f64::INFINITY; 3];
+    for _ in 0..TURNS {
+        for (least, way) in least.iter_mut().zip(ways) {
+            let (_, time) = warm(|| (0..CALLS).for_each(|_| way()));
+            *least = least.min(time / CALLS as f64);
+        }
+    }
+    least
+}
+
+/// Measures the last pin on decks of a case and prints their line.
+fn measure_last_pin(case: &Case, random: &mut Random) {
+    let mut sums = [0.0; 3];
+    for _ in 0..case.decks {
+        let pins = on_grid(random, case.pins, case.columns, case.columns, case.pitch);
+        for (sum, time) in sums.iter_mut().zip(last_pin(random, &pins)) {
+            *sum += time;
+        }
+    }
+    let [tree, add, again] = sums.map(|sum| sum / case.decks as f64 / 1e3);
+    println!(
+        "| {} | {tree:.2} | {add:.2} | {again:.2} | {:.2} | {:.2} |",
+        case.name,
+        add / tree,
+        again / tree
+    );
+}
+
 fn main() {
     let mut random = Random::new(2_025);
     println!("Milliseconds per deck. In brackets, the decks that 1 runs on.\n");
@@ -207,5 +264,13 @@ fn main() {
     println!("|---|---:|---:|---:|");
     for line in &lines {
         println!("{line}");
+    }
+    println!("\nMicroseconds: one tree of 64 pins by hand, the last pin added, and it withdrawn and added again.\n");
+    println!(
+        "| pins | tree by hand | add | withdraw and add | add / tree | withdraw and add / tree |"
+    );
+    println!("|---|---:|---:|---:|---:|---:|");
+    for case in CASES.iter().filter(|case| case.pins == MOST_PINS) {
+        measure_last_pin(case, &mut random);
     }
 }

@@ -9,6 +9,7 @@ use compare::by_hand::run::run_to_end;
 use compare::check::runs::{ended, run_proved};
 use compare::input::points::on_grid;
 use reference::generate::Random;
+use reference::pins::sensors;
 use reference::session::State;
 
 /// A line of the table: the number of points, the average improvement in percent
@@ -72,7 +73,7 @@ fn line(random: &mut Random, pins: usize, improvement: f64, steiner: f64) {
     let [mut improvements, mut taps, mut rounds] = [(); 3].map(|()| Sample::default());
     for _ in 0..decks(pins) {
         let held = on_grid(random, pins, 1_000, 1_000, 1);
-        let deck = Deck::of(&State::new(held.clone(), Vec::new()));
+        let deck = Deck::of(&State::new(sensors(&held), Vec::new()));
         let before = ask(&deck, Question::Length).numbers[0] as f64;
         let after = ended(&run_proved(&deck));
         assert_eq!(after, run_to_end(&held), "the planner, and by hand");

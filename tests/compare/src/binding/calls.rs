@@ -3,21 +3,23 @@
 
 use super::deck::Deck;
 use super::parts::{coordinate, Parts};
-use super::places::WORDS;
-use super::untouched::UNTOUCHED;
+use super::places::{KIND_PLACES, WORDS};
+use super::untouched::{UNTOUCHED, UNTOUCHED_BYTE};
 use reference::session::Call;
 
 mod library {
-    use crate::binding::places::WORDS;
+    use crate::binding::places::{KIND_PLACES, WORDS};
 
     unsafe extern "C" {
         /// The empty deck.
-        pub fn entry_empty(words: &mut [u64; WORDS]);
+        pub fn entry_empty(words: &mut [u64; WORDS], kinds: &mut [u8; KIND_PLACES]);
         /// A pin added.
         pub fn entry_add(
             x: i32,
             y: i32,
+            kind: u32,
             words: &mut [u64; WORDS],
+            kinds: &mut [u8; KIND_PLACES],
             numbers: &mut [u64; 3],
             places: &mut [i32; 4],
         ) -> u8;
@@ -26,18 +28,21 @@ mod library {
             x: i32,
             y: i32,
             words: &mut [u64; WORDS],
+            kinds: &mut [u8; KIND_PLACES],
             numbers: &mut [u64; 3],
             places: &mut [i32; 4],
         ) -> u8;
         /// One round.
         pub fn entry_round(
             words: &mut [u64; WORDS],
+            kinds: &mut [u8; KIND_PLACES],
             numbers: &mut [u64; 3],
             places: &mut [i32; 4],
         ) -> u8;
         /// Rounds until finished.
         pub fn entry_run_to_end(
             words: &mut [u64; WORDS],
+            kinds: &mut [u8; KIND_PLACES],
             numbers: &mut [u64; 3],
             places: &mut [i32; 4],
         ) -> u8;
@@ -47,23 +52,24 @@ mod library {
 /// The empty deck.
 pub fn empty() -> Deck {
     let mut words = [UNTOUCHED; WORDS];
-    // SAFETY: the words are lent whole and alone.
-    unsafe { library::entry_empty(&mut words) };
-    Deck { words }
+    let mut kinds = [UNTOUCHED_BYTE; KIND_PLACES];
+    // SAFETY: the words and the kinds are lent whole and alone.
+    unsafe { library::entry_empty(&mut words, &mut kinds) };
+    Deck { words, kinds }
 }
 
 /// One call: the deck that is handed back, and the reply in its parts.
 pub fn call(deck: &Deck, call: Call) -> (Deck, Parts) {
     let (mut next, mut parts) = (*deck, Parts::before());
-    let (w, p) = (&mut next.words, &mut parts);
+    let (w, k, p) = (&mut next.words, &mut next.kinds, &mut parts);
     macro_rules! make {
         ($entry:ident $(, $argument:expr)*) => {
-            // SAFETY: the words and each part are lent whole and alone.
-            unsafe { library::$entry($($argument,)* w, &mut p.numbers, &mut p.places) }
+            // SAFETY: the words, the kinds and each part are lent whole and alone.
+            unsafe { library::$entry($($argument,)* w, k, &mut p.numbers, &mut p.places) }
         };
     }
     p.kind = match call {
-        Call::Add(x, y) => make!(entry_add, coordinate(x), coordinate(y)),
+        Call::Add(x, y, kind) => make!(entry_add, coordinate(x), coordinate(y), kind),
         Call::Withdraw(x, y) => make!(entry_withdraw, coordinate(x), coordinate(y)),
         Call::Round => make!(entry_round),
         Call::Finish => make!(entry_run_to_end),

@@ -1,6 +1,9 @@
-//! A deck in the proved form: one array of words.
+//! A deck in the proved form: one array of words, and the kinds of its pins beside
+//! it.
 
-use super::places::{ENDS, PINS, PIN_COUNT, STEINER, STEINER_COUNT, WORDS};
+use super::places::{ENDS, KIND_PLACES, PINS, PIN_COUNT, STEINER, STEINER_COUNT, WORDS};
+use reference::file::kind_bytes;
+use reference::pins::{places, Pin};
 use reference::plane::Point;
 use reference::session::{is_valid, State};
 use reference::tree::listing_order;
@@ -16,10 +19,12 @@ pub const STEINER_WORDS: Range<usize> = STEINER..STEINER_COUNT;
 /// The words of the ends of the edges.
 pub const END_WORDS: Range<usize> = ENDS..WORDS;
 
-/// The words of a deck, with any values.
+/// The words and the kinds of a deck, with any values.
 #[derive(Clone, Copy, Debug, PartialEq, Eq)]
 pub struct Deck {
     pub words: [u64; WORDS],
+    /// In a sound deck the kind of each pin, in pin order, and zeros behind.
+    pub kinds: [u8; KIND_PLACES],
 }
 
 /// The code of a point in range.
@@ -45,25 +50,33 @@ fn ends(state: &State) -> Vec<u64> {
 impl Deck {
     /// The deck of a valid state.
     pub fn of(state: &State) -> Deck {
-        let codes = |points: &[Point]| points.iter().map(|&p| code(p)).collect::<Vec<_>>();
-        Deck::with_lists(&codes(&state.pins), &codes(&state.steiner), &ends(state))
+        Deck::with_lists(&state.pins, &state.steiner, &ends(state))
     }
 
     /// The deck with each list at the front of its places and zeros behind.
-    pub fn with_lists(pins: &[u64], steiner: &[u64], ends: &[u64]) -> Deck {
-        let mut words = [0; WORDS];
-        words[PIN_WORDS][..pins.len()].copy_from_slice(pins);
+    pub fn with_lists(pins: &[Pin], steiner: &[Point], ends: &[u64]) -> Deck {
+        let codes = |points: &[Point]| points.iter().map(|&p| code(p)).collect::<Vec<_>>();
+        let (mut words, mut kinds) = ([0; WORDS], [0; KIND_PLACES]);
+        words[PIN_WORDS][..pins.len()].copy_from_slice(&codes(&places(pins)));
         words[PIN_COUNT] = pins.len() as u64;
-        words[STEINER_WORDS][..steiner.len()].copy_from_slice(steiner);
+        words[STEINER_WORDS][..steiner.len()].copy_from_slice(&codes(steiner));
         words[STEINER_COUNT] = steiner.len() as u64;
         words[END_WORDS][..ends.len()].copy_from_slice(ends);
-        Deck { words }
+        kinds[..pins.len()].copy_from_slice(&kind_bytes(pins));
+        Deck { words, kinds }
     }
 
     /// The deck with another word at a place.
     pub fn with(&self, place: usize, word: u64) -> Deck {
         let mut changed = *self;
         changed.words[place] = word;
+        changed
+    }
+
+    /// The deck with another kind at a place.
+    pub fn with_kind(&self, place: usize, kind: u8) -> Deck {
+        let mut changed = *self;
+        changed.kinds[place] = kind;
         changed
     }
 
@@ -82,12 +95,15 @@ impl Deck {
         &self.words[END_WORDS]
     }
 
-    /// The points of the deck as they stand, where its counts are not too large.
+    /// The points of the deck as they stand, with their kinds, where its counts
+    /// are not too large.
     pub fn points(&self) -> Option<State> {
-        let points = |codes: &[u64]| codes.iter().map(|&k| point(k)).collect::<Vec<_>>();
+        let codes = self.words[PIN_WORDS].get(..self.npins())?;
+        let pin = |(&code, &kind): (&u64, &u8)| Pin::new(point(code), kind.into());
+        let steiner = self.words[STEINER_WORDS].get(..self.nsteiner())?;
         Some(State {
-            pins: points(self.words[PIN_WORDS].get(..self.npins())?),
-            steiner: points(self.words[STEINER_WORDS].get(..self.nsteiner())?),
+            pins: codes.iter().zip(&self.kinds).map(pin).collect(),
+            steiner: steiner.iter().map(|&code| point(code)).collect(),
         })
     }
 

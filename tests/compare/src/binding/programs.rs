@@ -29,8 +29,8 @@ fn run(name: &str, input: &[u8]) -> (String, io::Result<()>) {
     (text, writer.join().expect("a writer"))
 }
 
-/// What the listing program prints for a file. It reads 785 bytes at most, so
-/// the end of a longer file may find no reader.
+/// What the listing program prints for a file. It reads one byte more than the
+/// longest file has at most, so the end of a longer one may find no reader.
 pub fn decklist(file: &[u8]) -> String {
     run("decklist", file).0
 }

@@ -5,20 +5,22 @@ use super::deck::Deck;
 use super::parts::Parts;
 
 mod library {
-    use crate::binding::places::WORDS;
+    use crate::binding::places::{KIND_PLACES, WORDS};
 
     unsafe extern "C" {
         /// Whether a deck is sound.
-        pub fn entry_is_valid(words: &[u64; WORDS]) -> bool;
+        pub fn entry_is_valid(words: &[u64; WORDS], kinds: &[u8; KIND_PLACES]) -> bool;
         /// The length of a deck.
         pub fn entry_length(
             words: &[u64; WORDS],
+            kinds: &[u8; KIND_PLACES],
             numbers: &mut [u64; 3],
             places: &mut [i32; 4],
         ) -> u8;
         /// The numbers of pins, Steiner points and edges.
         pub fn entry_counts(
             words: &[u64; WORDS],
+            kinds: &[u8; KIND_PLACES],
             numbers: &mut [u64; 3],
             places: &mut [i32; 4],
         ) -> u8;
@@ -26,6 +28,7 @@ mod library {
         pub fn entry_edge_at(
             i: usize,
             words: &[u64; WORDS],
+            kinds: &[u8; KIND_PLACES],
             numbers: &mut [u64; 3],
             places: &mut [i32; 4],
         ) -> u8;
@@ -34,6 +37,7 @@ mod library {
             x: i32,
             y: i32,
             words: &[u64; WORDS],
+            kinds: &[u8; KIND_PLACES],
             numbers: &mut [u64; 3],
             places: &mut [i32; 4],
         ) -> u8;
@@ -51,18 +55,18 @@ pub enum Question {
 
 /// Whether the deck is sound.
 pub fn is_valid(deck: &Deck) -> bool {
-    // SAFETY: the words are lent whole.
-    unsafe { library::entry_is_valid(&deck.words) }
+    // SAFETY: the words and the kinds are lent whole.
+    unsafe { library::entry_is_valid(&deck.words, &deck.kinds) }
 }
 
 /// The answer to a question, in its parts.
 pub fn ask(deck: &Deck, question: Question) -> Parts {
     let mut parts = Parts::before();
-    let (w, p) = (&deck.words, &mut parts);
+    let (w, k, p) = (&deck.words, &deck.kinds, &mut parts);
     macro_rules! make {
         ($entry:ident $(, $argument:expr)*) => {
-            // SAFETY: the words are lent whole, and each part alone.
-            unsafe { library::$entry($($argument,)* w, &mut p.numbers, &mut p.places) }
+            // SAFETY: the words and the kinds are lent whole, and each part alone.
+            unsafe { library::$entry($($argument,)* w, k, &mut p.numbers, &mut p.places) }
         };
     }
     p.kind = match question {

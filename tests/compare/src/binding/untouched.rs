@@ -1,7 +1,10 @@
-//! Words that nothing was written to.
+//! Words and bytes that nothing was written to.
 
 /// What stands in such a word.
 pub const UNTOUCHED: u64 = 0xdead_beef_0bad_f00d;
+
+/// What stands in such a byte.
+pub const UNTOUCHED_BYTE: u8 = 0xbd;
 
 /// An array of words that nothing was written to.
 pub fn untouched(size: usize) -> Vec<u64> {

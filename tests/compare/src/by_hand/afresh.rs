@@ -3,6 +3,7 @@
 
 use super::Ended;
 use crate::input::points::{free_crossings, Stored};
+use reference::pins::sensors;
 use reference::plane::Point;
 use reference::session::{prune, with_steiner, State};
 use reference::tree::{length, tree};
@@ -12,7 +13,7 @@ pub type Lengths = fn(&Stored, &Stored) -> Vec<u64>;
 
 /// A deck of pins run to the end, with the lengths found by this way.
 pub fn run_afresh(pins: &[Point], lengths: Lengths) -> Ended {
-    let mut state = State::new(pins.to_vec(), Vec::new());
+    let mut state = State::new(sensors(pins), Vec::new());
     let mut rounds = 0;
     loop {
         let points = state.points();

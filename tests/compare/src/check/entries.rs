@@ -4,7 +4,8 @@
 use crate::binding::entries::{plan, replay};
 use reference::buffers::lend;
 use reference::entry::entry;
-use reference::file::{is_plain, read, section_length, HEADER, LONGEST, STEINER};
+use reference::file::{is_plain, read, section_length, sections};
+use reference::file::{COUNT, EDGES, LONGEST, SHORTEST, STEINER, WITH_DEVICES};
 use reference::refusals::{Refusals, NO_ROOM};
 use reference::script::hex_of;
 use std::fmt;
@@ -16,7 +17,7 @@ pub type Expected = Result<Vec<u8>, u8>;
 pub fn planned(file: &[u8]) -> Expected {
     let mut buffer = [0; LONGEST];
     let answer = entry(file, &mut buffer) as usize;
-    if answer < HEADER {
+    if answer < SHORTEST {
         Err(answer as u8)
     } else {
         Ok(buffer[..answer].to_vec())
@@ -28,12 +29,18 @@ pub fn steiner_of(file: &[u8]) -> usize {
     section_length(file, STEINER) / 4
 }
 
+/// Whether a file that is taken has the section of kinds.
+pub fn has_kinds(file: &[u8]) -> bool {
+    usize::from(file[COUNT]) == WITH_DEVICES
+}
+
 /// The length of the deck of a file that is taken and full: each run by the
 /// numbers of its ends in the bytes, added up.
 pub fn length_of(file: &[u8]) -> i64 {
     let points = read(file).expect("a file that is taken").points();
-    let runs = file[HEADER + 4 * points.len()..].chunks_exact(2);
-    runs.map(|ends| points[ends[0] as usize].distance(points[ends[1] as usize]))
+    let runs = sections(file).expect("a file that is taken")[EDGES];
+    runs.chunks_exact(2)
+        .map(|ends| points[ends[0] as usize].distance(points[ends[1] as usize]))
         .sum()
 }
 
@@ -88,16 +95,22 @@ pub struct Seen {
     pub none: usize,
     pub plain: usize,
     pub full: usize,
-    /// Files written that have Steiner points.
+    /// Files written that have Steiner points, and those that have kinds.
     pub with_steiner: usize,
+    pub with_kinds: usize,
 }
 
 impl Seen {
     /// Plans a file by both. Returns what is expected of a buffer with room.
     pub fn plan(&mut self, file: &[u8]) -> Expected {
         let expected = planned(file);
-        self.same(Given { file, calls: None }, &expected);
+        self.plan_to(file, &expected);
         expected
+    }
+
+    /// Plans a file, which leaves what is expected.
+    pub fn plan_to(&mut self, file: &[u8], expected: &Expected) {
+        self.same(Given { file, calls: None }, expected);
     }
 
     /// Makes calls on the deck of a file, which leave what is expected.
@@ -110,7 +123,7 @@ impl Seen {
     fn same(&mut self, given: Given, expected: &Expected) {
         let sizes = match expected {
             Ok(bytes) => [0, bytes.len() - 1, bytes.len(), LONGEST + 1],
-            Err(_) => [0, HEADER - 1, HEADER, LONGEST],
+            Err(_) => [0, SHORTEST - 1, SHORTEST, LONGEST],
         };
         for size in sizes {
             match same_answer(given, expected, size) {
@@ -126,6 +139,7 @@ impl Seen {
                 _ => &mut self.full,
             } += 1;
             self.with_steiner += (steiner_of(bytes) > 0) as usize;
+            self.with_kinds += has_kinds(bytes) as usize;
         }
     }
 }

@@ -2,7 +2,7 @@
 
 use super::entries::Expected;
 use super::replies::Replies;
-use crate::input::call_bytes::{call_bytes, calls_of, no_call_bytes};
+use crate::input::call_bytes::{call_bytes, calls_of, in_bytes, no_call_bytes};
 use crate::input::calls::{some_call, Shape};
 use reference::file::{read, write};
 use reference::generate::{Place, Random};
@@ -35,7 +35,7 @@ pub fn some_list(
     let (mut state, mut list, mut bytes) = (from.clone(), Vec::new(), Vec::new());
     let refused_before = seen.refused.total();
     for i in 0..shape.calls {
-        let asked = some_call(random, place, &state, shape, i);
+        let asked = in_bytes(some_call(random, place, &state, shape, i));
         let (next, reply) = call(&state, asked);
         state = next;
         seen.reply(reply, &state);

@@ -1,5 +1,6 @@
 //! The replies that were seen in sessions, so that a test can ask for enough.
 
+use reference::pins::only_sensors;
 use reference::refusals::{Refusals, OF_CALL};
 use reference::session::{Reply, State};
 use std::fmt;
@@ -18,6 +19,8 @@ pub struct Replies {
     /// Runs to the end, and those of them that added a Steiner point.
     pub runs: usize,
     pub runs_that_add: usize,
+    /// Calls that left a display or a controller on the deck.
+    pub with_devices: usize,
     /// The most pins and the most Steiner points of a deck.
     pub most_pins: usize,
     pub most_steiner: usize,
@@ -38,6 +41,7 @@ impl Replies {
                 self.runs_that_add += (count > 0) as usize;
             }
         }
+        self.with_devices += !only_sensors(&state.pins) as usize;
         self.most_pins = self.most_pins.max(state.pins.len());
         self.most_steiner = self.most_steiner.max(state.steiner.len());
     }
@@ -70,6 +74,10 @@ impl fmt::Display for Replies {
         let refusals = OF_CALL.map(|n| format!("{n}: {}", self.refused.by(n)));
         let total = self.refused.total();
         writeln!(out, "  {total} refused, {}", refusals.join(", "))?;
-        write!(out, "  {} questions", self.questions)
+        let (devices, questions) = (self.with_devices, self.questions);
+        write!(
+            out,
+            "  {devices} left a display or a controller; {questions} questions"
+        )
     }
 }

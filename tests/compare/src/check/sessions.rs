@@ -1,5 +1,5 @@
 //! Sessions on the proved deck beside the reference. Each function here panics
-//! where a reply or a word of a deck differs.
+//! where a reply, a word of a deck or a kind differs.
 
 use super::questions::same_answers;
 use super::replies::Replies;
@@ -10,7 +10,7 @@ use crate::input::calls::{some_call, Shape};
 use reference::generate::{Place, Random};
 use reference::session::{call, Call, Reply, State};
 
-/// One call on both: the same reply and, in every word, the same deck.
+/// One call on both: the same reply and, in every word and kind, the same deck.
 pub fn same_call(deck: &Deck, state: &State, asked: Call) -> (Deck, State, Reply) {
     let (next, reply) = call(state, asked);
     let (found, parts) = calls::call(deck, asked);
@@ -20,7 +20,7 @@ pub fn same_call(deck: &Deck, state: &State, asked: Call) -> (Deck, State, Reply
 }
 
 /// One call on a deck that is refused by this number: the deck is handed back,
-/// in every word.
+/// in every word and kind.
 pub fn refused_call(deck: &Deck, asked: Call, number: u8) {
     let (after, parts) = calls::call(deck, asked);
     let refused = Parts::of(Reply::Refused(number));

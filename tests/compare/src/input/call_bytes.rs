@@ -3,18 +3,19 @@
 use reference::generate::Random;
 use reference::session::Call;
 
-/// The bytes of a call: its number, three that are not looked at, x and y.
+/// The bytes of a call: its number, three more, x and y. The first of the three is
+/// the kind of a pin that is added; the others are not looked at.
 pub const SIZE: usize = 12;
 
 /// The ends of 32 bits.
 const LEAST: i64 = i32::MIN as i64;
 const MOST: i64 = i32::MAX as i64;
 
-/// The bytes of a number and two coordinates.
-fn twelve(number: u8, unused: [u8; 3], x: i64, y: i64) -> [u8; SIZE] {
+/// The bytes of a number, three more and two coordinates.
+fn twelve(number: u8, more: [u8; 3], x: i64, y: i64) -> [u8; SIZE] {
     let mut bytes = [0; SIZE];
     bytes[0] = number;
-    bytes[1..4].copy_from_slice(&unused);
+    bytes[1..4].copy_from_slice(&more);
     for (place, z) in [(4, x), (8, y)] {
         let coordinate = i32::try_from(z).expect("a coordinate of 32 bits");
         bytes[place..place + 4].copy_from_slice(&coordinate.to_le_bytes());
@@ -40,17 +41,31 @@ fn any_coordinate(random: &mut Random) -> i64 {
     }
 }
 
-/// The bytes of a number, with any other bytes.
+/// The bytes of a number, with any other bytes. Where the first of them is a kind,
+/// it is most often one that there is.
 pub fn numbered_bytes(random: &mut Random, number: u8) -> [u8; SIZE] {
     let (x, y) = (any_coordinate(random), any_coordinate(random));
-    twelve(number, any_unused(random), x, y)
+    let mut more = any_unused(random);
+    if number == 0 {
+        more[0] = random.pick(&[0, 1, 2, 2, 3, more[0]]);
+    }
+    twelve(number, more, x, y)
+}
+
+/// The call as its bytes can say it: a kind above 255 becomes 255, which is no kind
+/// either.
+pub fn in_bytes(asked: Call) -> Call {
+    match asked {
+        Call::Add(x, y, kind) => Call::Add(x, y, kind.min(u8::MAX.into())),
+        _ => asked,
+    }
 }
 
 /// The bytes of a call. A round and a run to the end have any coordinates.
 pub fn call_bytes(random: &mut Random, asked: Call) -> [u8; SIZE] {
     let unused = any_unused(random);
-    match asked {
-        Call::Add(x, y) => twelve(0, unused, x, y),
+    match in_bytes(asked) {
+        Call::Add(x, y, kind) => twelve(0, [kind as u8, unused[1], unused[2]], x, y),
         Call::Withdraw(x, y) => twelve(1, unused, x, y),
         Call::Round => numbered_bytes(random, 2),
         Call::Finish => numbered_bytes(random, 3),
@@ -84,7 +99,7 @@ fn call_of(twelve: &[u8]) -> Option<Call> {
     };
     let (x, y) = (coordinate(4), coordinate(8));
     match twelve[0] {
-        0 => Some(Call::Add(x, y)),
+        0 => Some(Call::Add(x, y, twelve[1].into())),
         1 => Some(Call::Withdraw(x, y)),
         2 => Some(Call::Round),
         3 => Some(Call::Finish),
@@ -101,9 +116,10 @@ pub fn calls_of(bytes: &[u8]) -> Vec<Call> {
 pub fn with_zeros(bytes: &[u8]) -> Vec<u8> {
     let mut zeroed = bytes.to_vec();
     for twelve in zeroed.chunks_exact_mut(SIZE) {
-        twelve[1..4].fill(0);
-        if twelve[0] >= 2 {
-            twelve[4..].fill(0);
+        match twelve[0] {
+            0 => twelve[2..4].fill(0),
+            1 => twelve[1..4].fill(0),
+            _ => twelve[1..].fill(0),
         }
     }
     zeroed

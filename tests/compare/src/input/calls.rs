@@ -1,5 +1,6 @@
 //! The calls of a session, one after the other.
 
+use reference::devices::{any_kind, kind};
 use reference::generate::{one_call, Place, Random};
 use reference::plane::Point;
 use reference::session::{Call, State};
@@ -78,11 +79,12 @@ pub fn some_call(
 ) -> Call {
     let near = place.point(random);
     if i < shape.added {
-        return Call::Add(near.x, near.y);
+        return Call::Add(near.x, near.y, kind(random));
     }
     if random.once_in(16) {
         let (x, y) = far_place(random, near);
-        return random.pick(&[Call::Add(x, y), Call::Withdraw(x, y)]);
+        let add = Call::Add(x, y, any_kind(random));
+        return random.pick(&[add, Call::Withdraw(x, y)]);
     }
     let rounds = state.pins.len() + state.steiner.len() <= shape.small;
     if rounds && shape.eager && random.once_in(2) {

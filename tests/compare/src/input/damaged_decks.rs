@@ -1,9 +1,9 @@
-//! Decks damaged in one part: the counts, the points, the places that are
-//! not used, and every word. A damage may happen to give a sound deck.
+//! Decks damaged in one part: the counts, the points, the kinds, the places that
+//! are not used, and every word. A damage may happen to give a sound deck.
 
 use crate::binding::deck::{code, Deck, PIN_WORDS, STEINER_WORDS};
 use crate::binding::places::{ENDS, PIN_COUNT, STEINER_COUNT, WORDS};
-use crate::binding::places::{END_PLACES, PIN_PLACES, STEINER_PLACES};
+use crate::binding::places::{END_PLACES, KIND_PLACES, PIN_PLACES, STEINER_PLACES};
 use reference::generate::Random;
 use reference::plane::{Point, LIMIT};
 use std::ops::Range;
@@ -103,6 +103,26 @@ pub fn points(deck: &Deck) -> Vec<Damaged> {
         places.flat_map(|i| points.at(deck, i)).collect::<Vec<_>>()
     };
     [of(&OF_PINS), of(&OF_STEINER)].concat()
+}
+
+/// Another number in each place of the kinds, one at a time. The next kind of a pin
+/// leaves the deck sound; behind the pins no number but 0 does.
+pub fn kinds(deck: &Deck) -> Vec<Damaged> {
+    let mut damaged = Vec::new();
+    for place in 0..KIND_PLACES {
+        let mut change = |name, kind| damaged.push((name, deck.with_kind(place, kind)));
+        if place < deck.npins() {
+            for kind in [3, 4, 128, 255] {
+                change("no kind", kind);
+            }
+            change("kind changed", (deck.kinds[place] + 1) % 3);
+        } else {
+            for kind in [1, 2, 3, 255] {
+                change("unused kind", kind);
+            }
+        }
+    }
+    damaged
 }
 
 /// A number in each place that is not used, one at a time.

@@ -2,9 +2,10 @@
 //! happen to give a sound deck.
 
 use super::damaged_decks::Damaged;
-use crate::binding::deck::{code, Deck, END_WORDS};
+use crate::binding::deck::{Deck, END_WORDS};
 use crate::binding::places::PIN_PLACES;
 use reference::generate::Random;
+use reference::pins::{Pin, CONTROLLER};
 use reference::plane::Point;
 use reference::session::{is_valid, State};
 
@@ -109,28 +110,24 @@ pub fn edges(random: &mut Random, deck: &Deck, count: usize) -> Vec<Damaged> {
 }
 
 /// The deck with other pins and Steiner points, and the edges left.
-fn with_roles(deck: &Deck, pins: &[Point], steiner: &[Point]) -> Deck {
-    let state = State::new(pins.to_vec(), steiner.to_vec());
-    let codes = |points: &[Point]| {
-        points
-            .iter()
-            .take(PIN_PLACES)
-            .map(|&p| code(p))
-            .collect::<Vec<_>>()
-    };
-    Deck::with_lists(&codes(&state.pins), &codes(&state.steiner), deck.ends())
+fn with_roles(deck: &Deck, pins: &[Pin], steiner: &[Point]) -> Deck {
+    let mut state = State::new(pins.to_vec(), steiner.to_vec());
+    state.pins.truncate(PIN_PLACES);
+    Deck::with_lists(&state.pins, &state.steiner, deck.ends())
 }
 
-/// A pin that becomes a Steiner point, one that becomes a pin, and a Steiner
-/// point on a pin. The points, and so the tree, stay the same.
+/// The items but for one.
+fn without<T: Copy + PartialEq>(items: &[T], one: T) -> Vec<T> {
+    let kept = items.iter().copied().filter(|&item| item != one);
+    kept.collect()
+}
+
+/// A pin that becomes a Steiner point, one that becomes a controller, and a
+/// Steiner point on a pin. The points, and so the tree, stay the same.
 pub fn roles(state: &State, deck: &Deck) -> Vec<Damaged> {
-    let without = |points: &[Point], p: Point| {
-        let kept = points.iter().copied().filter(|&q| q != p);
-        kept.collect::<Vec<_>>()
-    };
     let mut damaged = Vec::new();
     for &pin in &state.pins {
-        let more = [&state.steiner[..], &[pin]].concat();
+        let more = [&state.steiner[..], &[pin.point]].concat();
         let fewer = without(&state.pins, pin);
         damaged.push(("pin made a Steiner point", with_roles(deck, &fewer, &more)));
         damaged.push((
@@ -139,7 +136,7 @@ pub fn roles(state: &State, deck: &Deck) -> Vec<Damaged> {
         ));
     }
     for &point in &state.steiner {
-        let more = [&state.pins[..], &[point]].concat();
+        let more = [&state.pins[..], &[Pin::new(point, CONTROLLER)]].concat();
         let fewer = without(&state.steiner, point);
         damaged.push(("Steiner point made a pin", with_roles(deck, &more, &fewer)));
         damaged.push((

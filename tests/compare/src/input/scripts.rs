@@ -1,9 +1,10 @@
 //! Scripts for the script program.
 
 use super::calls::{some_call, Shape};
+use reference::devices::any_line;
 use reference::file::write;
 use reference::generate::{question, Place, Random};
-use reference::script::{call_line, hex_of};
+use reference::script::hex_of;
 use reference::session::{call, State};
 
 /// A script that reads a deck and makes the calls of a session on it, with a
@@ -14,7 +15,8 @@ pub fn session(random: &mut Random, place: &Place, from: &State, shape: Shape) -
     for i in 0..shape.calls {
         let asked = some_call(random, place, &state, shape, i);
         state = call(&state, asked).0;
-        script += &format!("{}\n{}", call_line(asked), question(random, &state));
+        script += &format!("{}\n", any_line(random, asked));
+        script += &question(random, &state);
     }
     script.into_bytes()
 }

@@ -1,7 +1,9 @@
 //! Three different points in range, with the box around them and their middle
 //! point from the coordinates alone, and decks of three pins with a tap.
 
+use reference::devices::devices;
 use reference::generate::{Kind, Place, Random, KINDS};
+use reference::pins::Pin;
 use reference::plane::{Point, LIMIT};
 use reference::session::{is_valid, State};
 
@@ -52,6 +54,11 @@ pub fn orders([a, b, c]: Triple) -> [Triple; 6] {
     ]
 }
 
+/// The device at a point, of a kind that goes by the place.
+pub fn device(point: Point) -> Pin {
+    Pin::new(point, (point.x + point.y).rem_euclid(3) as u32)
+}
+
 /// The x of the points and their y, both rising.
 fn coordinates(points: &[Point]) -> (Vec<i64>, Vec<i64>) {
     let mut xs: Vec<i64> = points.iter().map(|p| p.x).collect();
@@ -84,7 +91,8 @@ pub fn with_tap(random: &mut Random) -> State {
         let points = place.points(random, 4);
         if points.len() == 4 {
             let points = random.shuffled(&points);
-            let state = State::new(points[..3].to_vec(), points[3..].to_vec());
+            let pins = devices(random, &points[..3]);
+            let state = State::new(pins, points[3..].to_vec());
             if is_valid(&state) {
                 return state;
             }

@@ -3,6 +3,7 @@
 
 use reference::cases::*;
 use reference::generate::Random;
+use reference::pins::SENSOR;
 use reference::plane::Point;
 use reference::script::{call_line, reply_line};
 use reference::session::{after, call, Call, State};
@@ -21,7 +22,7 @@ type Size = (bool, usize, usize, i64, i64);
 fn size(calls: &[Call]) -> Size {
     let (mut pins, mut most, mut sum) = (0, 0, 0);
     for &one in calls {
-        if let Call::Add(x, y) = one {
+        if let Call::Add(x, y, _) = one {
             pins += 1;
             most = most.max(x.abs()).max(y.abs());
             sum += x.abs() + y.abs();
@@ -33,9 +34,9 @@ fn size(calls: &[Call]) -> Size {
 /// The list with each coordinate of its pins changed.
 fn moved(calls: &[Call], change: impl Fn(Point) -> Point) -> Vec<Call> {
     let one = |&one: &Call| match one {
-        Call::Add(x, y) => {
+        Call::Add(x, y, kind) => {
             let p = change(Point::new(x, y));
-            Call::Add(p.x, p.y)
+            Call::Add(p.x, p.y, kind)
         }
         Call::Withdraw(x, y) => {
             let p = change(Point::new(x, y));
@@ -58,7 +59,7 @@ fn neighbours(calls: &[Call]) -> Vec<Vec<Call>> {
             near.push([&calls[..i], &calls[i + 1..j], &calls[j + 1..]].concat());
             near.push([&ended[..=i], &calls[j..]].concat());
         }
-        if let Call::Add(a, b) = calls[i] {
+        if let Call::Add(a, b, _) = calls[i] {
             for (dx, dy) in [(-1, 0), (0, -1), (-1, -1), (1, -1), (-1, 1)] {
                 near.push(moved(calls, |p| {
                     if p == Point::new(a, b) {
@@ -98,7 +99,7 @@ fn shrink(calls: &[Call], shows: Shows) -> Vec<Call> {
 /// The list moved so that the least x and the least y are 0.
 fn at_origin(calls: &[Call]) -> Vec<Call> {
     let added = |&one: &Call| match one {
-        Call::Add(x, y) => Some((x, y)),
+        Call::Add(x, y, _) => Some((x, y)),
         _ => None,
     };
     let least_x = calls
@@ -133,7 +134,7 @@ fn random_list(random: &mut Random) -> Vec<Call> {
         match kind {
             0 | 1 => {
                 pins.push(point);
-                calls.push(Call::Add(point.0, point.1))
+                calls.push(Call::Add(point.0, point.1, SENSOR))
             }
             2..=4 => {
                 let (x, y) = pins[random.range(0, pins.len() as i64 - 1) as usize];
@@ -162,7 +163,7 @@ fn print_example(calls: &[Call], shows: Shows) {
     println!("  {}", words.join("; "));
     println!(
         "    ends: pins {} taps {} runs {}",
-        show_points(&state.pins),
+        show_points(&state.places()),
         show_points(&state.steiner),
         show_edges(&state.tree())
     );

@@ -1,67 +1,31 @@
--- `buffer::file::put_parts` meets its contract: one part behind the other.
+-- `buffer::file::put_parts` meets its contract: the kinds stand behind the edges.
 use native.Mathlib.Omega.{arith}
-use Rattle.buffer.proofs.Parts.{header-end, pins-end, steiner-end, parts-put}
+use Rattle.arrays.proofs.paste.Parts.{pasted-then}
+use Rattle.buffer.proofs.Parts.{kinds-fit}
 use borrow.Author.Needs.{needs}
 use Rattle.buffer.proofs.file.put_parts.Statement.{statement}
 use Rattle.buffer.proofs.file.put_parts.Tie as tie
 
--- The entry, seen from the call of `edges_of`.
-abbrev entry-of : tie.After-edges-of → tie.Start
-entry-of at-edges-of =
-    let at-ends = at-edges-of .before .before in
-    at-ends .before .before .before
+-- The entry, seen from the call of `put_tree`.
+abbrev entry-of : tie.After-put-tree → tie.Start
+entry-of at-put-tree =
+    let at-first-slice = at-put-tree .before .before .before .before .before .before in
+    at-first-slice .before
 
-put-points-requires : tie.Need-put-points-requires
-put-points-requires c κs =
-    let at-file-header = c .before .before .before in
-    let kept = entry-of (at-file-header .before .before) .pre in
-    (kept .inPins, omega (arith, header-end kept _ (at-file-header .put-file-header .ensures), kept .room))
-
-put-points-requires-2 : tie.Need-put-points-requires-2
-put-points-requires-2 c κs =
-    let at-put-points = c .before .before .before in
-    let at-put-points-arg = at-put-points .before in
-    let at-file-header = at-put-points-arg .before .before .before in
-    let kept = entry-of (at-file-header .before .before) .pre in
-    let first = header-end kept _ (at-file-header .put-file-header .ensures) in
-    (kept .inSteiner, omega (arith, first, pins-end kept (at-put-points .put-points .ensures), kept .room))
-
-put-edges-requires : tie.Need-put-edges-requires
-put-edges-requires c κs =
-    let at-put-points2 = c .before .before .before in
-    let at-put-points-arg2 = at-put-points2 .before in
-    let at-put-points = at-put-points-arg2 .before .before .before in
-    let at-put-points-arg = at-put-points .before in
-    let at-file-header = at-put-points-arg .before .before .before in
-    let at-edges-of = at-file-header .before .before in
-    let kept = entry-of at-edges-of .pre in
-    let steiner = pins-end kept (at-put-points .put-points .ensures) in
-    let edges = steiner-end kept (at-put-points2 .put-points2 .ensures) in
-    let count = at-edges-of .edges-of .ensures in
-    (omega (arith, count, kept .inEnds), omega (arith, header-end kept _ (at-file-header .put-file-header .ensures), steiner, edges, count, kept .room))
+put-kinds-requires : tie.Need-put-kinds-requires
+put-kinds-requires c κs =
+    let at-put-tree = c .before .before .before in
+    let entry = entry-of at-put-tree in
+    let fit = kinds-fit (entry .pre .0) (entry .args .kinds .now) (entry .pre .1) (at-put-tree .put-tree .ensures) in
+    (entry .pre .1, omega (arith, fit, at-put-tree .put-tree .kept .1 .1 .1 .1 .1 .1 .0))
 
 returns : tie.Need-returns
 returns c =
-    let at-put-edges = c .before .before in
-    let at-put-edges-arg = at-put-edges .before in
-    let at-put-points2 = at-put-edges-arg .before .before .before in
-    let at-put-points-arg2 = at-put-points2 .before in
-    let at-put-points = at-put-points-arg2 .before .before .before in
-    let at-put-points-arg = at-put-points .before in
-    let at-file-header = at-put-points-arg .before .before .before in
-    let at-edges-of = at-file-header .before .before in
-    parts-put (entry-of at-edges-of .pre) (at-edges-of .edges-of .ensures)
-    (at-file-header .put-file-header .ensures) (at-put-points .put-points .ensures) (at-put-points2 .put-points2 .ensures) (at-put-edges .put-edges .ensures)
+    let at-put-kinds = c .before .before in
+    let at-put-tree = at-put-kinds .before .before .before .before in
+    let entry = entry-of at-put-tree in
+    let fit = kinds-fit (entry .pre .0) (entry .args .kinds .now) (entry .pre .1) (at-put-tree .put-tree .ensures) in
+    pasted-then (at-put-tree .put-tree .ensures) (omega (arith, fit)) (at-put-kinds .put-kinds .ensures)
 
 pub put-parts-spec : {M : Type 1} → statement M
-put-parts-spec =
-    tie.close
-    (tie.spec
-    (λ c. search needs)
-    (λ c κs. search needs)
-    (λ c κs. search needs)
-    put-points-requires
-    put-points-requires-2
-    put-edges-requires
-    (λ c. search needs)
-    returns)
+put-parts-spec = tie.close (tie.spec (λ c κs. search needs) put-kinds-requires (λ c. search needs) returns)

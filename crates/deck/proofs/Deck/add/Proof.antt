@@ -1,4 +1,5 @@
 -- `deck::Deck::add` meets its contract: the check, then the call on the working form.
+use Rattle.plane.specs.Point.{Point}
 use Rattle.model.specs.Call as call
 use Rattle.deck.proofs.Calls.{ready, refused-by, called-at}
 use borrow.Author.Needs.{needs}
@@ -15,8 +16,10 @@ returned c =
     let at-call = c .before in
     let at-if = at-call .before in
     let at-check = at-if .before .before in
-    let fits = at-check .before .fits in
-    called-at _ (at-check .check .ensures) call.add (fits .x) (fits .y) (at-if .if1 .left) (at-call .add .ensures) (c .outcome-of .ensures)
+    let entry = at-check .before in
+    let fits = entry .fits in
+    called-at _ (at-check .check .ensures) (λ (p : Point). call.add p (entry .args .kind)) (fits .x) (fits .y) (at-if .if1 .left)
+    (at-call .add .ensures) (c .outcome-of .ensures)
 
 pub add-spec : {M : Type 1} → statement M
 add-spec =

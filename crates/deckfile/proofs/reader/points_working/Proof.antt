@@ -44,7 +44,7 @@ returns c =
     let p = entry .pre .1 .1 .0 in
     let row = steiner-put b (entry .pre .0) p _ (entry .pre .1 .0) _ (at-steiner-length .size2 .ensures .0) (at-put-numbers .put-numbers .ensures) in
     working-for b (entry .pre .0) p _ (entry .pre .1 .0) _ _ (at-steiner-length .before .size .ensures .0) (at-steiner-length .size2 .ensures .0) _ row
-    _ (c .working-of .ensures)
+    _ (c .form-of .ensures)
 
 pub points-working-spec : {M : Type 1} → statement M
 points-working-spec =

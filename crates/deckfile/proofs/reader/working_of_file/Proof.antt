@@ -1,8 +1,11 @@
 -- `deckfile::reader::working_of_file` meets its contract: one test after the other.
-use mathlib.Core.Path.{sym, _∙_}
+use mathlib.Core.Path.{_≡_, sym, _∙_}
 use borrow.Author.Tests.{not-true, not-false}
 use native.Mathlib.Omega.{arith}
-use Rattle.deckfile.proofs.reader.LastCheck.{read-as, found-valid, last-many, last-invalid, last-plain, last-other, last-same}
+use Rattle.deckfile.proofs.reader.LastCheck.{read-as, found-valid, found-state, last-many, last-invalid, last-plain, last-other, last-same}
+use Rattle.model.specs.File.{fileState}
+use Rattle.working.specs.InOrder.{InOrder, stateOf}
+use Rattle.sections.specs.Layout.{Sections}
 use borrow.Author.Needs.{needs}
 use Rattle.deckfile.proofs.reader.working_of_file.Statement.{statement}
 use Rattle.deckfile.proofs.reader.working_of_file.Tie as tie
@@ -33,22 +36,32 @@ returns-2 c =
     read-as (last-invalid (entry .args .b .now) (entry .pre .0) (entry .pre .1 .1 .1) (entry .pre .1 .0) _ (at-points-working .points-working .ensures)
     invalid) (c .refuse2 .ensures)
 
-accept-requires : tie.Need-accept-requires
-accept-requires c κs =
-    let at-points-test = c .before .before in
-    let at-points-working = at-points-test .before .before in
+-- What `with_kinds` asks for, where the points are those of a valid state.
+ready : (c : tie.Else2) → let at-points-working = c .before .before in let entry = entry-of at-points-working in
+    Sections (entry .args .b .now) × InOrder (at-points-working .points-working .result .form)
+    × (stateOf (at-points-working .points-working .result .form) ≡ fileState (entry .args .b .now))
+ready c =
+    let at-points-working = c .before .before in
     let entry = entry-of at-points-working in
-    found-valid (entry .args .b .now) (entry .pre .0) (entry .pre .1 .1 .1) (entry .pre .1 .0) _ (at-points-working .points-working .ensures)
-    (not-false _ (at-points-test .if2 .left)) .0
+    let b = entry .args .b .now in
+    let for = at-points-working .points-working .ensures in
+    let ok = not-false _ (c .if2 .left) in (
+      entry .pre .0,
+      found-valid b (entry .pre .0) (entry .pre .1 .1 .1) (entry .pre .1 .0) _ for ok .0,
+      found-state b (entry .pre .0) (entry .pre .1 .1 .1) (entry .pre .1 .0) _ for ok,
+    )
+
+with-kinds-requires : tie.Need-with-kinds-requires
+with-kinds-requires c κs = let r = ready (c .before .before) in (r .0, (r .1, r .2))
 
 returns-3 : tie.Need-returns-3
 returns-3 c =
     let at-is-plain = c .before .before in
     let at-points-working = at-is-plain .before .before .before in
     let entry = entry-of at-points-working in
-    last-plain (entry .args .b .now) (entry .pre .0) (entry .pre .1 .1 .1) (entry .pre .1 .0) _ (at-points-working .points-working .ensures)
-    (not-false _ (at-is-plain .before .if2 .left))
-    (sym (at-is-plain .is-plain .ensures) ∙ c .before .if3 .taken) _ (c .accept .ensures)
+    read-as
+    (last-plain (entry .args .b .now) (entry .pre .0) (entry .pre .1 .1 .1) (entry .pre .1 .0) _ (at-points-working .points-working .ensures)
+    (sym (at-is-plain .is-plain .ensures) ∙ c .before .if3 .taken)) (c .with-kinds .ensures)
 
 has-edges-requires : tie.Need-has-edges-requires
 has-edges-requires c κs =
@@ -73,14 +86,8 @@ returns-4 c =
     (sym (at-is-plain .is-plain .ensures) ∙ at-has-edges .before .if3 .left) (sym (at-has-edges .has-edges .ensures) ∙ not-true _ (c .before .if4 .taken)))
     (c .refuse3 .ensures)
 
-accept-requires-2 : tie.Need-accept-requires-2
-accept-requires-2 c κs =
-    let at-has-edges = c .before in
-    let at-points-test = at-has-edges .before .before .before in
-    let at-points-working = at-points-test .before .before in
-    let entry = entry-of at-points-working in
-    found-valid (entry .args .b .now) (entry .pre .0) (entry .pre .1 .1 .1) (entry .pre .1 .0) _ (at-points-working .points-working .ensures)
-    (not-false _ (at-points-test .if2 .left)) .0
+with-kinds-requires-2 : tie.Need-with-kinds-requires-2
+with-kinds-requires-2 c κs = let at-has-edges = c .before in let r = ready (at-has-edges .before .before .before) in (r .0, (r .1, r .2))
 
 returns-5 : tie.Need-returns-5
 returns-5 c =
@@ -88,10 +95,11 @@ returns-5 c =
     let at-is-plain = at-has-edges .before .before in
     let at-points-working = at-is-plain .before .before .before in
     let entry = entry-of at-points-working in
-    last-same (entry .args .b .now) (entry .pre .0) (entry .pre .1 .1 .1) (entry .pre .1 .0) _ (at-points-working .points-working .ensures)
+    read-as
+    (last-same (entry .args .b .now) (entry .pre .0) (entry .pre .1 .1 .1) (entry .pre .1 .0) _ (at-points-working .points-working .ensures)
     (not-false _ (at-is-plain .before .if2 .left))
-    (sym (at-is-plain .is-plain .ensures) ∙ at-has-edges .before .if3 .left) (sym (at-has-edges .has-edges .ensures) ∙ not-false _ (c .before .if4 .left))
-    _ (c .accept2 .ensures)
+    (sym (at-is-plain .is-plain .ensures) ∙ at-has-edges .before .if3 .left) (sym (at-has-edges .has-edges .ensures) ∙ not-false _ (c .before .if4 .left)))
+    (c .with-kinds2 .ensures)
 
 pub working-of-file-spec : {M : Type 1} → statement M
 working-of-file-spec =
@@ -104,10 +112,10 @@ working-of-file-spec =
     (λ c κs. search needs)
     returns-2
     (λ c κs. search needs)
-    accept-requires
+    with-kinds-requires
     returns-3
     has-edges-requires
     (λ c κs. search needs)
     returns-4
-    accept-requires-2
+    with-kinds-requires-2
     returns-5)

@@ -1,5 +1,6 @@
 -- `deckplay::answer::call` meets its contract: in each arm the call is told, and the deck's method answers what `callFor` says of it.
 use mathlib.Core.Path.{ap}
+use Rattle.plane.specs.Point.{Point}
 use Rattle.model.specs.Call as call
 use Rattle.deckplay.specs.Play.{changes, callFor}
 use Rattle.deckplay.proofs.answer.Commands.{makes, called-at}
@@ -14,8 +15,10 @@ adds c =
     let at-add = at-changed .before .before in
     let at-told = at-add .before in
     let fits = at-told .known-told .given in
+    let kind = at-told .before .c .given .0 .1 .1 .0 in
     makes _ (at-told .before .c .given .1)
-    (called-at (record { sfits = fits .0 .1 }) (record { sfits = fits .1 .0 .1 }) _ call.add (at-add .add .ensures)) (at-changed .changed .ensures)
+    (called-at (record { sfits = fits .0 .1 }) (record { sfits = fits .1 .0 .1 }) _ (λ (p : Point). call.add p kind) (at-add .add .ensures))
+    (at-changed .changed .ensures)
 
 withdraws : tie.Need-returns-2
 unfolding callFor

@@ -36,7 +36,7 @@ run-line-requires c κs =
     let at-test = c .before .before .before in
     let at-loop = at-test .before .before in
     let entry = at-loop .before .before .before in
-    let few = edges-few _ (entry .pre .1 .1 .state) in
+    let few = edges-few _ (entry .pre .1 .1) in
     let inv = at-loop .loop .inv in
     omega (arith, inv .most, inv .same, few, edge-count _ (entry .pre .1 .0), at-test .if1 .taken)
 
@@ -48,7 +48,7 @@ loop-again c =
     let at-loop = at-test .before .before in
     let entry = at-loop .before .before .before in
     let s = stateOf (entry .args .w) in
-    let few = edges-few _ (entry .pre .1 .1 .state) in
+    let few = edges-few _ (entry .pre .1 .1) in
     let inv = at-loop .loop .inv in
     let line = at-run-line .run-line in
     first-more (runText (listed s)) 53 _ _ _ _ _ _ _ _ _ inv (at-test .if1 .taken) (run-more s _ _ (at-edge-at .edge-at .ensures))

@@ -9,7 +9,7 @@ use Rattle.replay.proofs.list.call_at.Tie as tie
 
 returns : tie.Need-returns
 returns c =
-    let at-signed322 = c .before .before in
+    let at-signed322 = c .before .before .before in
     let at-signed32 = at-signed322 .before .before in
     c .call .ensures ∙ call-read _ _ _
     (read-is (record { sfits = at-signed32 .signed32 .ok }) (at-signed32 .signed32 .ensures ∙ ap signed32 (at-signed32 .before .number4 .ensures .0)))
@@ -25,6 +25,8 @@ call-at-spec =
     (λ c. search needs)
     (λ c κs. search needs)
     (λ c κs. search needs)
+    (λ c. search needs)
+    (λ c. search needs)
     (λ c. search needs)
     (λ c κs. search needs)
     returns)

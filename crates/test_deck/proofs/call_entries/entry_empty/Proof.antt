@@ -5,7 +5,7 @@ use Rattle.test_deck.proofs.call_entries.entry_empty.Statement.{stateme
 use Rattle.test_deck.proofs.call_entries.entry_empty.Tie as tie
 
 returns : tie.Need-returns
-returns c = c .put-deck .ensures .1 ∙ c .before .before .empty .ensures
+returns c = c .put-deck .ensures .1 ∙ c .before .before .before .empty .ensures
 
 pub entry-empty-spec : {M : Type 1} → statement M
 entry-empty-spec = tie.close (tie.spec (λ c κs. search needs) (λ c κs. search needs) returns)

@@ -7,8 +7,8 @@ use Rattle.test_deck.proofs.call_entries.entry_round.Tie as tie
 
 returns : tie.Need-returns
 returns c =
-    let at-put-outcome-arg3 = c .before in
-    let at-round = at-put-outcome-arg3 .before .before .before in
+    let at-put-outcome-arg4 = c .before in
+    let at-round = at-put-outcome-arg4 .before .before .before .before in
     of-call (at-round .before .deck-in .ensures) refl (at-round .round .ensures) (c .put-outcome .ensures)
 
 pub entry-round-spec : {M : Type 1} → statement M

@@ -7,8 +7,8 @@ use Rattle.test_deck.proofs.call_entries.entry_run_to_end.Tie as tie
 
 returns : tie.Need-returns
 returns c =
-    let at-put-outcome-arg3 = c .before in
-    let at-run-to-end = at-put-outcome-arg3 .before .before .before in
+    let at-put-outcome-arg4 = c .before in
+    let at-run-to-end = at-put-outcome-arg4 .before .before .before .before in
     of-call (at-run-to-end .before .deck-in .ensures) refl (at-run-to-end .run-to-end .ensures) (c .put-outcome .ensures)
 
 pub entry-run-to-end-spec : {M : Type 1} → statement M

@@ -10,11 +10,12 @@ use Rattle.test_deck.proofs.call_entries.entry_withdraw.Tie as tie
 
 returns : tie.Need-returns
 returns c =
-    let at-put-outcome-arg3 = c .before in
-    let at-withdraw = at-put-outcome-arg3 .before .before .before in
-    let entry = at-withdraw .before .before .before in
+    let at-put-outcome-arg4 = c .before in
+    let at-withdraw = at-put-outcome-arg4 .before .before .before .before in
+    let at-deck-in = at-withdraw .before in
+    let entry = at-deck-in .before .before .before in
     let f = entry .fits in
-    of-call (at-withdraw .before .deck-in .ensures) (ap call.withdraw (read-two point _ _ (f .x) (f .y))) (at-withdraw .withdraw .ensures)
+    of-call (at-deck-in .deck-in .ensures) (ap call.withdraw (read-two point _ _ (f .x) (f .y))) (at-withdraw .withdraw .ensures)
     (c .put-outcome .ensures)
 
 pub entry-withdraw-spec : {M : Type 1} → statement M

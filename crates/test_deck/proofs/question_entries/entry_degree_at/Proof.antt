@@ -12,7 +12,7 @@ returns : tie.Need-returns
 returns c =
     let at-parts-of-answer = c .before .before .before in
     let at-deck-in = at-parts-of-answer .before .before in
-    let entry = at-deck-in .before .before in
+    let entry = at-deck-in .before .before .before in
     let f = entry .fits in
     of-question (at-deck-in .deck-in .ensures) (ap ofDegree (read-two point _ _ (f .x) (f .y))) (at-parts-of-answer .before .degree-at .ensures)
     (at-parts-of-answer .parts-of-answer .ensures)

@@ -26,6 +26,7 @@ returns c =
     let ends = part-copied w endsWord endPlaces (at-put-numbers3 .put-numbers3 .ensures) (omega (arith, size entry)) refl in
     λ i. record {
       points = record { pins = pins i; npins = getD w pinCountWord 0; steiner = steiner i; nsteiner = getD w steinerCountWord 0 };
+      kinds = entry .args .kinds;
       ends = ends i;
     }
 

@@ -1,6 +1,8 @@
 -- `test_deck::words::put_deck` meets its contract: the parts are put one behind the other, and read back they are the deck.
 -- (The entry is `s` here: must-fail/counts_exchanged.edit changes two lines that name it.)
 use mathlib.Core.Path.{refl, ap, _∙_}
+use mathlib.Core.List.{List}
+use Prim.Native.Nat.{ℕ}
 use native.Mathlib.Omega.{arith}
 use lib.ListN.{length-set}
 use Rattle.test_deck.specs.Words.{pinCountWord, steinerCountWord, deckIn}
@@ -15,14 +17,14 @@ sized s = record { pins = search needs; steiner = search needs; ends = search ne
 put-numbers-requires : tie.Need-put-numbers-requires
 put-numbers-requires c κs =
     let at-ends = c .before .before in
-    let s = at-ends .before .before .before in
+    let s = at-ends .before .before .before .before in
     omega (arith, sized s .pins)
 
 put-numbers-requires-2 : tie.Need-put-numbers-requires-2
 put-numbers-requires-2 c κs =
     let at-put-numbers = c .before .before .before in
     let at-ends = at-put-numbers .before .before .before in
-    let s = at-ends .before .before .before in
+    let s = at-ends .before .before .before .before in
     omega (
       arith,
       sized s .steiner,
@@ -36,7 +38,7 @@ put-numbers-requires-3 c κs =
     let at-steiner = at-put-numbers2 .before in
     let at-put-numbers = at-steiner .before .before .before in
     let at-ends = at-put-numbers .before .before .before in
-    let s = at-ends .before .before .before in
+    let s = at-ends .before .before .before .before in
     omega (
       arith,
       sized s .ends,
@@ -52,10 +54,10 @@ returns c =
     let at-steiner = at-put-numbers2 .before in
     let at-put-numbers = at-steiner .before .before .before in
     let at-first-ends = at-put-numbers .before .before .before in
-    let s = at-first-ends .before .before .before in
+    let s = at-first-ends .before .before .before .before in
     let laid = laid-out (s .args .d) (sized s) refl (at-put-numbers .put-numbers .ensures) (at-put-numbers2 .put-numbers2 .ensures)
     (at-put-numbers3 .put-numbers3 .ensures) in
-    (laid, ap deckIn laid ∙ deck-in-words (s .args .d) (sized s))
+    (laid, ap (λ (w : List ℕ). deckIn w (s .args .d .kinds)) laid ∙ deck-in-words (s .args .d) (sized s))
 
 pub put-deck-spec : {M : Type 1} → statement M
 put-deck-spec =

@@ -1,0 +1,2 @@
+-- What the functions of the module `kinds` rest on.
+pub mod Front

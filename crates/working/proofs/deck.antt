@@ -1,0 +1,2 @@
+-- What the functions of the module `deck` rest on.
+pub mod Following
