@@ -1,4 +1,4 @@
--- A call on a deck, from that on its working form: refused by 11 where the deck is not sound, else the outcome on the working form.
+-- A call on a deck, from that on the deck in working form: refused by 11 where the deck is not sound, else the outcome there.
 use mathlib.Core.Path.{_≡_, sym, ap, _∙_, subst⁻¹}
 use mathlib.Core.Bool.{Bool, true, false, not}
 use lib.Dec.{T}
@@ -25,7 +25,7 @@ use Rattle.arrays.proofs.Signed.{read, read-two}
 use Rattle.calls.proofs.PointCalls.{by-point}
 use Rattle.deck.proofs.Form.{sound-is, same-contents}
 
--- What the check of a deck gives where it passed: the deck is sound, and its working form stands for its contents.
+-- What the check of a deck gives where it passed: the deck is sound, and the deck in working form stands for its contents.
 pub checked-sound : (d : Deck) (r : Checked) → Checks (sound d) d r → r .ok ≡ true
     → Sound d × work.InOrder (r .working .form) × (workingDeck.contentsOf (r .working) ≡ contentsOf d)
 checked-sound d r c e =

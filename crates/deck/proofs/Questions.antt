@@ -1,4 +1,4 @@
--- A question on a deck, from that on its working form: refused by 11 where the deck is not sound, else the answer for the working form.
+-- A question on a deck, from that on the deck in working form: refused by 11 where the deck is not sound, else the answer there.
 use mathlib.Core.Path.{_≡_, sym, ap, _∙_}
 use mathlib.Core.Bool.{Bool, true, false, not}
 use lib.IntN.{ℤ}

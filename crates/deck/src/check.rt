@@ -1,4 +1,4 @@
-// Check 11: whether a deck is sound, with its working form where it is.
+// Check 11: whether a deck is sound, with the deck in working form where it is.
 use super::Deck;
 use points::Points;
 use points::kinds::LARGEST_KIND;
@@ -33,7 +33,7 @@ pub struct Checked {
 }
 
 // Whether the first n kinds of a deck are kinds.
-fn has_kinds(d: Deck, n: usize) -> bool
+fn knows_kinds(d: Deck, n: usize) -> bool
     requires { ⌜ n ≤ maxPins ⌝ }
     ensures { λ r. ⌜ r ≡ all isKind (take n (d .kinds)) ⌝ }
 {
@@ -41,15 +41,15 @@ fn has_kinds(d: Deck, n: usize) -> bool
     all_within(&kinds[..n], LARGEST_KIND)
 }
 
-// Whether two decks have the same kinds and the same ends, in every place.
+// Whether the kinds and the ends of two decks are the same in every place.
 fn same_rest(d: Deck, e: Deck) -> bool
     ensures { λ r. ⌜ r ≡ sameList (d .kinds) (e .kinds) && sameList (d .ends) (e .ends) ⌝ }
 {
-    let a = d.kinds;
-    let b = e.kinds;
-    let c = d.ends;
-    let f = e.ends;
-    arrays::same::same_bytes(&a, &b) & arrays::same::same_numbers(&c, &f)
+    let kinds = d.kinds;
+    let other_kinds = e.kinds;
+    let ends = d.ends;
+    let other_ends = e.ends;
+    arrays::same::same_bytes(&kinds, &other_kinds) & arrays::same::same_numbers(&ends, &other_ends)
 }
 
 // Returns the deck of a deck in working form.
@@ -57,12 +57,13 @@ pub fn deck_of(w: WorkingDeck) -> Deck
     requires { ⌜ work.InOrder (w .form) ⌝ }
     ensures { λ r. ⌜ r ≡ deckOf (workingDeck.contentsOf w) ⌝ }
 {
-    let kinds = w.kinds;
+    let all = w.kinds;
     let ends = edge_numbers(w.form);
     let points = w.form.points;
+    let kinds = in_front(&all[..points.npins]);
     Deck {
         points,
-        kinds: in_front(&kinds[..points.npins]),
+        kinds,
         ends,
     }
 }
@@ -91,7 +92,7 @@ pub fn form_of(q: Points) -> Formed
     Formed { ok: true, form: w }
 }
 
-// The answer for a deck that is not sound; its working form means nothing.
+// The answer for a deck that is not sound; the deck in it means nothing.
 fn unsound() -> Checked
     ensures { λ r. ⌜ r .ok ≡ Bool.false ⌝ }
 {
@@ -101,7 +102,7 @@ fn unsound() -> Checked
     }
 }
 
-// Check 11: returns whether the deck is that of valid contents, places that are not used included, and then its working form.
+// Check 11: returns whether the deck is that of valid contents, places that are not used included, and then the deck in working form.
 pub fn check(d: Deck) -> Checked
     ensures { λ r. ⌜ Checks (sound d) d r ⌝ }
 {
@@ -109,7 +110,7 @@ pub fn check(d: Deck) -> Checked
     if !f.ok {
         return unsound();
     }
-    if !has_kinds(d, d.points.npins) {
+    if !knows_kinds(d, d.points.npins) {
         return unsound();
     }
     let form = f.form;

@@ -20,7 +20,7 @@ use Rattle.model.proofs.FileSize.{file-size, runs-length}
 use Rattle.model.proofs.Sections.{file-laid}
 use Rattle.model.proofs.FileValid.{file-valid}
 use Rattle.model.proofs.FileRoundTrip.{written-read, full-written-back}
-use Rattle.model.proofs.FileKinds.{sections-few, three-or-four, four-exactly}
+use Rattle.model.proofs.FileKinds.{sections-few, written-count, four-exactly}
 use Rattle.model.proofs.Session.{empty-contents}
 use Rattle.deck.specs.declared.Deck.{Deck}
 use Rattle.deck.specs.declared.Outcome.{Outcome}
@@ -137,4 +137,4 @@ pub written-sections : WrittenSections
 written-sections d l n e =
     let w = wrote d l n e in
     subst⁻¹ (SectionsWritten d) (wrote-file d l n w)
-    (record { four = four-exactly (contentsOf d) (w .sound .valid); otherwise = three-or-four (contentsOf d) (w .sound .valid) })
+    (record { four = four-exactly (contentsOf d) (w .sound .valid); otherwise = written-count (contentsOf d) (w .sound .valid) })

@@ -1,2 +1,2 @@
--- The file of a working form.
+-- The file of a deck in working form.
 pub mod Parts

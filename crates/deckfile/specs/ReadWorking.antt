@@ -1,4 +1,4 @@
--- What the functions of the reader promise of working forms. No demand speaks of these; the contracts and proofs inside do.
+-- What the functions of the reader promise of decks in working form. No demand speaks of these; the contracts and proofs inside do.
 use mathlib.Core.Path.{_≡_}
 use mathlib.Core.List.{List}
 use Prim.Native.Nat.{ℕ}

@@ -1,5 +1,5 @@
 // Deck files (SPEC 7): reading one, and writing one into a buffer. A deck is checked and its tree built once: whoever
-// goes on with a file reads and writes its working form, and `read` and `write` do the same for decks.
+// goes on with a file reads and writes its deck in working form, and `read` and `write` do the same for decks.
 pub mod answer;
 mod reader;
 mod writer;

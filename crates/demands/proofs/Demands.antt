@@ -2,24 +2,22 @@
 use mathlib.Core.Path.{_≡_, refl, sym, ap, _∙_}
 use mathlib.Core.Logic.{_↔_, inl, inr}
 use mathlib.Core.Bool.{false}
-use mathlib.Core.Option.{Option, none, some}
 use mathlib.Core.List.{List, []}
 use Prim.Native.Nat.{ℕ}
 use native.Mathlib.Omega.{arith}
 use Rattle.arrays.proofs.Test.{false-of}
 use Rattle.model.specs.Contents.{Contents}
-use Rattle.model.specs.Round.{RoundAnswer, finished, tap, round}
 use Rattle.model.specs.Call as call
 use Rattle.model.specs.Session as model
 use Rattle.model.specs.Refusal.{FirstFailed}
 use Rattle.model.specs.File.{Read, deck, refusal as refusing-file, fileChecks, readFile}
-use Rattle.model.proofs.Refusal.{file-refused}
+use Rattle.model.proofs.Refusal.{unless-number, unless-kept, file-refused}
+use Rattle.model.proofs.FileKinds.{shows-kinds-is}
 use Rattle.model.proofs.FileAnswer.{Possible, taken, refused, read-possible}
 use Rattle.arrow.proofs.Claim.{arrow-refused, arrow-answered, arrows}
 use Rattle.deck.specs.declared.Deck.{Deck}
 use Rattle.calls.specs.declared.Reply.the-variants as reply
 use Rattle.deck.specs.Form.{deckOf, contentsOf, Sound, sound}
-use Rattle.calls.specs.Changes.{replyOf}
 use Rattle.deck.specs.Calls.{called}
 use Rattle.deck.proofs.Form.{sound-is}
 use Rattle.deck.proofs.Calls.{called-unsound}
@@ -45,6 +43,7 @@ use Rattle.listing.specs.Whole.{listingRoom}
 use Rattle.listing.proofs.Text.{text-refused, text-deck}
 use Rattle.demands.proofs.Sessions.{after-calls, bounds}
 use Rattle.demands.proofs.KindsFollow.{deck-kinds}
+use Rattle.demands.proofs.Replies.{refused-reply}
 use Rattle.demands.proofs.Method.{passes, calls-model, next-is, reply-is, next-sound, answered, runs-are-tree, round-of, sweeps-of, end-of}
 use Rattle.demands.specs.Demands.{InCase, FileAnswer, Demand1, Demand2, StartDeck, fresh, file, Demand3}
 
@@ -52,27 +51,16 @@ unsound : (d : Deck) → ¬ Sound d → sound d ≡ false
 unsound d n = false-of (sound d) (λ t. n (sound-is d .0 t))
 
 -- A call that is refused, in its case.
-refused-unless : (o : Option ℕ) (c : Contents) (f : Unit {0} → Contents) (n : ℕ) → replyOf (call.unless o c f .reply) ≡ reply.Refused n
-    → (call.unless o c f .next ≡ c) × (o ≡ some n)
-unfolding replyOf
-refused-unless none c f n e = let z : _≡_ {A = ℕ} 0 1 = cc in absurd (omega arith)
-refused-unless (some k) c f n e = let q : k ≡ n = cc in (refl, ap some q)
-
-never-refused : (a : RoundAnswer) (n : ℕ) → ¬ (replyOf (call.answered a) ≡ reply.Refused n)
-unfolding replyOf
-never-refused finished n e = let z : _≡_ {A = ℕ} 0 1 = cc in omega arith
-never-refused (tap p fall) n e = let z : _≡_ {A = ℕ} 0 1 = cc in omega arith
-
-refused-case : (c : Contents) (k : call.Call) (n : ℕ) → replyOf (call.step c k .reply) ≡ reply.Refused n → (call.step c k .next ≡ c) × InCase c k n
-unfolding call.step replyOf
-refused-case c (call.add p k) n e = refused-unless (call.insertRefusal p k (c .state)) c _ n e
-refused-case c (call.withdraw p) n e = refused-unless (call.removeRefusal p (c .state)) c _ n e
-refused-case c call.oneRound n e = absurd (never-refused (round (c .state) .answer) n e)
+refused-case : (c : Contents) (k : call.Call) (n : ℕ) → call.step c k .reply ≡ call.refused n → (call.step c k .next ≡ c) × InCase c k n
+unfolding call.step
+refused-case c (call.add p k) n e = let o = call.insertRefusal p k (c .state) in (unless-kept o c _ n e, unless-number o c _ n .0 e)
+refused-case c (call.withdraw p) n e = let o = call.removeRefusal p (c .state) in (unless-kept o c _ n e, unless-number o c _ n .0 e)
+refused-case c call.oneRound n e = let z : _≡_ {A = ℕ} 0 1 = cc in absurd (omega arith)
 refused-case c call.runToEnd n e = let z : _≡_ {A = ℕ} 0 1 = cc in absurd (omega arith)
 
 refused-call : (d : Deck) (s : Sound d) (c : call.Call) (n : ℕ) → called d c .reply ≡ reply.Refused n → (called d c .next ≡ d) × InCase (contentsOf d) c n
 refused-call d s c n e =
-    let r = refused-case (contentsOf d) c n (sym (reply-is d s c) ∙ e) in
+    let r = refused-case (contentsOf d) c n (refused-reply (call.step (contentsOf d) c .reply) n (sym (reply-is d s c) ∙ e)) in
     (next-is d s c ∙ ap deckOf (r .0) ∙ sym (s .same), r .1)
 
 file-answer : (b : List ℕ) → FileAnswer (reading b)
@@ -100,6 +88,7 @@ demand1 =
     record {
       file = file-answer;
       fileRefused = refused-exactly;
+      fileKinds = shows-kinds-is;
       unsoundCall = λ d c n. sym (called-unsound d c (unsound d n));
       unsoundQuestion = λ d q n. sym (asked-unsound d q (unsound d n));
       unsoundWriting = λ d l n. let w = write-unsound d l (unsound d n) in (sym (w .0), sym (w .1));

@@ -1,39 +1,21 @@
 -- The kinds of a deck's pins follow them, from the claim on contents: a call on a sound deck is the call on its contents.
-use mathlib.Core.Path.{_≡_, refl, sym, ap, _∙_, subst}
+use mathlib.Core.Path.{_≡_, sym, ap, _∙_, subst}
 use mathlib.Core.List.{List·Memᴰ}
 use Prim.Native.Nat.{ℕ, _≤_}
 use native.Mathlib.Omega.{arith}
 use Rattle.arrays.proofs.Beside.{beside-one}
 use Rattle.plane.specs.Point.{Point, lower}
-use Rattle.model.specs.Round.{finished, tap}
 use Rattle.model.specs.Contents.{Contents, kindAt}
 use Rattle.model.specs.Call as call
 use Rattle.model.specs.KindsFollow.{SamePins, KindsFollow}
 use Rattle.model.proofs.KindsFollow.{kinds-follow}
 use Rattle.calls.specs.declared.Reply.the-variants as reply
-use Rattle.calls.specs.Changes.{replyOf}
 use Rattle.deck.specs.declared.Deck.{Deck}
 use Rattle.deck.specs.Form.{contentsOf, stateOf, Sound}
 use Rattle.deck.specs.Calls.{called}
 use Rattle.demands.specs.KindsFollow.{kindIn, SameDevices, DeckKinds}
+use Rattle.demands.proofs.Replies.{done-reply, refused-reply}
 use Rattle.demands.proofs.Method.{reply-is, next-contents}
-
--- The replies of the model, by those of the program.
-done-reply : (r : call.Reply) → replyOf r ≡ reply.Done → r ≡ call.done
-unfolding replyOf
-done-reply call.done e = refl
-done-reply (call.refused n) e = let z : _≡_ {A = ℕ} 0 1 = cc in absurd (omega arith)
-done-reply (call.answered finished) e = let z : _≡_ {A = ℕ} 0 1 = cc in absurd (omega arith)
-done-reply (call.answered (tap p fall)) e = let z : _≡_ {A = ℕ} 0 1 = cc in absurd (omega arith)
-done-reply (call.rounds n) e = let z : _≡_ {A = ℕ} 0 1 = cc in absurd (omega arith)
-
-refused-reply : (r : call.Reply) (n : ℕ) → replyOf r ≡ reply.Refused n → r ≡ call.refused n
-unfolding replyOf
-refused-reply call.done n e = let z : _≡_ {A = ℕ} 0 1 = cc in absurd (omega arith)
-refused-reply (call.refused m) n e = let q : m ≡ n = cc in ap call.refused q
-refused-reply (call.answered finished) n e = let z : _≡_ {A = ℕ} 0 1 = cc in absurd (omega arith)
-refused-reply (call.answered (tap p fall)) n e = let z : _≡_ {A = ℕ} 0 1 = cc in absurd (omega arith)
-refused-reply (call.rounds m) n e = let z : _≡_ {A = ℕ} 0 1 = cc in absurd (omega arith)
 
 module _ (d : Deck) (s : Sound d) where
   follows : KindsFollow (contentsOf d)

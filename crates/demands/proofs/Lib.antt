@@ -1,5 +1,6 @@
 pub mod Demands
 pub mod KindsFollow
 pub mod Method
+mod Replies
 pub mod Sessions
 pub mod ThreePins

@@ -28,10 +28,12 @@ use Rattle.model.proofs.Prune.{points-rise}
 use Rattle.model.proofs.Choice.{Choice, none-saves, some-chosen, best-choice}
 use Rattle.model.proofs.Sweep.{prune-swept}
 use Rattle.model.proofs.Round.{with-placed, round-falls}
+use Rattle.model.proofs.Refusal.{unless-next}
 use Rattle.model.proofs.Step.{step-valid}
 use Rattle.calls.specs.declared.Reply.{Reply}
 use Rattle.calls.specs.declared.Reply.the-variants as reply
 use Rattle.calls.specs.Changes.{replyOf}
+use Rattle.demands.proofs.Replies.{done-reply}
 use Rattle.questions.specs.declared.Answer.the-variants.{Length}
 use Rattle.questions.specs.Answers.{Question, ofLength, ofEdge, answerTo}
 use Rattle.deck.specs.declared.Deck.{Deck}
@@ -187,10 +189,8 @@ module _ (d : Deck) (s : Sound d) where
       }
 
 -- A pin that joins or leaves.
-done-unless : (o : Option ℕ) (c : Contents) (f : Unit {0} → Contents) → replyOf (call.unless o c f .reply) ≡ reply.Done → call.unless o c f .next ≡ f tt
-unfolding replyOf
-done-unless none c f e = refl
-done-unless (some n) c f e = absurd (let z : _≡_ {A = ℕ} 0 1 = cc in omega arith)
+done-next : (o : Option ℕ) (c : Contents) (f : Unit {0} → Contents) → replyOf (call.unless o c f .reply) ≡ reply.Done → call.unless o c f .next ≡ f tt
+done-next o c f e = unless-next o c f (done-reply (call.unless o c f .reply) e)
 
 pub sweeps-of : (d : Deck) → Sound d → SweepsOf d
 unfolding call.step insert remove
@@ -199,10 +199,10 @@ sweeps-of d s =
     let rise : Sorted Lower (stateOf d .steiner) = s .valid .state .placed .steinerRise in
     record {
       added = λ p k e.
-          let n = next-contents d s (call.add p k) ∙ done-unless (call.insertRefusal p k st) (contentsOf d) _ (sym (reply-is d s (call.add p k)) ∙ e) in
+          let n = next-contents d s (call.add p k) ∙ done-next (call.insertRefusal p k st) (contentsOf d) _ (sym (reply-is d s (call.add p k)) ∙ e) in
           subst⁻¹ (λ (c : Contents). SweptTo (withPin p st) (c .state)) n (prune-swept (withPin p st) (out-sorted lower lower-order p (st .steiner) rise));
       withdrawn = λ p e.
-          let n = next-contents d s (call.withdraw p) ∙ done-unless (call.removeRefusal p st) (contentsOf d) _ (sym (reply-is d s (call.withdraw p)) ∙ e) in
+          let n = next-contents d s (call.withdraw p) ∙ done-next (call.removeRefusal p st) (contentsOf d) _ (sym (reply-is d s (call.withdraw p)) ∙ e) in
           subst⁻¹ (λ (c : Contents). SweptTo (withoutPin p st) (c .state)) n (prune-swept (withoutPin p st) rise);
     }
 

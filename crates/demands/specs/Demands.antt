@@ -7,6 +7,7 @@ use mathlib.Core.Logic.{_⊎_, _↔_}
 use mathlib.Core.Option.{some}
 use mathlib.Core.List.{List, _++_, List·Memᴰ}
 use Prim.Native.Nat.{ℕ, _-_, _≤_, _<_}
+use lib.Dec.{T}
 use lib.IntN.{ℤ}
 use lib.ListN.{length, drop}
 use Rattle.plane.specs.Point.{Point}
@@ -15,7 +16,7 @@ use Rattle.model.specs.State.{points}
 use Rattle.model.specs.Contents.{Contents, emptyContents, ValidContents}
 use Rattle.model.specs.Call as call
 use Rattle.model.specs.Listing.{listing, refusedLine, listingOfFile}
-use Rattle.model.specs.File.{deck, refusal, FileNumber, fileChecks, readFile, fileOf}
+use Rattle.model.specs.File.{deck, refusal, FileNumber, showsKinds, ShowsKinds, fileChecks, readFile, fileOf}
 use Rattle.model.specs.Refusal.{FirstFailed}
 use Rattle.arrow.specs.declared.Indication.the-variants as indication
 use Rattle.arrow.specs.Arrow.{arrowChecks, arrow}
@@ -66,6 +67,7 @@ pub record Demand1 : Type 0 where
   -- any bytes, and each number exactly if its test is the first that fails
   pub file : (b : List ℕ) → FileAnswer (reading b)
   pub fileRefused : (b : List ℕ) (n : ℕ) → (reading b .reply ≡ reply.Refused n) ↔ FirstFailed n (fileChecks b)
+  pub fileKinds : (b : List ℕ) → T (showsKinds b) ↔ ShowsKinds b
   -- any deck that is not sound: 11 before all else, and the deck or the buffer as it was
   pub unsoundCall : (d : Deck) (c : call.Call) → ¬ Sound d → called d c ≡ refusedOutcome d 11
   pub unsoundQuestion : (d : Deck) (q : Question) → ¬ Sound d → asked d q ≡ question.Refused 11

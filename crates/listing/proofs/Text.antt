@@ -1,4 +1,4 @@
--- The text of a deck by whether it is sound, and the listing of a working form from its three parts.
+-- The text of a deck by whether it is sound, and the listing of a deck in working form from its three parts.
 use mathlib.Core.Path.{_≡_, refl, sym, ap}
 use mathlib.Core.Bool.{Bool, true, false}
 use mathlib.Core.List.{List, _++_}

@@ -37,6 +37,13 @@ sensors-are (k ∷ l) t =
 pub sensors-pass : (n : ℕ) → T (sensorsOnly (replicate n sensor))
 sensors-pass n = all-in (λ (k : ℕ). leb k sensor) (replicate n sensor) .1 (λ k i. le→leb k sensor (omega (arith, sensors-in n k i)))
 
+-- Kinds, as a test and one by one.
+pub kinds-known : (kinds : List ℕ) → T (all isKind kinds) ↔ ((k : ℕ) → List·Memᴰ k kinds → k ≤ largestKind)
+kinds-known kinds = (
+  λ t k i. leb→le k largestKind (all-in isKind kinds .0 t k i),
+  λ f. all-in isKind kinds .1 (λ k i. le→leb k largestKind (f k i)),
+)
+
 -- Valid contents, by the makers of contents.
 pub of-state-valid : {s : State} → Valid s → ValidContents (ofState s)
 of-state-valid {s} v =
@@ -66,17 +73,11 @@ valid-contents-is c = (
   λ v. parts .1 (v .state, (v .kindCount, v .known)),
 )
   where
-    known : T (all isKind (c .kinds)) ↔ ((k : ℕ) → List·Memᴰ k (c .kinds) → k ≤ largestKind)
-    known = (
-      λ t k i. leb→le k largestKind (all-in isKind (c .kinds) .0 t k i),
-      λ f. all-in isKind (c .kinds) .1 (λ k i. le→leb k largestKind (f k i)),
-    )
-
     parts : T (validContents c)
         ↔ (Valid (c .state) × ((length (c .kinds) ≡ length (c .state .pins)) × ((k : ℕ) → List·Memᴰ k (c .kinds) → k ≤ largestKind)))
     parts =
         both-is (valid (c .state)) _ (valid-is (c .state))
-        (both-is (eqb (length (c .kinds)) (length (c .state .pins))) _ (eqb→eq (length (c .kinds)) (length (c .state .pins)), eq→eqb) known)
+        (both-is (eqb (length (c .kinds)) (length (c .state .pins))) _ (eqb→eq (length (c .kinds)) (length (c .state .pins)), eq→eqb) (kinds-known (c .kinds)))
 
 -- The kinds of valid contents, one pin after the other.
 pub kinds-are : (c : Contents) → ValidContents c → map (kindAt c) (c .state .pins) ≡ c .kinds
@@ -89,18 +90,21 @@ unfolding all
 by-first k l rest true e n = let r = rest (λ u. n (and-both (leb k sensor) (sensorsOnly l) (of-true e) u)) in (r .0, tail (r .1), r .2)
 by-first k l rest false e n = (k, head refl, λ z. subst T e (le→leb k sensor (omega (arith, z))))
 
-other : (l : List ℕ) → ¬ T (sensorsOnly l) → (k : ℕ) × List·Memᴰ k l × ¬ (k ≡ sensor)
+pub some-other : (l : List ℕ) → ¬ T (sensorsOnly l) → (k : ℕ) × List·Memᴰ k l × ¬ (k ≡ sensor)
 unfolding all
-other [] n = absurd (n tt)
-other (k ∷ l) n = by-first k l (other l) (leb k sensor) refl n
+some-other [] n = absurd (n tt)
+some-other (k ∷ l) n = by-first k l (some-other l) (leb k sensor) refl n
+
+pub not-sensors : (l : List ℕ) (k : ℕ) → List·Memᴰ k l → ¬ (k ≡ sensor) → ¬ T (sensorsOnly l)
+not-sensors l k i n t = n (omega (arith, leb→le k sensor (all-in (λ (j : ℕ). leb j sensor) l .0 t k i)))
 
 -- They are not those of sensors alone exactly if some pin is no sensor.
 pub some-device : (c : Contents) → ValidContents c → (¬ T (sensorsOnly (c .kinds))) ↔ ((p : Point) × List·Memᴰ p (c .state .pins) × ¬ (kindAt c p ≡ sensor))
 some-device c v = (
-  λ n. let d = other (c .kinds) n in
+  λ n. let d = some-other (c .kinds) n in
       let from = map-in (kindAt c) (c .state .pins) (d .0) .0 (subst⁻¹ (λ (l : List ℕ). List·Memᴰ (d .0) l) (kinds-are c v) (d .1)) in
       (from .0, from .1, λ e. d .2 (subst⁻¹ (λ (z : ℕ). z ≡ sensor) (from .2) e)),
   λ h t. let k = kindAt c (h .0) in
       let held = subst (λ (l : List ℕ). List·Memᴰ k l) (kinds-are c v) (map-in (kindAt c) (c .state .pins) k .1 (h .0, h .1, refl)) in
-      h .2 (omega (arith, leb→le k sensor (all-in (λ (j : ℕ). leb j sensor) (c .kinds) .0 t k held))),
+      not-sensors (c .kinds) k held (h .2) t,
 )

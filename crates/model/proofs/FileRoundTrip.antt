@@ -1,11 +1,10 @@
 -- Written out and read in is the same deck; a full file read in and written out is the same file. The file of valid contents is accepted, since
 -- its sections are read back (Sections); an accepted file is made of its sections, which are those of its contents.
 use mathlib.Core.Path.{_≡_, refl, sym, ap, _∙_, subst⁻¹}
-use mathlib.Core.Logic.{_⊎_, inl, inr, ⊎-elim}
+use mathlib.Core.Logic.{_⊎_, inr, ⊎-elim}
 use mathlib.Core.Bool.{not}
 use mathlib.Core.List.{List, [], _∷_, List·Memᴰ}
 use Prim.Native.Nat.{ℕ, _%_, _≤_, _<_}
-use native.Mathlib.Decide.{decLe}
 use native.Mathlib.Omega.{arith}
 use lib.Dec.{T, T-not, eqb, eqb→eq}
 use lib.Ieee.Fits.{eq→eqb}
@@ -27,7 +26,7 @@ use Rattle.arrays.proofs.same.Alike.{same-refl, same-eq}
 use Rattle.model.proofs.Sections.{laid-out-is, follow-within, section-within, Laid, file-laid, shows-follow, part-bytes, part-length}
 use Rattle.model.proofs.Sections.{sectionsFrom, file-made}
 use Rattle.model.proofs.FileValid.{Headed, headed-is, Accepted, accepted, accept, file-valid}
-use Rattle.model.proofs.FileKinds.{sections-few, kinds-laid, three-made, four-made}
+use Rattle.model.proofs.FileKinds.{sections-few, three-or-four, kinds-laid, three-made, four-made}
 
 -- A file of the sections of valid contents shows them.
 laid-accepted : (b : List ℕ) (c : Contents) → ValidContents c → 30 ≤ length b → length b ≤ 856 → Laid b (sectionsOf c) → Accepted b c
@@ -105,13 +104,6 @@ parted b c a =
       whole₀ = eqb→eq (size b 0 % 4) 0 (w₁ .0);
       whole₁ = eqb→eq (size b 1 % 4) 0 (w₂ .0);
     }
-
-three-or-four : (n : ℕ) → 3 ≤ n → n ≤ 4 → (n ≡ 3) ⊎ (n ≡ 4)
-three-or-four n l m = go (decLe n 3)
-  where
-    go : Dec (n ≤ 3) → (n ≡ 3) ⊎ (n ≡ 4)
-    go (yes h) = inl (omega arith)
-    go (no h) = inr (omega arith)
 
 -- A full file that is read is written back byte for byte; so is a file of 0 or 1 pin, which is of both kinds.
 pub full-written-back : (b : List ℕ) (c : Contents) → ((x : ℕ) → List·Memᴰ x b → x < 256) → readFile b ≡ deck c

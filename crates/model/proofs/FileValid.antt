@@ -11,10 +11,9 @@ use lib.ListN.{length, take, drop}
 use Rattle.arrays.specs.Set.{all}
 use Rattle.arrays.specs.Test.{if}
 use Rattle.arrays.proofs.Test.{and-parts, and-both}
-use Rattle.arrays.proofs.Set.{all-in}
 use Rattle.model.specs.Refusal.{Pass}
 use Rattle.model.specs.State.{maxPins, Placed, Valid, placed, valid}
-use Rattle.model.specs.DeviceKinds.{largestKind, isKind, sensors}
+use Rattle.model.specs.DeviceKinds.{isKind, sensors}
 use Rattle.model.specs.Contents.{Contents, withKinds, ValidContents}
 use Rattle.arrays.specs.Same.{sameList}
 use Rattle.arrays.proofs.same.Alike.{same-refl, same-eq}
@@ -23,7 +22,7 @@ use Rattle.model.specs.File.{fewestSections, mostSections, shortest, lon
 use Rattle.model.specs.File.{deck, fileChecks, readFile, fileState, fileContents, pointsOf, runSection}
 use Rattle.model.proofs.Refusal.{file-taken}
 use Rattle.model.proofs.Validity.{placed-is, valid-is}
-use Rattle.model.proofs.DeviceKinds.{of-state-valid}
+use Rattle.model.proofs.DeviceKinds.{kinds-known, of-state-valid}
 
 either : (a b : Bool) → T (a || b) → T a ⊎ T b
 either true b t = inl tt
@@ -138,7 +137,7 @@ kinds-valid b v t = go (hasKinds b) t
         record {
           state = v;
           kindCount = eqb→eq (length kinds) (length (fileState b .pins)) (p .0);
-          known = λ k i. leb→le k largestKind (all-in isKind kinds .0 (q .0) k i);
+          known = kinds-known kinds .0 (q .0);
         }
     go false t = of-state-valid v
 

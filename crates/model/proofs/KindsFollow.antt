@@ -2,7 +2,6 @@
 -- else the kind given (`following`). Rounds leave pins and kinds.
 use mathlib.Core.Path.{_≡_, refl, ap, _∙_, subst, subst⁻¹}
 use mathlib.Core.Logic.{inl, inr}
-use mathlib.Core.Option.{Option, none, some}
 use mathlib.Core.List.{List, List·Memᴰ}
 use Prim.Native.Nat.{ℕ}
 use native.Mathlib.Omega.{arith}
@@ -16,20 +15,12 @@ use Rattle.model.specs.State.{State, withPin, withoutPin, insert, remove
 use Rattle.model.specs.DeviceKinds.{sensor}
 use Rattle.model.specs.Contents.{Contents, kindOr, kindAt, keeping, following, ValidContents}
 use Rattle.model.specs.Call.{Call, add, withdraw, oneRound, runToEnd, done, refused}
-use Rattle.model.specs.Call.{insertRefusal, removeRefusal, unless, step}
+use Rattle.model.specs.Call.{insertRefusal, removeRefusal, step}
 use Rattle.model.specs.KindsFollow.{SamePins, KindsFollow}
 use Rattle.model.proofs.Prune.{prune-leaves}
+use Rattle.model.proofs.Refusal.{unless-done, unless-next, unless-kept}
 use Rattle.model.proofs.Round.{round-pins, finish-rounds, rounds-pins}
 use Rattle.model.proofs.Step.{Allowed, insert-allowed, with-pin-placed}
-
--- A call that is done passed its checks and leads to the contents that follow; one that is refused keeps them.
-unless-done : (o : Option ℕ) (c : Contents) (f : Unit {0} → Contents) → unless o c f .reply ≡ done → (o ≡ none) × (unless o c f .next ≡ f tt)
-unless-done none c f e = (refl, refl)
-unless-done (some n) c f e = let z : _≡_ {A = ℕ} 0 1 = cc in absurd (omega arith)
-
-unless-kept : (o : Option ℕ) (c : Contents) (f : Unit {0} → Contents) (n : ℕ) → unless o c f .reply ≡ refused n → unless o c f .next ≡ c
-unless-kept none c f n e = let z : _≡_ {A = ℕ} 0 1 = cc in absurd (omega arith)
-unless-kept (some m) c f n e = refl
 
 module _ (c : Contents) (v : ValidContents c) where
   abbrev s : State
@@ -43,12 +34,13 @@ module _ (c : Contents) (v : ValidContents c) where
   own k q i = beside-member lower lower-order k sensor q (s .pins) (c .kinds) (v .kindCount) i
 
   module _ (p : Point) (k : ℕ) (e : step c (add p k) .reply ≡ done) where
-    add-by : (insertRefusal p k s ≡ none) × (step c (add p k) .next ≡ following k c (insert p s))
+    next-is : step c (add p k) .next ≡ following k c (insert p s)
     unfolding step
-    add-by = unless-done (insertRefusal p k s) c (λ _. following k c (insert p s)) e
+    next-is = unless-next (insertRefusal p k s) c (λ _. following k c (insert p s)) e
 
     allowed : Allowed p k s
-    allowed = insert-allowed p k s (add-by .0)
+    unfolding step
+    allowed = insert-allowed p k s (unless-done (insertRefusal p k s) c (λ _. following k c (insert p s)) .0 e)
 
     pins-after : insert p s .pins ≡ put lower p (s .pins)
     unfolding insert
@@ -59,7 +51,7 @@ module _ (c : Contents) (v : ValidContents c) where
     -- The kind at a pin that is there after the call.
     at : (q : Point) → List·Memᴰ q (put lower p (s .pins)) → kindAt (step c (add p k) .next) q ≡ kindOr k c q
     at q i =
-        ap (λ (d : Contents). kindAt d q) (add-by .1)
+        ap (λ (d : Contents). kindAt d q) next-is
         ∙ looked-up k (insert p s) q (subst⁻¹ (λ (l : List Point). List·Memᴰ q l) pins-after i)
 
     added-kind : kindAt (step c (add p k) .next) p ≡ k
@@ -71,9 +63,9 @@ module _ (c : Contents) (v : ValidContents c) where
     other-kind q i = at q (put-in lower lower-order p q (s .pins) .1 (inr i)) ∙ own k q i
 
   module _ (p : Point) (e : step c (withdraw p) .reply ≡ done) where
-    withdraw-by : (removeRefusal p s ≡ none) × (step c (withdraw p) .next ≡ following sensor c (remove p s))
+    left-is : step c (withdraw p) .next ≡ following sensor c (remove p s)
     unfolding step
-    withdraw-by = unless-done (removeRefusal p s) c (λ _. following sensor c (remove p s)) e
+    left-is = unless-next (removeRefusal p s) c (λ _. following sensor c (remove p s)) e
 
     pins-left : remove p s .pins ≡ out lower p (s .pins)
     unfolding remove
@@ -83,9 +75,9 @@ module _ (c : Contents) (v : ValidContents c) where
 
     left-kind : (q : Point) → List·Memᴰ q (step c (withdraw p) .next .state .pins) → kindAt (step c (withdraw p) .next) q ≡ kindAt c q
     left-kind q i =
-        let j = subst (λ (d : Contents). List·Memᴰ q (d .state .pins)) (withdraw-by .1) i in
+        let j = subst (λ (d : Contents). List·Memᴰ q (d .state .pins)) left-is i in
         let held = out-in lower lower-order p q (s .pins) .0 (subst (λ (l : List Point). List·Memᴰ q l) pins-left j) .0 in
-        ap (λ (d : Contents). kindAt d q) (withdraw-by .1) ∙ looked-up sensor (remove p s) q j ∙ own sensor q held
+        ap (λ (d : Contents). kindAt d q) left-is ∙ looked-up sensor (remove p s) q j ∙ own sensor q held
 
   -- Contents with another state of the same pins.
   same-pins : (r : State) → r .pins ≡ s .pins → SamePins c (keeping c r)

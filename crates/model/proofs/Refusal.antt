@@ -101,15 +101,24 @@ file-taken b c = (
 )
 
 -- A call is refused by n exactly if n's check is the first that fails, and done exactly if all pass.
-unless-number : (o : Option ℕ) (c : Contents) (after : Unit {0} → Contents) (n : ℕ) → (unless o c after .reply ≡ refused n) ↔ (o ≡ some n)
+pub unless-number : (o : Option ℕ) (c : Contents) (after : Unit {0} → Contents) (n : ℕ) → (unless o c after .reply ≡ refused n) ↔ (o ≡ some n)
 unless-number none c after n =
     (λ e. let z : _≡_ {A = ℕ} 0 1 = cc in absurd (omega arith), λ e. let z : _≡_ {A = ℕ} 0 1 = cc in absurd (omega arith))
 unless-number (some m) c after n = (λ e. cc, λ e. cc)
 
-unless-done : (o : Option ℕ) (c : Contents) (after : Unit {0} → Contents) → (unless o c after .reply ≡ done) ↔ (o ≡ none)
+pub unless-done : (o : Option ℕ) (c : Contents) (after : Unit {0} → Contents) → (unless o c after .reply ≡ done) ↔ (o ≡ none)
 unless-done none c after = (λ e. refl, λ e. refl)
 unless-done (some m) c after =
     (λ e. let z : _≡_ {A = ℕ} 0 1 = cc in absurd (omega arith), λ e. let z : _≡_ {A = ℕ} 0 1 = cc in absurd (omega arith))
+
+-- A call that is done leads to the contents that follow, and one that is refused keeps those it was given.
+pub unless-next : (o : Option ℕ) (c : Contents) (after : Unit {0} → Contents) → unless o c after .reply ≡ done → unless o c after .next ≡ after tt
+unless-next none c after e = refl
+unless-next (some m) c after e = let z : _≡_ {A = ℕ} 0 1 = cc in absurd (omega arith)
+
+pub unless-kept : (o : Option ℕ) (c : Contents) (after : Unit {0} → Contents) (n : ℕ) → unless o c after .reply ≡ refused n → unless o c after .next ≡ c
+unless-kept none c after n e = let z : _≡_ {A = ℕ} 0 1 = cc in absurd (omega arith)
+unless-kept (some m) c after n e = refl
 
 module _ (c : Contents) (p : Point) where
   pub add-refused : (k n : ℕ) → (step c (add p k) .reply ≡ refused n) ↔ FirstFailed n (addChecks p k (c .state))

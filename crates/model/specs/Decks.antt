@@ -95,7 +95,7 @@ Filed (octantRow differences numbers) = Unit {0}
 Filed (fileRow b r) = Unit {0}
 Filed (boxRow ps n) = Unit {0}
 
--- An offset and a length, both below 65,536, as eight bytes of a file's header: `pair 30 755` is 30 0 0 0 243 2 0 0.
+-- An offset and a length, both below 65,536, as eight bytes of a file's header: `pair 30 827` is 30 0 0 0 59 3 0 0.
 abbrev pub pair : ℕ → ℕ → List ℕ
 pair at size = at % 256 ∷ at / 256 ∷ 0 ∷ 0 ∷ size % 256 ∷ size / 256 ∷ 0 ∷ 0 ∷ []
 

@@ -4,7 +4,7 @@ use mathlib.Core.Path.{_≡_}
 use mathlib.Core.Logic.{_⊎_}
 use mathlib.Core.Bool.{Bool, true, not, _&&_, _||_}
 use mathlib.Core.Option.{Option, none, some}
-use mathlib.Core.List.{List, [], _∷_, _++_}
+use mathlib.Core.List.{List, [], _∷_, _++_, List·Memᴰ}
 use Prim.Native.Nat.{ℕ, suc, _*_, _%_, _≤_}
 use lib.Dec.{leb, ltb, eqb}
 use lib.ListN.{length, take}
@@ -140,6 +140,13 @@ allKinds kinds n = eqb (length kinds) n && (all isKind kinds && not (sensorsOnly
 
 abbrev pub showsKinds : List ℕ → Bool
 showsKinds b = if (hasKinds b) (λ _. allKinds (section b kindsPlace) (length (fileState b .pins))) (λ _. true)
+
+-- The same by what it asks, apart from the test: no section of kinds, or one with as many kinds as pins, each at most 2, and one of them not 0.
+abbrev pub ShowsKinds : List ℕ → Type 0
+ShowsKinds b =
+    let kinds = section b kindsPlace in
+    (sectionCount b ≤ 3)
+    ⊎ ((length kinds ≡ length (fileState b .pins)) × ((k : ℕ) → List·Memᴰ k kinds → k ≤ 2) × ((k : ℕ) × List·Memᴰ k kinds × ¬ (k ≡ 0)))
 
 -- The checks of a file, in their order (SPEC 8.2); 2 is `laidOut`, 4 and 5 are the number of pins and `placed`.
 abbrev pub fileChecks : List ℕ → List Check

@@ -14,7 +14,7 @@ use Rattle.model.specs.Decks.{DeckRow, TableRow, starting, fromEmpty, tr
 abbrev pub devices : List Point → List ℕ → List Point → Contents
 devices pins kinds taps = withKinds (record { pins = pins; steiner = taps }) kinds
 
--- Pins of three kinds, each put below those before it, so that the kinds have to move up with their pins; then the middle one is withdrawn.
+-- Pins of three kinds, put below others, so that the kinds have to move up with their pins; then one between others is withdrawn.
 unfoldable pub kindsMove : DeckRow
 kindsMove =
     fromEmpty (add (point 9 0) 0 ∷ add (point 5 0) 1 ∷ add (point 0 0) 2 ∷ add (point 2 0) 1 ∷ withdraw (point 5 0) ∷ [])
@@ -126,8 +126,46 @@ noPinInFour =
     (bytes "DECK" ++ (4 ∷ 0 ∷ []) ++ pair 38 0 ++ pair 38 0 ++ pair 38 0 ++ pair 38 0)
     (refusal 15)
 
+-- 15 in plain files too: a kind of 3; one kind for two pins, and three; sensors only.
+unfoldable pub plainKindAbove : TableRow
+plainKindAbove =
+    fileRow
+    (bytes "DECK" ++ (4 ∷ 0 ∷ []) ++ pair 38 8 ++ pair 46 0 ++ pair 46 0 ++ pair 46 2
+    ++ (0 ∷ 0 ∷ 0 ∷ 0 ∷ 0 ∷ 0 ∷ 1 ∷ 0 ∷ []) ++ (1 ∷ 3 ∷ []))
+    (refusal 15)
+
+unfoldable pub plainKindTooFew : TableRow
+plainKindTooFew =
+    fileRow
+    (bytes "DECK" ++ (4 ∷ 0 ∷ []) ++ pair 38 8 ++ pair 46 0 ++ pair 46 0 ++ pair 46 1
+    ++ (0 ∷ 0 ∷ 0 ∷ 0 ∷ 0 ∷ 0 ∷ 1 ∷ 0 ∷ []) ++ (1 ∷ []))
+    (refusal 15)
+
+unfoldable pub plainKindTooMany : TableRow
+plainKindTooMany =
+    fileRow
+    (bytes "DECK" ++ (4 ∷ 0 ∷ []) ++ pair 38 8 ++ pair 46 0 ++ pair 46 0 ++ pair 46 3
+    ++ (0 ∷ 0 ∷ 0 ∷ 0 ∷ 0 ∷ 0 ∷ 1 ∷ 0 ∷ []) ++ (1 ∷ 0 ∷ 0 ∷ []))
+    (refusal 15)
+
+unfoldable pub plainSensorsInFour : TableRow
+plainSensorsInFour =
+    fileRow
+    (bytes "DECK" ++ (4 ∷ 0 ∷ []) ++ pair 38 8 ++ pair 46 0 ++ pair 46 0 ++ pair 46 2
+    ++ (0 ∷ 0 ∷ 0 ∷ 0 ∷ 0 ∷ 0 ∷ 1 ∷ 0 ∷ []) ++ (0 ∷ 0 ∷ []))
+    (refusal 15)
+
+-- 1: 857 bytes of four sections, of which 819 are kinds.
+unfoldable pub tooLongOfFour : TableRow
+tooLongOfFour =
+    fileRow
+    (bytes "DECK" ++ (4 ∷ 0 ∷ []) ++ pair 38 0 ++ pair 38 0 ++ pair 38 0 ++ pair 38 819
+    ++ replicate 819 1)
+    (refusal 1)
+
 -- The rows.
 unfoldable pub kindTable : List TableRow
 kindTable =
     deckRow kindsMove ∷ deckRow tapBecomesDisplay ∷ deckRow kindRefusals ∷ kindsFile ∷ plainKindsFile ∷ pairMissing ∷ startsEarly
-    ∷ manyTaps ∷ runTurnedBesideKind ∷ kindAbove ∷ kindTooFew ∷ kindTooMany ∷ sensorsInFour ∷ noPinInFour ∷ []
+    ∷ manyTaps ∷ runTurnedBesideKind ∷ kindAbove ∷ kindTooFew ∷ kindTooMany ∷ sensorsInFour ∷ noPinInFour
+    ∷ plainKindAbove ∷ plainKindTooFew ∷ plainKindTooMany ∷ plainSensorsInFour ∷ tooLongOfFour ∷ []

@@ -14,7 +14,7 @@ pub struct WorkingDeck {
     pub kinds: [u8; MAX_PINS],
 }
 
-// Returns the working form of an empty deck.
+// Returns an empty deck in working form.
 pub fn empty() -> WorkingDeck
     ensures { λ r. ⌜ InOrder (r .form) × (contentsOf r ≡ emptyContents) ⌝ }
 {

@@ -151,6 +151,9 @@ fn the_order_of_the_checks() {
     let few = [(5, 1), (5, 0), (5, 5), (30_001, 0)];
     let many = [(5, 1), (0, 0), (10, 0), (0, -30_001)];
     for (state, places) in [(mixed(cross()), few), (mixed(comb(62)), many)] {
+        let (x, y) = places[2];
+        let tap = Point { x, y };
+        assert!(state.steiner.contains(&tap), "a tap is there");
         let deck = Deck::of(&state);
         for place @ (x, y) in places {
             for kind in [0, 1, 2, u32::MAX].into_iter().chain(NO_KINDS) {

@@ -1,4 +1,4 @@
--- `planner::planner_plan` meets its contract: a refusal of the file, or its working form run to the end and written.
+-- `planner::planner_plan` meets its contract: a refusal of the file, or its deck in working form run to the end and written.
 -- (must-fail/deck_as_read.edit changes a line that names the place `run`.)
 use Rattle.model.specs.Call.{contentsAfter}
 use Rattle.model.specs.File.{readFile}

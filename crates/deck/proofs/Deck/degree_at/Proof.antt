@@ -1,4 +1,4 @@
--- `deck::Deck::degree_at` meets its contract: the check, then the question on the working form.
+-- `deck::Deck::degree_at` meets its contract: the check, then the question on the deck in working form.
 use Rattle.questions.specs.Answers.{ofDegree}
 use Rattle.deck.proofs.Calls.{ready}
 use Rattle.deck.proofs.Questions.{refused-answer, asked-at}

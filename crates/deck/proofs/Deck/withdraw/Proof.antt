@@ -1,4 +1,4 @@
--- `deck::Deck::withdraw` meets its contract: the check, then the call on the working form.
+-- `deck::Deck::withdraw` meets its contract: the check, then the call on the deck in working form.
 use Rattle.model.specs.Call as call
 use Rattle.deck.proofs.Calls.{ready, refused-by, called-at}
 use borrow.Author.Needs.{needs}

@@ -1,4 +1,4 @@
--- `deck::changes::outcome_of` meets its contract: the deck is that of the working form, the reply that of the call.
+-- `deck::changes::outcome_of` meets its contract: the deck is that of the deck in working form, the reply that of the call.
 use mathlib.Core.Path.{ap}
 use borrow.Author.Needs.{needs}
 use Rattle.deck.specs.declared.Deck.{Deck}

@@ -18,8 +18,8 @@ returns c =
     let at-form = c .before .before .before in
     refused _ _ (c .unsound .ensures) (points-fail _ _ (at-form .form-of .ensures) (not-true _ (c .before .if1 .taken)))
 
-has-kinds-requires : tie.Need-has-kinds-requires
-has-kinds-requires c κs =
+knows-kinds-requires : tie.Need-knows-kinds-requires
+knows-kinds-requires c κs =
     let at-form = c .before .before in
     let forms = at-form .form-of .ensures in
     let passed = not-false _ (c .if1 .left) in
@@ -31,7 +31,7 @@ returns-2 c =
     let at-kinds = c .before .before in
     let at-form = at-kinds .before .before .before in
     refused _ _ (c .unsound2 .ensures)
-    (kinds-fail _ _ (at-form .form-of .ensures) (refuted (at-kinds .has-kinds .ensures) (not-true _ (c .before .if2 .taken))))
+    (kinds-fail _ _ (at-form .form-of .ensures) (refuted (at-kinds .knows-kinds .ensures) (not-true _ (c .before .if2 .taken))))
 
 deck-of-requires : tie.Need-deck-of-requires
 deck-of-requires c κs =
@@ -58,7 +58,7 @@ returns-4 c =
     let at-points-test = at-kinds .before in
     let at-form = at-points-test .before .before in
     rest-pass _ _ (at-form .form-of .ensures) (not-false _ (at-points-test .if1 .left)) (kinds-sized (at-form .before))
-    (of-true (sym (at-kinds .has-kinds .ensures) ∙ not-false _ (at-kinds-test .if2 .left))) _ (at-deck .deck-of .ensures)
+    (of-true (sym (at-kinds .knows-kinds .ensures) ∙ not-false _ (at-kinds-test .if2 .left))) _ (at-deck .deck-of .ensures)
     (of-true (sym (at-rest .same-rest .ensures) ∙ not-false _ (c .if3 .left))) _ refl
 
 pub check-spec : {M : Type 1} → statement M
@@ -68,7 +68,7 @@ check-spec =
     (λ c κs. search needs)
     (λ c κs. search needs)
     returns
-    has-kinds-requires
+    knows-kinds-requires
     (λ c κs. search needs)
     returns-2
     deck-of-requires

@@ -1,11 +1,11 @@
--- `deck::check::has_kinds` meets its contract: there are 64 places.
+-- `deck::check::knows_kinds` meets its contract: there are 64 places.
 use mathlib.Core.Path.{_≡_, sym}
 use native.Mathlib.Omega.{arith}
 use lib.ListN.{length}
 use lib.Seq.{length-take-le}
 use borrow.Author.Needs.{needs}
-use Rattle.deck.proofs.check.has_kinds.Statement.{statement}
-use Rattle.deck.proofs.check.has_kinds.Tie as tie
+use Rattle.deck.proofs.check.knows_kinds.Statement.{statement}
+use Rattle.deck.proofs.check.knows_kinds.Tie as tie
 
 kinds-sized : (entry : tie.Start) → length (entry .args .d .kinds) ≡ 64
 kinds-sized entry = search needs
@@ -18,6 +18,6 @@ slice-aggregate-all-within c =
     let entry = c .before .before in
     sym (length-take-le _ _ (omega (arith, kinds-sized entry, entry .pre)))
 
-pub has-kinds-spec : {M : Type 1} → statement M
-has-kinds-spec =
+pub knows-kinds-spec : {M : Type 1} → statement M
+knows-kinds-spec =
     tie.close (tie.spec array-share-prefix-kinds slice-aggregate-all-within (λ c κs. search needs) (λ c. search needs))
