@@ -75,6 +75,9 @@ fn one_byte_changed() {
     assert!(seen.plain > 1_000 && seen.full > 1_000);
     // One byte cannot move the end of a section and the start of the next.
     seen.refused.are_exactly(&[1, 2, 5, 6, 15, NO_ROOM], 3_000);
+    for number in [1, 2, 5, 6, NO_ROOM] {
+        assert!(seen.refused.by(number) >= 5_000, "{number}");
+    }
     assert!(seen.with_kinds > 500);
 }
 

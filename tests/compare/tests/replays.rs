@@ -74,7 +74,7 @@ fn short_lists() {
     assert!(replies.taps > 1_000 && replies.finished > 1_000);
     assert!(replies.runs > 500 && replies.runs_that_add > 100);
     // No deck of so few calls has 64 pins.
-    replies.refused.are_exactly(&[7, 8, 9, 15], 800);
+    replies.refused.are_exactly(&[7, 8, 9, 15], 1_000);
     assert!(seen.with_kinds > 2_000 && seen.given - seen.with_kinds > 2_000);
 }
 

@@ -42,7 +42,7 @@ fn short_sessions() {
     assert!(seen.questions > 750_000);
     assert!(seen.done > 75_000);
     // No deck of so few calls has 64 pins.
-    seen.refused.are_exactly(&[7, 8, 9, 15], 5_000);
+    seen.refused.are_exactly(&[7, 8, 9, 15], 6_000);
     assert!(seen.with_devices > 100_000 && seen.calls - seen.with_devices > 20_000);
     assert!(seen.finished > 7_500);
     assert!(seen.taps > 4_500);
