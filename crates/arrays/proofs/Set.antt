@@ -12,7 +12,7 @@ use Rattle.arrays.specs.Order.{StrictTotal, Sorted}
 use Rattle.arrays.proofs.Members.{sorted-ext}
 use Rattle.arrays.proofs.Order.{tied}
 use Rattle.arrays.proofs.Test.{by-test, and-parts, and-both}
-use Rattle.arrays.specs.Set.{tie, put, out, has, union, setOf, rising, all}
+use Rattle.arrays.specs.Set.{tie, put, out, has, union, setOf, rising, all, passing}
 
 pub all-in : {A : Type 0} (f : A → Bool) (l : List A) → T (all f l) ↔ ((a : A) → List·Memᴰ a l → T (f a))
 unfolding all
@@ -21,6 +21,22 @@ all-in f (b ∷ l) = (
   λ t a i. ⊎-elim (λ e. subst (λ z. T (f z)) (sym e) (and-parts (f b) (all f l) t .0)) (λ j. all-in f l .0 (and-parts (f b) (all f l) t .1) a j) (cases i),
   λ g. and-both (f b) (all f l) (g b (head refl)) (all-in f l .1 (λ a i. g a (tail i))),
 )
+
+pub passing-in : {A : Type 0} (f : A → Bool) (l : List A) (a : A) → List·Memᴰ a (passing f l) ↔ (List·Memᴰ a l × T (f a))
+unfolding passing
+passing-in f [] a = (λ i. absurd (not-nil i), λ p. absurd (not-nil (p .0)))
+passing-in {A} f (b ∷ l) a =
+    let rest = passing-in f l a in
+    let behind : List·Memᴰ a (passing f l) → List·Memᴰ a (b ∷ l) × T (f a) = λ i. (tail (rest .0 i .0), rest .0 i .1) in
+    by-test (λ (m : List A). List·Memᴰ a m ↔ (List·Memᴰ a (b ∷ l) × T (f a))) (f b) _ _
+    (λ t. (
+      λ i. ⊎-elim (λ e. (head e, subst (λ z. T (f z)) (sym e) t)) behind (cases i),
+      λ p. ⊎-elim head (λ j. tail (rest .1 (j, p .1))) (cases (p .0)),
+    ))
+    (λ n. (
+      behind,
+      λ p. ⊎-elim (λ e. absurd (T-not (f b) n (subst (λ z. T (f z)) e (p .1)))) (λ j. rest .1 (j, p .1)) (cases (p .0)),
+    ))
 
 -- Two sorted lists, each member of the one before each of the other, are sorted end to end.
 pub sorted-append : {A : Type 0} {before : A → A → Type 0} (l m : List A) → Sorted before l → Sorted before m

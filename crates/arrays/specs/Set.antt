@@ -47,3 +47,8 @@ Each Q (a ∷ l) = Q a × Each Q l
 unfoldable pub all : {A : Type 0} → (A → Bool) → List A → Bool
 all f [] = true
 all f (a ∷ l) = f a && all f l
+
+-- The members that pass a test, in the same order.
+unfoldable pub passing : {A : Type 0} → (A → Bool) → List A → List A
+passing f [] = []
+passing f (a ∷ l) = if (f a) (λ _. a ∷ passing f l) (λ _. passing f l)

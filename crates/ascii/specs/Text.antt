@@ -5,7 +5,7 @@ use lib.Dec.{leb}
 use lib.ListN.{length}
 use Rattle.arrays.specs.Test.{if}
 
--- The most digits of a number of 64 bits. Room for a number with a sign, with a space in front, and with both.
+-- The most digits of a number of 64 bits. Room for a number with a sign, with a space in front, and with both; and for three with a space in front.
 abbrev pub mostDigits : ℕ
 mostDigits = 20
 
@@ -17,6 +17,9 @@ fieldRoom = 21
 
 abbrev pub signedFieldRoom : ℕ
 signedFieldRoom = 22
+
+abbrev pub fieldsRoom : ℕ
+fieldsRoom = 63
 
 -- Room for what stands in front of a file in its line: a word and its length.
 abbrev pub fileHeadRoom : ℕ

@@ -9,7 +9,7 @@ ghost use lib.IntN.{natAbs};
 ghost use lib.ListN.{length, drop};
 ghost use Rattle.model.specs.Listing as model;
 ghost use Rattle.arrays.specs.Paste.{Pasted};
-ghost use Rattle.ascii.specs.Text.{mostDigits, signedRoom, fieldRoom, signedFieldRoom};
+ghost use Rattle.ascii.specs.Text.{mostDigits, signedRoom, fieldRoom, signedFieldRoom, fieldsRoom};
 
 // The most digits of a number of 64 bits.
 const DIGITS: usize = 20;
@@ -72,6 +72,17 @@ pub fn decimal_field(out: &mut [u8], at: usize, n: u64) -> usize
 {
     let next = put_byte(out, at, b' ');
     decimal(out, next, n)
+}
+
+// Puts three numbers, each with a space in front. Returns the place behind them.
+pub fn number_fields(out: &mut [u8], at: usize, a: u64, b: u64, c: u64) -> usize
+    requires { ⌜ at + fieldsRoom ≤ length (now out) ⌝ }
+    ensures { λ r. ⌜ Pasted (model.numberFields a b c) (now (out .entry)) (now (out .exit)) at r ⌝ }
+    ensures { λ r. ⌜ r ≤ at + fieldsRoom ⌝ }
+{
+    let second = decimal_field(out, at, a);
+    let third = decimal_field(out, second, b);
+    decimal_field(out, third, c)
 }
 
 // Puts a space and a whole number. Returns the place behind them.

@@ -3,7 +3,7 @@ use super::Deck;
 use super::check::check;
 use questions::Answer;
 ghost use mathlib.Core.Path.{_≡_};
-ghost use Rattle.questions.specs.Answers.{ofLength, ofCounts, ofEdge, ofDegree};
+ghost use Rattle.questions.specs.Answers.{ofLength, ofCounts, ofEdge, ofDegree, ofKinds};
 ghost use Rattle.deck.specs.Form.{sound};
 ghost use Rattle.deck.specs.Questions.{asked};
 
@@ -58,5 +58,16 @@ impl Deck {
             return Answer::Refused(11);
         }
         questions::degree_at(c.working, x, y)
+    }
+
+    // Returns how long the edges of each kind of device are together.
+    pub fn kind_lengths(self) -> Answer
+        ensures { λ r. ⌜ r ≡ asked self ofKinds ⌝ }
+    {
+        let c = check(self);
+        if !c.ok {
+            return Answer::Refused(11);
+        }
+        questions::kind_lengths(c.working)
     }
 }

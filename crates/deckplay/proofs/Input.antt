@@ -11,7 +11,7 @@ use lib.Seq.{take-suc, take-all}
 use Rattle.arrays.specs.Test.{if}
 use Rattle.deck.specs.declared.Deck.{Deck}
 use Rattle.deckplay.specs.declared.lines.Reader.{Reader}
-use Rattle.deckplay.specs.Play.{played}
+use Rattle.answer.specs.Play.{played}
 use Rattle.deckplay.specs.Lines.{Script, more, taken, takenAll, scriptOf, Reads, Takes, TakesAll, linesFrom, playedAll, LinesPlayed}
 
 -- The first i bytes are taken.

@@ -10,7 +10,7 @@ use Rattle.model.specs.Listing.{lineFeed}
 use Rattle.deck.specs.declared.Deck.{Deck}
 use Rattle.deck.specs.Form.{deckOf}
 use Rattle.deckplay.specs.declared.lines.Reader.{Reader}
-use Rattle.deckplay.specs.Play.{played}
+use Rattle.answer.specs.Play.{played}
 
 -- What is known of a script that is being read.
 pub record Script : Type 0 where

@@ -1,6 +1,6 @@
 // The lines of a script, byte by byte, with the deck that the lines so far leave.
-use super::answer::ANSWER_ROOM;
-use super::answer::play;
+use answer::ANSWER_ROOM;
+use answer::play;
 use deck::Deck;
 use script::LINE_LIMIT;
 ghost use Rattle.deckplay.specs.Lines.{Reads, Fresh, Ends, Takes};

@@ -1,5 +1,4 @@
 // Plays a script of calls: on standard input one call a line, on standard output one answer line for each.
-mod answer;
 mod lines;
 
 use lines::Reader;

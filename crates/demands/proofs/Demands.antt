@@ -42,6 +42,7 @@ use Rattle.model.specs.Listing.{listingOfFile}
 use Rattle.listing.specs.Whole.{listingRoom}
 use Rattle.listing.proofs.Text.{text-refused, text-deck}
 use Rattle.demands.proofs.Sessions.{after-calls, bounds}
+use Rattle.demands.proofs.KindLengths.{deck-lengths}
 use Rattle.demands.proofs.KindsFollow.{deck-kinds}
 use Rattle.demands.proofs.Replies.{refused-reply}
 use Rattle.demands.proofs.Method.{passes, calls-model, next-is, reply-is, next-sound, answered, runs-are-tree, round-of, sweeps-of, end-of}
@@ -118,6 +119,7 @@ demand2 =
       writtenSections = written-sections;
       writtenSizes = sound-fits;
       kinds = deck-kinds;
+      lengths = deck-lengths;
       planned = λ b l. entered (readFile b) (read-possible b) toEnd l;
       listed = λ b. record {
         turnedDown = λ n e. sym (text-refused b n e);

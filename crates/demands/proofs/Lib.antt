@@ -1,4 +1,5 @@
 pub mod Demands
+pub mod KindLengths
 pub mod KindsFollow
 pub mod Method
 mod Replies

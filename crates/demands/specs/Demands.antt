@@ -37,6 +37,7 @@ use Rattle.deckfile.specs.RoundTrip.{WrittenRead, FullWrittenBack, PlainWritten
 use Rattle.deckfile.specs.Answer.{Entered}
 use Rattle.demands.specs.Sessions.{AfterCalls, Bounds}
 use Rattle.demands.specs.Method.{RunsAreTree, RoundOf, SweepsOf, EndOf}
+use Rattle.demands.specs.KindLengths.{DeckLengths}
 use Rattle.demands.specs.KindsFollow.{DeckKinds}
 use Rattle.ascii.specs.Text.{fitting}
 use Rattle.listing.specs.Whole.{listingRoom}
@@ -113,6 +114,8 @@ pub record Demand2 : Type 0 where
   pub writtenSizes : SoundFits
   -- the kinds follow their pins (KindsFollow.antt)
   pub kinds : (d : Deck) → Sound d → DeckKinds d
+  -- the cable of each kind (KindLengths.antt)
+  pub lengths : (d : Deck) → Sound d → DeckLengths d
   -- the C entry (SPEC 10.1), for every file and every buffer of any size
   pub planned : (b l : List ℕ) → Entered (readFile b) toEnd l
   -- the listing program, for every list of bytes

@@ -3,12 +3,7 @@ use mathlib.Core.List.{List, [], _∷_, _++_}
 use Prim.Native.Nat.{ℕ}
 use Rattle.plane.specs.Point.{Point}
 use Rattle.plane.specs.Edge.{Edge}
-use Rattle.model.specs.Listing.{deckWord, tapWord, runWord, lineFeed, field, decimal, pointFields}
-
--- The head line by the counts of pins and Steiner points and the length.
-abbrev pub headText : ℕ → ℕ → ℕ → List ℕ
-headText pins taps n =
-    deckWord ++ (field (decimal pins) ++ (field (decimal taps) ++ (field (decimal n) ++ (lineFeed ∷ []))))
+use Rattle.model.specs.Listing.{tapWord, runWord, lineFeed, field, decimal, pointFields}
 
 -- The tap line of a Steiner point.
 abbrev pub tapLine : Point → List ℕ

@@ -8,7 +8,7 @@ use Rattle.deck.specs.Form.{contentsOf, sound}
 
 -- Room for every listing, and for the line of a refusal.
 abbrev pub listingRoom : ℕ
-listingRoom = 8192
+listingRoom = 8704
 
 abbrev pub lineRoom : ℕ
 lineRoom = 128

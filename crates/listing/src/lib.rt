@@ -6,7 +6,9 @@ use arrays::paste::put_bytes;
 use ascii::decimal_field;
 use deck::Deck;
 use deck::check::check;
-use rows::head_line;
+use measures::kind_lengths;
+use measures::measure;
+use rows::numbers_line;
 use rows::run_lines;
 use rows::tap_lines;
 use working::Working;
@@ -22,8 +24,9 @@ ghost use Rattle.working.specs.WorkingDeck.{contentsOf};
 ghost use Rattle.ascii.specs.Text.{fitting};
 ghost use Rattle.listing.specs.Whole.{listingRoom, lineRoom, deckText};
 
-// Room for every listing: the head line, 62 tap lines and 125 run lines.
-pub const LISTING_ROOM: usize = 8192;
+// Room for every listing: the head line, the line of kinds, 62 tap lines and 125 run lines, at most 7,878 bytes. The rest is for further fields of a
+// point.
+pub const LISTING_ROOM: usize = 8704;
 
 // Room for the line of a refusal.
 const LINE_ROOM: usize = 128;
@@ -60,11 +63,12 @@ pub fn list_working(d: WorkingDeck, out: &mut [u8]) -> usize
     if out.len() < LISTING_ROOM {
         return 0;
     }
-    let w = d.form;
-    let n = rounds::length_of(w);
-    let a = head_line(out, w.points.npins, w.points.nsteiner, n);
-    let b = write_taps(w, out, a);
-    run_lines(out, b, w)
+    let m = measure(d);
+    let lengths = kind_lengths(d);
+    let kinds = numbers_line(out, 0, b"deck", m.pins, m.steiner, m.length);
+    let taps = numbers_line(out, kinds, b"kinds", lengths[0], lengths[1], lengths[2]);
+    let runs = write_taps(d.form, out, taps);
+    run_lines(out, runs, d.form)
 }
 
 // The listing of a deck at the front of `out`, or the line of refusal 11 where the deck is not sound; `out` has to have room for LISTING_ROOM

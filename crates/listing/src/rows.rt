@@ -1,7 +1,8 @@
-// The lines of a deck's listing: the head line, a tap line for each Steiner point and a run line for each edge.
+// The lines of a deck's listing: the two of three numbers, a tap line for each Steiner point and a run line for each edge.
 use arrays::paste::put_byte;
 use arrays::paste::put_bytes;
 use ascii::decimal_field;
+use ascii::number_fields;
 use ascii::signed_field;
 use plane::codes::x_of;
 use plane::codes::y_of;
@@ -19,7 +20,7 @@ ghost use Rattle.model.specs.State.{Valid};
 ghost use Rattle.model.specs.Question.{listed};
 ghost use Rattle.working.specs.InOrder.{InOrder, stateOf};
 ghost use Rattle.working.specs.Edges.{edgeOf};
-ghost use Rattle.listing.specs.Line.{headText, tapLine, runLine};
+ghost use Rattle.listing.specs.Line.{tapLine, runLine};
 ghost use Rattle.arrays.specs.Paste.{Pasted};
 
 // A space and a coordinate, given in its stored form.
@@ -41,17 +42,15 @@ fn point_fields(out: &mut [u8], at: usize, k: u64) -> usize
     coordinate_field(out, next, y_of(k))
 }
 
-// Puts the head line at the front. Returns the place behind it.
-pub fn head_line(out: &mut [u8], pins: usize, taps: usize, n: u64) -> usize
-    requires { ⌜ 68 ≤ length (now out) ⌝ }
-    ensures { λ r. ⌜ Pasted (headText pins taps n) (now (out .entry)) (now (out .exit)) 0 r ⌝ }
-    ensures { λ r. ⌜ r ≤ 68 ⌝ }
+// Puts the line of a word and three numbers from place `at` on. Returns the place behind it.
+pub fn numbers_line(out: &mut [u8], at: usize, w: &[u8], a: u64, b: u64, c: u64) -> usize
+    requires { ⌜ at + (length (now w) + 64) ≤ length (now out) ⌝ }
+    ensures { λ r. ⌜ Pasted (model.numbersLine (now (w .entry)) a b c) (now (out .entry)) (now (out .exit)) at r ⌝ }
+    ensures { λ r. ⌜ r ≤ at + (length (now (w .entry)) + 64) ⌝ }
 {
-    let a = put_bytes(out, 0, b"deck");
-    let b = decimal_field(out, a, pins as u64);
-    let c = decimal_field(out, b, taps as u64);
-    let d = decimal_field(out, c, n);
-    put_byte(out, d, b'\n')
+    let numbers = put_bytes(out, at, w);
+    let end = number_fields(out, numbers, a, b, c);
+    put_byte(out, end, b'\n')
 }
 
 // The tap line of a Steiner point, given by its code.

@@ -39,7 +39,7 @@ set-of-length less order [] d = refl
 set-of-length less order (a ∷ l) d =
     put-length less order a (setOf less l) (λ i. d .0 a (set-of-in less order l a .0 i) refl) ∙ ap suc (set-of-length less order l (d .1))
 
-tree-of : (s : State) → Placed s → RunTree (points s) (treeOf s)
+pub tree-of : (s : State) → Placed s → RunTree (points s) (treeOf s)
 tree-of s h = mst-run-tree (points s) (points-rise s (h .steinerRise))
 
 pub listed-count : (s : State) → Placed s → length (listed s) ≡ edgeCount s

@@ -14,6 +14,7 @@ pub mod FileSize
 pub mod FileValid
 pub mod Grid
 pub mod Hub
+pub mod KindLength
 pub mod KindRows
 pub mod KindsFollow
 pub mod OctantClaim

@@ -11,7 +11,7 @@ use Rattle.plane.specs.Coordinate.{signed16, word16}
 use Rattle.plane.specs.OctantTable.{octants}
 use Rattle.plane.specs.Box.{extreme, spread, halfPerimeter}
 use Rattle.arrays.specs.Beside.{beside}
-use Rattle.arrays.specs.Set.{put, out, has, union, rising, all}
+use Rattle.arrays.specs.Set.{put, out, has, union, rising, all, passing}
 use Rattle.model.specs.Refusal.{firstFailed}
 use Rattle.model.specs.Tree.{pairs, edges, mst, treeLength}
 use Rattle.model.specs.State.{points, placed, valid, lowestWeak, pruneFrom, prune, insert, remove}
@@ -19,6 +19,7 @@ use Rattle.model.specs.Contents.{Contents, holding}
 use Rattle.model.specs.Round.{column, crossings, notHeld, candidates, saving, bestAbove, best, round, roundsFrom, finish}
 use Rattle.model.specs.Call.{Call, Reply, insertRefusal, removeRefusal, step}
 use Rattle.model.specs.Question.{lengthOfState, listed}
+use Rattle.model.specs.KindLength.{runKind, kindLengths}
 use Rattle.arrays.specs.Same.{sameList}
 use Rattle.model.specs.Sections.{pairsFrom, header, sectionFile, follow, laidOut}
 use Rattle.model.specs.File.{Read, deck, sectionOf, numberOf, runBytes, fileOf, pointsOf, readBy, readFile}
@@ -55,6 +56,11 @@ unfoldable pub halfAround : List Point → ℕ
 unfolding gap extreme spread halfPerimeter
 halfAround ps = halfPerimeter ps
 
+-- The lengths by kind, worked out.
+unfoldable pub lengthsOf : Contents → List ℕ
+unfolding play passing runKind
+lengthsOf c = kindLengths c
+
 -- A row of calls: contents to begin with, calls, and what they must show.
 pub record DeckRow : Type 0 where
   pub start : Contents
@@ -69,12 +75,13 @@ abbrev pub fromEmpty : List Call → Trace → DeckRow
 fromEmpty calls shows = starting [] calls shows
 
 -- A row of the table: calls and what they show; differences and their octants; a file and what reading it gives; points and the half
--- perimeter of the box around them.
+-- perimeter of the box around them; contents and their lengths by kind.
 pub data TableRow : Type 0 where
   deckRow : DeckRow → TableRow
   octantRow : List Point → List ℕ → TableRow
   fileRow : List ℕ → Read → TableRow
   boxRow : List Point → ℕ → TableRow
+  lengthsRow : Contents → List ℕ → TableRow
 
 -- The row holds.
 abbrev pub Holds : TableRow → Type 0
@@ -82,6 +89,7 @@ Holds (deckRow r) = play (r .start) (r .calls) ≡ r .shows
 Holds (octantRow differences numbers) = octants differences ≡ numbers
 Holds (fileRow b r) = reads b ≡ r
 Holds (boxRow ps n) = halfAround ps ≡ n
+Holds (lengthsRow c lengths) = lengthsOf c ≡ lengths
 
 -- What reading the file of contents gives.
 unfoldable pub filed : Contents → Read
@@ -94,6 +102,7 @@ Filed (deckRow r) = filed (r .shows .last) ≡ deck (r .shows .last)
 Filed (octantRow differences numbers) = Unit {0}
 Filed (fileRow b r) = Unit {0}
 Filed (boxRow ps n) = Unit {0}
+Filed (lengthsRow c lengths) = filed c ≡ deck c
 
 -- An offset and a length, both below 65,536, as eight bytes of a file's header: `pair 30 827` is 30 0 0 0 59 3 0 0.
 abbrev pub pair : ℕ → ℕ → List ℕ

@@ -4,7 +4,7 @@ use mathlib.Core.List.{List, [], _∷_, _++_}
 use Prim.Native.Nat.{ℕ}
 use Prim.Native.String.{String}
 use Rattle.arrays.specs.Text.{bytes, byte}
-use Rattle.model.specs.Decks.{play, filed, pair}
+use Rattle.model.specs.Decks.{play, filed, lengthsOf, pair}
 use Rattle.model.specs.Listing.{digitsFrom, signedDecimal, tapLines, runLines, listing, listingOfFile}
 
 -- The bytes of the file: its four letters, three sections, the offset and length of each, the pins.
@@ -23,6 +23,7 @@ unfoldable pub exampleText : List ℕ
 exampleText =
     lines
     ("deck 3 1 18"
+    ∷ "kinds 18 0 0"
     ∷ "tap 5 0"
     ∷ "run 0 0 5 0 5"
     ∷ "run 5 0 5 8 8"
@@ -31,7 +32,7 @@ exampleText =
 
 -- What the listing program answers for a file.
 unfoldable pub listingAnswer : List ℕ → List ℕ
-unfolding play filed digitsFrom signedDecimal tapLines runLines listing listingOfFile
+unfolding play filed lengthsOf digitsFrom signedDecimal tapLines runLines listing listingOfFile
 listingAnswer b = listingOfFile b
 
 -- The listing of the file is the text.

@@ -6,6 +6,7 @@ pub mod Decks
 pub mod DeviceKinds
 pub mod Example
 pub mod File
+pub mod KindLength
 pub mod KindsFollow
 pub mod Listing
 pub mod OctantClaim

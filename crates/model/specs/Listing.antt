@@ -10,6 +10,7 @@ use Rattle.plane.specs.Edge.{Edge, edgeLength}
 use Rattle.model.specs.State.{State}
 use Rattle.model.specs.Contents.{Contents}
 use Rattle.model.specs.Question.{listed, lengthOfState, pinCount, steinerCount}
+use Rattle.model.specs.KindLength.{kindLength}
 use Rattle.model.specs.File.{Read, deck, refusal, readFile}
 use Rattle.model.specs.Call.{runToEnd, step}
 
@@ -36,9 +37,12 @@ space = byte " "
 abbrev pub lineFeed : ℕ
 lineFeed = byte "\n"
 
--- The words deck, tap, run and refused.
+-- The words deck, kinds, tap, run and refused.
 abbrev pub deckWord : List ℕ
 deckWord = bytes "deck"
+
+abbrev pub kindsWord : List ℕ
+kindsWord = bytes "kinds"
 
 abbrev pub tapWord : List ℕ
 tapWord = bytes "tap"
@@ -57,12 +61,20 @@ field t = space ∷ t
 abbrev pub pointFields : Point → List ℕ
 pointFields p = field (signedDecimal (p .x)) ++ field (signedDecimal (p .y))
 
+-- Three numbers, each a field; and a line of a word and three numbers.
+abbrev pub numberFields : ℕ → ℕ → ℕ → List ℕ
+numberFields a b c = field (decimal a) ++ (field (decimal b) ++ field (decimal c))
+
+abbrev pub numbersLine : List ℕ → ℕ → ℕ → ℕ → List ℕ
+numbersLine w a b c = w ++ (numberFields a b c ++ (lineFeed ∷ []))
+
 -- The first line: pins, taps and length (SPEC 9.2).
 abbrev pub headLine : State → List ℕ
-headLine s =
-    deckWord
-    ++ (field (decimal (pinCount s))
-    ++ (field (decimal (steinerCount s)) ++ (field (decimal (lengthOfState s)) ++ (lineFeed ∷ []))))
+headLine s = numbersLine deckWord (pinCount s) (steinerCount s) (lengthOfState s)
+
+-- The second: the lengths of the kinds 0, 1 and 2 (SPEC 9.2).
+abbrev pub kindsLine : Contents → List ℕ
+kindsLine c = numbersLine kindsWord (kindLength c 0) (kindLength c 1) (kindLength c 2)
 
 -- A line for each tap (SPEC 9.2).
 unfoldable pub tapLines : List Point → List ℕ
@@ -77,7 +89,7 @@ runLines (e ∷ l) =
 
 -- The listing of the contents of a deck (SPEC 9.2).
 unfoldable pub listing : Contents → List ℕ
-listing c = let s = c .state in headLine s ++ (tapLines (s .steiner) ++ runLines (listed s))
+listing c = let s = c .state in headLine s ++ (kindsLine c ++ (tapLines (s .steiner) ++ runLines (listed s)))
 
 -- The line of a refusal (SPEC 9.1).
 abbrev pub refusedLine : ℕ → List ℕ

@@ -8,7 +8,7 @@ use Rattle.model.specs.Round.{tap}
 use Rattle.model.specs.Call.{add, withdraw, oneRound, runToEnd, done, refused, answered, rounds}
 use Rattle.model.specs.Contents.{Contents, withKinds}
 use Rattle.model.specs.File.{deck, refusal}
-use Rattle.model.specs.Decks.{DeckRow, TableRow, starting, fromEmpty, trace, deckRow, fileRow, pair, point, from}
+use Rattle.model.specs.Decks.{DeckRow, TableRow, starting, fromEmpty, trace, deckRow, fileRow, lengthsRow, pair, point, from}
 
 -- The contents of a deck with these pins, the kinds of them in their order, and these taps.
 abbrev pub devices : List Point → List ℕ → List Point → Contents
@@ -163,9 +163,29 @@ tooLongOfFour =
     ++ replicate 819 1)
     (refusal 1)
 
+-- Lengths by kind. Two displays joined over the tap (5,0): 10 cm at the displays, and 8 from the tap to the sensor (5,8).
+unfoldable pub displaysOverTap : TableRow
+displaysOverTap =
+    lengthsRow (devices (point 0 0 ∷ point 5 8 ∷ point 10 0 ∷ []) (1 ∷ 0 ∷ 1 ∷ []) (point 5 0 ∷ [])) (8 ∷ 10 ∷ 0 ∷ [])
+
+-- A sensor, a controller, a display and two sensors in a line: the larger kind is at the higher end, at the lower, at the lower, at none.
+unfoldable pub kindsInLine : TableRow
+kindsInLine =
+    lengthsRow
+    (devices (point 0 0 ∷ point 4 0 ∷ point 9 0 ∷ point 16 0 ∷ point 27 0 ∷ []) (0 ∷ 2 ∷ 1 ∷ 0 ∷ 0 ∷ []) [])
+    (11 ∷ 7 ∷ 9 ∷ [])
+
+-- One pin and no pin have no run.
+unfoldable pub oneController : TableRow
+oneController = lengthsRow (devices (point 7 0 ∷ []) (2 ∷ []) []) (0 ∷ 0 ∷ 0 ∷ [])
+
+unfoldable pub noDevice : TableRow
+noDevice = lengthsRow (devices [] [] []) (0 ∷ 0 ∷ 0 ∷ [])
+
 -- The rows.
 unfoldable pub kindTable : List TableRow
 kindTable =
     deckRow kindsMove ∷ deckRow tapBecomesDisplay ∷ deckRow kindRefusals ∷ kindsFile ∷ plainKindsFile ∷ pairMissing ∷ startsEarly
     ∷ manyTaps ∷ runTurnedBesideKind ∷ kindAbove ∷ kindTooFew ∷ kindTooMany ∷ sensorsInFour ∷ noPinInFour
-    ∷ plainKindAbove ∷ plainKindTooFew ∷ plainKindTooMany ∷ plainSensorsInFour ∷ tooLongOfFour ∷ []
+    ∷ plainKindAbove ∷ plainKindTooFew ∷ plainKindTooMany ∷ plainSensorsInFour ∷ tooLongOfFour
+    ∷ displaysOverTap ∷ kindsInLine ∷ oneController ∷ noDevice ∷ []

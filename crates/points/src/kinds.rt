@@ -43,8 +43,8 @@ pub fn in_front(kinds: &[u8]) -> [u8; MAX_PINS]
     out
 }
 
-// The kind beside the pin k among the first n pins, `other` where it is none of them.
-fn kind_or(pins: &[u64], kinds: &[u8], n: usize, k: u64, other: u8) -> u8
+// Returns the kind beside the pin k among the first n pins, `other` where it is none of them.
+pub fn kind_or(pins: &[u64], kinds: &[u8], n: usize, k: u64, other: u8) -> u8
     requires { ⌜ (n ≤ length (now pins)) × (n ≤ length (now kinds)) ⌝ }
     ensures { λ r. ⌜ r ≡ beside ltb other k (take n (now (pins .entry))) (take n (now (kinds .entry))) ⌝ }
 {

@@ -31,9 +31,8 @@ use Rattle.working.specs.declared.Working.{Working}
 use Rattle.working.specs.InOrder.{InOrder, stateOf}
 use Rattle.plane.proofs.codes.Sets.{points-has}
 use Rattle.working.proofs.InOrder.{all-codes, all-points, arranged-placed}
-use Rattle.points.proofs.Coded.{pins-count, steiner-count}
 use Rattle.working.proofs.prune.Sweep.{held-degree}
-use Rattle.working.proofs.edges.Numbers.{edge-count, listed-length}
+use Rattle.working.proofs.edges.Numbers.{listed-length}
 use Rattle.working.specs.declared.edges.CodedEdge.{CodedEdge}
 use Rattle.working.specs.Edges.{edgeOf, EdgeAt}
 use Rattle.questions.specs.declared.Answer.the-variants.{Counts, Edge, NoEdge, Degree}
@@ -57,16 +56,12 @@ none-beyond c v p e =
     let h = v .state .placed in
     sym (none-at (c .state) (h .steinerRise) p (λ i. subst T e (⊎-elim (h .pinsRange p) (h .steinerRange p) (points-in (c .state) p .0 i))))
 
--- A working form: its counts, and the edges at a code.
+-- A working form: the edges at a code.
 module _ (w : Working) (p : InOrder w) where
   held-has : (k : ℕ) → T (isCode k) → has ltb k (take (w .npoints) (w .codes)) ≡ has lower (pointOf k) (points (stateOf w))
   held-has k t =
       ap (has ltb k) (p .codes) ∙ points-has k t _ (all-codes (w .points) (p .arranged))
       ∙ ap (has lower (pointOf k)) (all-points (w .points) (p .arranged))
-
-  pub counts-answer : let s = stateOf w in
-      Counts (w .points .npins) (w .points .nsteiner) (w .nkeys) ≡ Counts (question.pinCount s) (question.steinerCount s) (question.edgeCount s)
-  counts-answer = λ i. Counts (sym (pins-count (w .points) (p .arranged)) i) (sym (steiner-count (w .points) (p .arranged)) i) (edge-count w p i)
 
   pub degree-none : (k : ℕ) → T (isCode k) → has ltb k (take (w .npoints) (w .codes)) ≡ false → 0 ≡ question.edgeCountAt (pointOf k) (stateOf w)
   degree-none k t e =

@@ -5,10 +5,11 @@ use Rattle.plane.specs.Point.{Point}
 use Rattle.plane.specs.Edge.{Edge as PlaneEdge, edgeLength}
 use Rattle.model.specs.Contents.{Contents}
 use Rattle.model.specs.Question as question
+use Rattle.model.specs.KindLength.{kindLength}
 use Rattle.working.specs.declared.edges.CodedEdge.{CodedEdge}
 use Rattle.working.specs.Edges.{edgeOf}
 use Rattle.questions.specs.declared.Answer.{Answer}
-use Rattle.questions.specs.declared.Answer.the-variants.{Length, Counts, Edge, NoEdge, Degree}
+use Rattle.questions.specs.declared.Answer.the-variants.{Length, Counts, Edge, NoEdge, Degree, Kinds}
 
 -- The length of the deck.
 abbrev pub lengthAnswer : Contents → Answer
@@ -17,6 +18,10 @@ lengthAnswer c = Length (question.lengthOfState (c .state))
 -- How many pins, taps and runs it has.
 abbrev pub countsAnswer : Contents → Answer
 countsAnswer c = let s = c .state in Counts (question.pinCount s) (question.steinerCount s) (question.edgeCount s)
+
+-- How long the runs of each kind are together.
+abbrev pub kindsAnswer : Contents → Answer
+kindsAnswer c = Kinds (kindLength c 0) (kindLength c 1) (kindLength c 2)
 
 -- A run, by its lower end, its higher end and its length.
 abbrev pub edgeAnswer : PlaneEdge → Answer
@@ -39,12 +44,13 @@ edgeAtAnswer i c = edgeOrNone (question.edgeAtPlace i (c .state))
 abbrev pub degreeAnswer : Point → Contents → Answer
 degreeAnswer p c = Degree (question.edgeCountAt p (c .state))
 
--- A question as data: the length, the counts, the edge at a place, the number of edges at a point.
+-- A question as data: the length, the counts, the edge at a place, the number of edges at a point, the lengths by kind.
 pub data Question : Type 0 where
   ofLength : Question
   ofCounts : Question
   ofEdge : ℕ → Question
   ofDegree : Point → Question
+  ofKinds : Question
 
 -- Its answer for the contents of a deck.
 abbrev pub answerTo : Question → Contents → Answer
@@ -52,3 +58,4 @@ answerTo ofLength c = lengthAnswer c
 answerTo ofCounts c = countsAnswer c
 answerTo (ofEdge i) c = edgeAtAnswer i c
 answerTo (ofDegree p) c = degreeAnswer p c
+answerTo ofKinds c = kindsAnswer c

@@ -1,4 +1,5 @@
 // The questions on a deck in working form.
+use measures::measure;
 use plane::codes::Located;
 use plane::codes::locate;
 use plane::codes::x_of;
@@ -14,10 +15,10 @@ ghost use Rattle.model.specs.Question as question;
 ghost use Rattle.plane.specs.Code.{pointOf, isCode};
 ghost use Rattle.working.specs.InOrder.{InOrder, stateOf};
 ghost use Rattle.working.specs.WorkingDeck.{contentsOf};
-ghost use Rattle.questions.specs.Answers.{lengthAnswer, countsAnswer, codedAnswer, edgeAtAnswer, degreeAnswer};
+ghost use Rattle.questions.specs.Answers.{lengthAnswer, countsAnswer, kindsAnswer, codedAnswer, edgeAtAnswer, degreeAnswer};
 
 // What a question answers: a refusal by its number; the length; the counts of pins, Steiner points and edges; an edge by its
-// lower end, its higher end and its length, or that there is none at the place; the number of edges at a point.
+// lower end, its higher end and its length, or that there is none at the place; the number of edges at a point; the lengths of the kinds 0, 1 and 2.
 pub enum Answer {
     Refused(u8),
     Length(u64),
@@ -25,6 +26,7 @@ pub enum Answer {
     Edge(i32, i32, i32, i32, u64),
     NoEdge,
     Degree(u64),
+    Kinds(u64, u64, u64),
 }
 
 // An edge, as the answer.
@@ -61,7 +63,7 @@ pub fn length(d: WorkingDeck) -> Answer
     requires { ⌜ InOrder (d .form) ⌝ }
     ensures { λ r. ⌜ r ≡ lengthAnswer (contentsOf d) ⌝ }
 {
-    Answer::Length(rounds::length_of(d.form))
+    Answer::Length(measure(d).length)
 }
 
 // Returns the numbers of pins, Steiner points and edges.
@@ -69,11 +71,18 @@ pub fn counts(d: WorkingDeck) -> Answer
     requires { ⌜ InOrder (d .form) ⌝ }
     ensures { λ r. ⌜ r ≡ countsAnswer (contentsOf d) ⌝ }
 {
-    Answer::Counts(
-        d.form.points.npins as u64,
-        d.form.points.nsteiner as u64,
-        d.form.nkeys as u64,
-    )
+    let m = measure(d);
+    Answer::Counts(m.pins, m.steiner, m.edges)
+}
+
+// Returns how long the edges of each kind of device are together.
+pub fn kind_lengths(d: WorkingDeck) -> Answer
+    requires { ⌜ InOrder (d .form) ⌝ }
+    requires { ⌜ ValidContents (contentsOf d) ⌝ }
+    ensures { λ r. ⌜ r ≡ kindsAnswer (contentsOf d) ⌝ }
+{
+    let lengths = measures::kind_lengths(d);
+    Answer::Kinds(lengths[0], lengths[1], lengths[2])
 }
 
 // Returns the edge at a place of the listing order, counted from 0, or that there is none.

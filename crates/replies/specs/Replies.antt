@@ -3,7 +3,7 @@ use mathlib.Core.List.{List, [], _∷_, _++_}
 use Prim.Native.Nat.{ℕ}
 use lib.IntN.{ℤ}
 use Rattle.arrays.specs.Text.{bytes}
-use Rattle.model.specs.Listing.{field, decimal, signedDecimal, refusedWord, tapWord, runWord}
+use Rattle.model.specs.Listing.{field, numberFields, decimal, signedDecimal, refusedWord, kindsWord, tapWord, runWord}
 use Rattle.arrow.specs.declared.Indication.{Indication}
 use Rattle.arrow.specs.declared.Indication.the-variants as indication
 use Rattle.arrow.specs.Arrow.{glyph}
@@ -49,12 +49,9 @@ arrowWord = bytes "arrow"
 abbrev pub glyphWord : List ℕ
 glyphWord = bytes "glyph"
 
--- Room for the parts of a line: a fall in length, three counts, the ends of an edge, an edge, an arrow; and for any line.
+-- Room for the parts of a line: a fall in length, the ends of an edge, an edge, an arrow; and for any line.
 abbrev pub fallRoom : ℕ
 fallRoom = 73
-
-abbrev pub countsRoom : ℕ
-countsRoom = 69
 
 abbrev pub endsRoom : ℕ
 endsRoom = 88
@@ -68,18 +65,17 @@ arrowRoom = 28
 abbrev pub lineRoom : ℕ
 lineRoom = 128
 
--- A word and a number.
+-- A word and a number, and a word and three: `counts PINS TAPS RUNS`, `kinds LENGTH LENGTH LENGTH`.
 abbrev pub numberText : List ℕ → ℕ → List ℕ
 numberText w n = w ++ field (decimal n)
+
+abbrev pub numbersText : List ℕ → ℕ → ℕ → ℕ → List ℕ
+numbersText w a b c = w ++ numberFields a b c
 
 -- A new Steiner point with the fall in length: `tap X Y fall F`.
 abbrev pub fallText : ℤ → ℤ → ℕ → List ℕ
 fallText x y n =
     tapWord ++ (field (signedDecimal x) ++ (field (signedDecimal y) ++ (field fallWord ++ field (decimal n))))
-
--- The three counts: `counts PINS TAPS RUNS`.
-abbrev pub countsText : ℕ → ℕ → ℕ → List ℕ
-countsText p t r = countsWord ++ (field (decimal p) ++ (field (decimal t) ++ field (decimal r)))
 
 -- An edge: `run X Y X Y LENGTH`.
 abbrev pub endsText : ℤ → ℤ → ℤ → ℤ → List ℕ
@@ -100,10 +96,11 @@ replyText (reply.Rounds n) = numberText roundsWord n
 unfoldable pub answerText : Answer → List ℕ
 answerText (answer.Refused n) = numberText refusedWord n
 answerText (answer.Length n) = numberText lengthWord n
-answerText (answer.Counts p t r) = countsText p t r
+answerText (answer.Counts p t r) = numbersText countsWord p t r
 answerText (answer.Edge x y u v n) = edgeText x y u v n
 answerText answer.NoEdge = noWord ++ field runWord
 answerText (answer.Degree n) = numberText degreeWord n
+answerText (answer.Kinds a b c) = numbersText kindsWord a b c
 
 -- An arrow and its glyph: `arrow N GLYPH`.
 abbrev pub arrowText : ℕ → List ℕ

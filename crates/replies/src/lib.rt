@@ -4,16 +4,17 @@ use arrays::paste::put_bytes;
 use arrow::Indication;
 use arrow::glyph;
 use ascii::decimal_field;
+use ascii::number_fields;
 use ascii::signed_field;
 use calls::Reply;
 use questions::Answer;
 ghost use Prim.Native.Nat.{_+_, _≤_};
 ghost use lib.ListN.{length};
 ghost use Rattle.arrays.specs.Paste.{Pasted};
-ghost use Rattle.replies.specs.Replies.{numberText, fallText, countsText, endsText, edgeText, replyText, answerText, errorWord, octantWord};
+ghost use Rattle.replies.specs.Replies.{numberText, numbersText, fallText, endsText, edgeText, replyText, answerText, errorWord, octantWord};
 ghost use Rattle.replies.specs.Replies.{arrowText, indicationText, glyphText, arrowRoom};
-ghost use Rattle.replies.specs.Replies.{fallRoom, countsRoom, endsRoom, edgeRoom, lineRoom};
-ghost use Rattle.ascii.specs.Text.{fitting, fieldRoom};
+ghost use Rattle.replies.specs.Replies.{fallRoom, endsRoom, edgeRoom, lineRoom};
+ghost use Rattle.ascii.specs.Text.{fitting, fieldRoom, fieldsRoom};
 
 // Room for any line.
 const LINE_ROOM: usize = 128;
@@ -27,6 +28,15 @@ fn number_line(out: &mut [u8], w: &[u8], n: u64) -> usize
     decimal_field(out, next, n)
 }
 
+// A word and three numbers.
+fn numbers_line(out: &mut [u8], w: &[u8], a: u64, b: u64, c: u64) -> usize
+    requires { ⌜ length (now w) + fieldsRoom ≤ length (now out) ⌝ }
+    ensures { λ r. ⌜ Pasted (numbersText (now (w .entry)) a b c) (now (out .entry)) (now (out .exit)) 0 r ⌝ }
+{
+    let next = put_bytes(out, 0, w);
+    number_fields(out, next, a, b, c)
+}
+
 // A new Steiner point and the fall in length.
 fn fall_line(out: &mut [u8], x: i32, y: i32, fall: u64) -> usize
     requires { ⌜ fallRoom ≤ length (now out) ⌝ }
@@ -37,17 +47,6 @@ fn fall_line(out: &mut [u8], x: i32, y: i32, fall: u64) -> usize
     let c = signed_field(out, b, y);
     let d = put_bytes(out, c, b" fall");
     decimal_field(out, d, fall)
-}
-
-// The counts of pins, Steiner points and edges.
-fn counts_line(out: &mut [u8], pins: u64, taps: u64, runs: u64) -> usize
-    requires { ⌜ countsRoom ≤ length (now out) ⌝ }
-    ensures { λ r. ⌜ Pasted (countsText pins taps runs) (now (out .entry)) (now (out .exit)) 0 r ⌝ }
-{
-    let a = put_bytes(out, 0, b"counts");
-    let b = decimal_field(out, a, pins);
-    let c = decimal_field(out, b, taps);
-    decimal_field(out, c, runs)
 }
 
 // The coordinates of two points.
@@ -98,10 +97,11 @@ pub fn answer_line(answer: Answer, out: &mut [u8]) -> usize
     match answer {
         Answer::Refused(n) => number_line(out, b"refused", n as u64),
         Answer::Length(n) => number_line(out, b"length", n),
-        Answer::Counts(pins, taps, runs) => counts_line(out, pins, taps, runs),
+        Answer::Counts(pins, taps, runs) => numbers_line(out, b"counts", pins, taps, runs),
         Answer::Edge(x, y, u, v, n) => edge_line(out, x, y, u, v, n),
         Answer::NoEdge => put_bytes(out, 0, b"no run"),
         Answer::Degree(n) => number_line(out, b"degree", n),
+        Answer::Kinds(a, b, c) => numbers_line(out, b"kinds", a, b, c),
     }
 }
 

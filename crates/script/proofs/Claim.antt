@@ -16,23 +16,27 @@ use Rattle.words.specs.Hex.{isHex}
 use Rattle.words.specs.Arguments.{argumentsOf}
 use Rattle.words.specs.declared.arguments.Arguments.the-variants.{Zero, One, Two, Three, Five}
 use Rattle.script.specs.declared.Command.the-variants.{Error, Read}
-use Rattle.script.specs.Commands.{ofOneWord, withSize, withNumber, withPair, withKind, withThree, areShort, withFive, ofNumbers, ofFile, withFile}
-use Rattle.script.specs.Commands.{ofWords}
+use Rattle.script.specs.Commands.{questionWord, ofOneWord, withSize, withNumber, withPair, withKind, withThree, areShort, withFive, ofNumbers}
+use Rattle.script.specs.Commands.{ofFile, withFile, ofWords}
 use Rattle.script.specs.Claim.{OnlyNames, Names}
-use Rattle.script.proofs.Names.{alone-none, sized-none, number-negative, pair-none, kind-negative, three-add, three-none, five-none, five-long}
+use Rattle.script.proofs.Names.{alone-question, question-none, sized-none, number-negative, pair-none, kind-negative, three-add, three-none, five-none, five-long}
 
 -- A name that is not in a list is none of its names.
 not-same : (w n : List ℕ) → ¬ (w ≡ n) → sameList w n ≡ false
 not-same w n h = sym (same-not w n h)
 
 -- With no number, one, two, three and five.
-none-alone : OnlyNames (bytes "write" ∷ bytes "round" ∷ bytes "finish" ∷ bytes "length" ∷ bytes "counts" ∷ bytes "list" ∷ []) Zero
+none-alone : OnlyNames (bytes "write" ∷ bytes "round" ∷ bytes "finish" ∷ bytes "list" ∷ bytes "length" ∷ bytes "counts" ∷ bytes "kinds" ∷ []) Zero
 unfolding ofNumbers
 none-alone w n =
-    sym (alone-none w (not-same w (bytes "write") (λ e. n (head e))) (not-same w (bytes "round") (λ e. n (tail (head e))))
-    (not-same w (bytes "finish") (λ e. n (tail (tail (head e))))) (not-same w (bytes "length") (λ e. n (tail (tail (tail (head e))))))
-    (not-same w (bytes "counts") (λ e. n (tail (tail (tail (tail (head e)))))))
-    (not-same w (bytes "list") (λ e. n (tail (tail (tail (tail (tail (head e)))))))))
+    sym (question ∙ alone-question w (not-same w (bytes "write") (λ e. n (head e))) (not-same w (bytes "round") (λ e. n (tail (head e))))
+    (not-same w (bytes "finish") (λ e. n (tail (tail (head e))))) (not-same w (bytes "list") (λ e. n (tail (tail (tail (head e)))))))
+  where
+    question : Error ≡ questionWord w
+    question =
+        question-none w (not-same w (bytes "length") (λ e. n (tail (tail (tail (tail (head e)))))))
+        (not-same w (bytes "counts") (λ e. n (tail (tail (tail (tail (tail (head e))))))))
+        (not-same w (bytes "kinds") (λ e. n (tail (tail (tail (tail (tail (tail (head e)))))))))
 
 none-negative : (k : ℕ) → OnlyNames (bytes "glyph" ∷ []) (One (negsuc k))
 unfolding ofNumbers
@@ -100,15 +104,16 @@ unfolding ofWords
 other-name w l n = rw (not-same w (bytes "read") n) refl
 
 pub names : Names
-unfolding sameList ofOneWord withSize withNumber withPair withKind withThree withFive ofNumbers ofWords
+unfolding sameList questionWord ofOneWord withSize withNumber withPair withKind withThree withFive ofNumbers ofWords
 names =
     record {
       write = refl;
       round = refl;
       finish = refl;
+      list = refl;
       length = refl;
       counts = refl;
-      list = refl;
+      kinds = refl;
       noNumber = none-alone;
       writeInto = λ n. refl;
       run = λ n. refl;

@@ -8,12 +8,12 @@ use lib.Signed.{ltZ}
 use Rattle.arrays.proofs.Signed.{if-negative, if-natural}
 use Rattle.script.specs.declared.Command.the-variants.{Error, Write, Call, Ask, Direct}
 use Rattle.script.specs.declared.Change.the-variants.{Add, Withdraw, Round, Finish}
-use Rattle.script.specs.declared.Query.the-variants.{Length, Counts, Run, Degree}
+use Rattle.script.specs.declared.Query.the-variants.{Length, Counts, Run, Degree, Kinds}
 use Rattle.script.specs.declared.Direction.the-variants.{Octant, Arrow, Glyph}
 use Rattle.script.specs.declared.Command.the-variants as command
 use Rattle.arrays.specs.Text.{bytes}
 use Rattle.arrays.specs.Same.{sameList}
-use Rattle.script.specs.Commands.{ofOneWord, withSize, withNumber, withPair, withKind, withThree, areShort, withFive}
+use Rattle.script.specs.Commands.{questionWord, ofOneWord, withSize, withNumber, withPair, withKind, withThree, areShort, withFive}
 
 -- The names of one word.
 module _ (w : List ℕ) where
@@ -32,23 +32,33 @@ module _ (w : List ℕ) where
       alone-finish c = rw (a, b, c) refl
 
       module _ (c : sameList w (bytes "finish") ≡ false) where
-        pub alone-length : sameList w (bytes "length") ≡ true → Ask Length ≡ ofOneWord w
+        pub alone-list : sameList w (bytes "list") ≡ true → command.List ≡ ofOneWord w
         unfolding ofOneWord
-        alone-length d = rw (a, b, c, d) refl
+        alone-list d = rw (a, b, c, d) refl
 
-        module _ (d : sameList w (bytes "length") ≡ false) where
-          pub alone-counts : sameList w (bytes "counts") ≡ true → Ask Counts ≡ ofOneWord w
-          unfolding ofOneWord
-          alone-counts e = rw (a, b, c, d, e) refl
+        pub alone-question : sameList w (bytes "list") ≡ false → questionWord w ≡ ofOneWord w
+        unfolding ofOneWord
+        alone-question d = rw (a, b, c, d) refl
 
-          module _ (e : sameList w (bytes "counts") ≡ false) where
-            pub alone-list : sameList w (bytes "list") ≡ true → command.List ≡ ofOneWord w
-            unfolding ofOneWord
-            alone-list f = rw (a, b, c, d, e, f) refl
+-- Those of them that are questions.
+module _ (w : List ℕ) where
+  pub question-length : sameList w (bytes "length") ≡ true → Ask Length ≡ questionWord w
+  unfolding questionWord
+  question-length a = rw a refl
 
-            pub alone-none : sameList w (bytes "list") ≡ false → Error ≡ ofOneWord w
-            unfolding ofOneWord
-            alone-none f = rw (a, b, c, d, e, f) refl
+  module _ (a : sameList w (bytes "length") ≡ false) where
+    pub question-counts : sameList w (bytes "counts") ≡ true → Ask Counts ≡ questionWord w
+    unfolding questionWord
+    question-counts b = rw (a, b) refl
+
+    module _ (b : sameList w (bytes "counts") ≡ false) where
+      pub question-kinds : sameList w (bytes "kinds") ≡ true → Ask Kinds ≡ questionWord w
+      unfolding questionWord
+      question-kinds c = rw (a, b, c) refl
+
+      pub question-none : sameList w (bytes "kinds") ≡ false → Error ≡ questionWord w
+      unfolding questionWord
+      question-none c = rw (a, b, c) refl
 
 -- Those with a size.
 module _ (w : List ℕ) (n : ℕ) where

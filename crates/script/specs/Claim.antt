@@ -14,7 +14,7 @@ use Rattle.words.specs.Arguments.{argumentsOf}
 use Rattle.script.specs.declared.Command.the-variants.{Error, Read, Write, Call, Ask, Direct}
 use Rattle.script.specs.declared.Command.the-variants as command
 use Rattle.script.specs.declared.Change.the-variants.{Add, Withdraw, Round, Finish}
-use Rattle.script.specs.declared.Query.the-variants.{Length, Counts, Run, Degree}
+use Rattle.script.specs.declared.Query.the-variants.{Length, Counts, Run, Degree, Kinds}
 use Rattle.script.specs.declared.Direction.the-variants.{Octant, Arrow, Glyph}
 use Rattle.script.specs.Commands.{areShort, ofNumbers, ofWords}
 
@@ -27,10 +27,11 @@ pub record Names : Type 0 where
   pub write : ofNumbers (bytes "write") Zero ≡ Write 856
   pub round : ofNumbers (bytes "round") Zero ≡ Call Round
   pub finish : ofNumbers (bytes "finish") Zero ≡ Call Finish
+  pub list : ofNumbers (bytes "list") Zero ≡ command.List
   pub length : ofNumbers (bytes "length") Zero ≡ Ask Length
   pub counts : ofNumbers (bytes "counts") Zero ≡ Ask Counts
-  pub list : ofNumbers (bytes "list") Zero ≡ command.List
-  pub noNumber : OnlyNames (bytes "write" ∷ bytes "round" ∷ bytes "finish" ∷ bytes "length" ∷ bytes "counts" ∷ bytes "list" ∷ []) Zero
+  pub kinds : ofNumbers (bytes "kinds") Zero ≡ Ask Kinds
+  pub noNumber : OnlyNames (bytes "write" ∷ bytes "round" ∷ bytes "finish" ∷ bytes "list" ∷ bytes "length" ∷ bytes "counts" ∷ bytes "kinds" ∷ []) Zero
   -- one: `write` and `run` with one that is not negative
   pub writeInto : (n : ℕ) → ofNumbers (bytes "write") (One (pos n)) ≡ Write n
   pub run : (n : ℕ) → ofNumbers (bytes "run") (One (pos n)) ≡ Ask (Run n)

@@ -10,7 +10,7 @@ use Rattle.arrays.specs.Test.{if, ifNatural}
 use Rattle.script.specs.declared.Command.{Command}
 use Rattle.script.specs.declared.Command.the-variants.{Blank, Error, Read, Write, Call, Ask, Direct}
 use Rattle.script.specs.declared.Change.the-variants.{Add, Withdraw, Round, Finish}
-use Rattle.script.specs.declared.Query.the-variants.{Length, Counts, Run, Degree}
+use Rattle.script.specs.declared.Query.the-variants.{Length, Counts, Run, Degree, Kinds}
 use Rattle.script.specs.declared.Direction.the-variants.{Octant, Arrow, Glyph}
 use Rattle.script.specs.declared.Command.the-variants as command
 use Rattle.words.specs.declared.arguments.Arguments.{Arguments}
@@ -28,15 +28,20 @@ lineLimit = 4000
 abbrev pub longestFile : ℕ
 longestFile = 856
 
--- One word: `write`, `round`, `finish`, `length`, `counts`, `list`. The capacity of `write` is then that of the longest file.
+-- One word that is a question: `length`, `counts`, `kinds`.
+unfoldable pub questionWord : List ℕ → Command
+questionWord w =
+    if (sameList w (bytes "length")) (λ _. Ask Length)
+    (λ _. if (sameList w (bytes "counts")) (λ _. Ask Counts)
+    (λ _. if (sameList w (bytes "kinds")) (λ _. Ask Kinds) (λ _. Error)))
+
+-- One word: `write`, `round`, `finish`, `list`, or a question. The capacity of `write` is then that of the longest file.
 unfoldable pub ofOneWord : List ℕ → Command
 ofOneWord w =
     if (sameList w (bytes "write")) (λ _. Write longestFile)
     (λ _. if (sameList w (bytes "round")) (λ _. Call Round)
     (λ _. if (sameList w (bytes "finish")) (λ _. Call Finish)
-    (λ _. if (sameList w (bytes "length")) (λ _. Ask Length)
-    (λ _. if (sameList w (bytes "counts")) (λ _. Ask Counts)
-    (λ _. if (sameList w (bytes "list")) (λ _. command.List) (λ _. Error))))))
+    (λ _. if (sameList w (bytes "list")) (λ _. command.List) (λ _. questionWord w))))
 
 -- A word and a size: `write CAPACITY`, `run I`.
 unfoldable pub withSize : List ℕ → ℕ → Command

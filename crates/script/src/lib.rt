@@ -9,8 +9,8 @@ use words::next;
 ghost use mathlib.Core.Path.{_≡_};
 ghost use Prim.Native.Nat.{_≤_};
 ghost use lib.ListN.{length, take, drop};
-ghost use Rattle.script.specs.Commands.{commandOf, ofWords, withFile, ofFile, ofNumbers, ofOneWord, withNumber, withSize, withPair, withThree, withFive};
-ghost use Rattle.script.specs.Commands.{withKind, isShort, areShort, fileInLine};
+ghost use Rattle.script.specs.Commands.{commandOf, ofWords, withFile, ofFile, ofNumbers, ofOneWord, withNumber, withSize, withPair, withThree};
+ghost use Rattle.script.specs.Commands.{questionWord, withKind, isShort, areShort, withFive, fileInLine};
 ghost use Rattle.arrays.specs.Paste.{Pasted};
 ghost use Rattle.words.specs.Words.{wordsOf};
 
@@ -28,6 +28,7 @@ pub enum Query {
     Counts,
     Run(u32),
     Degree(i32, i32),
+    Kinds,
 }
 
 // A question on directions, for which no deck is needed: the octant of a difference, the arrow from a display to a bay at a pitch, the glyph of
@@ -159,14 +160,24 @@ fn by_name(name: &[u8]) -> Command
     if same_bytes(name, b"finish") {
         return Command::Call(Change::Finish);
     }
+    if same_bytes(name, b"list") {
+        return Command::List;
+    }
+    question_word(name)
+}
+
+// The question of one word.
+fn question_word(name: &[u8]) -> Command
+    ensures { λ r. ⌜ r ≡ questionWord (now (name .entry)) ⌝ }
+{
     if same_bytes(name, b"length") {
         return Command::Ask(Query::Length);
     }
     if same_bytes(name, b"counts") {
         return Command::Ask(Query::Counts);
     }
-    if same_bytes(name, b"list") {
-        return Command::List;
+    if same_bytes(name, b"kinds") {
+        return Command::Ask(Query::Kinds);
     }
     Command::Error
 }

@@ -27,7 +27,7 @@ partsOfReply reply.Finished = oneNumber 2 0
 partsOfReply (reply.Tap x y fall) = partsIn 3 (fall ∷ 0 ∷ 0 ∷ []) (x ∷ y ∷ pos 0 ∷ pos 0 ∷ [])
 partsOfReply (reply.Rounds n) = oneNumber 4 n
 
--- The numbers of an answer are that of a refusal, a length, a degree or the three counts; its points are the ends of an edge, the
+-- The numbers of an answer are that of a refusal, a length, a degree, the three counts or the three lengths by kind; its points are the ends of an edge, the
 -- lower one first. A refusal has the kind that it has for a reply, and no other answer has a kind of those.
 abbrev pub partsOfAnswer : Answer → Parts
 partsOfAnswer (answer.Refused n) = oneNumber 1 n
@@ -36,6 +36,7 @@ partsOfAnswer (answer.Counts p s e) = partsIn 6 (p ∷ s ∷ e ∷ []) (pos 0 �
 partsOfAnswer (answer.Edge x y u v l) = partsIn 7 (l ∷ 0 ∷ 0 ∷ []) (x ∷ y ∷ u ∷ v ∷ [])
 partsOfAnswer answer.NoEdge = oneNumber 8 0
 partsOfAnswer (answer.Degree n) = oneNumber 9 n
+partsOfAnswer (answer.Kinds a b c) = partsIn 10 (a ∷ b ∷ c ∷ []) (pos 0 ∷ pos 0 ∷ pos 0 ∷ pos 0 ∷ [])
 
 -- The caller's arrays hold an outcome: the next deck, and the reply in its parts.
 pub record Holds (o : Outcome) (w kinds : List ℕ) (p : Parts) : Type 0 where

@@ -57,6 +57,11 @@ pub fn parts_of_answer(answer: Answer) -> Parts
         },
         Answer::NoEdge => one_number(8, 0),
         Answer::Degree(degree) => one_number(9, degree),
+        Answer::Kinds(sensors, displays, controllers) => Parts {
+            kind: 10,
+            numbers: [sensors, displays, controllers],
+            places: [0, 0, 0, 0],
+        },
     }
 }
 

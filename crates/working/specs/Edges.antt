@@ -3,9 +3,10 @@ use mathlib.Core.Path.{_≡_}
 use mathlib.Core.Option.{some}
 use mathlib.Core.List.{List, map}
 use Prim.Native.Nat.{ℕ}
+use lib.Dec.{T}
 use lib.ListN.{getElem?}
 use Rattle.plane.specs.Edge.{Edge, edgeLength}
-use Rattle.plane.specs.Code.{pointOf}
+use Rattle.plane.specs.Code.{pointOf, isCode}
 use Rattle.model.specs.State.{State, points}
 use Rattle.model.specs.Question.{listed}
 use Rattle.tree.specs.Keys.{endsAt}
@@ -24,7 +25,8 @@ edgeRow s = padded places (edgeNumbers s)
 abbrev pub edgeOf : CodedEdge → Edge
 edgeOf e = record { lo = pointOf (e .low); hi = pointOf (e .high) }
 
--- An edge is the one at place i of the listing order, with its length.
+-- An edge is the one at place i of the listing order, with its length; its ends are codes of points in range.
 pub record EdgeAt (s : State) (i : ℕ) (e : CodedEdge) : Type 0 where
   pub there : getElem? (listed s) i ≡ some (edgeOf e)
   pub measured : e .distance ≡ edgeLength (edgeOf e)
+  pub coded : T (isCode (e .low)) × T (isCode (e .high))

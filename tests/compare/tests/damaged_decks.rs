@@ -68,7 +68,9 @@ fn answers(random: &mut Random, state: &State, damaged: &Deck) -> bool {
     if few {
         questions::same_answers(random, damaged, &held, 3);
     } else {
-        questions::same_answer(damaged, &held, Question::Length);
+        for question in [Question::Length, Question::Kinds] {
+            questions::same_answer(damaged, &held, question);
+        }
     }
     false
 }

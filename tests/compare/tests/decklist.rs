@@ -29,8 +29,11 @@ fn whole_files() {
     assert!(taps > 500, "only {taps} taps");
     let longest = same_listing(&write(&mixed(comb(62))));
     assert!(longest.starts_with("deck 64 62 "));
-    // The text says nothing of kinds.
-    assert_eq!(same_listing(&write(&comb(62))), longest);
+    // The text says nothing of kinds but in its second line.
+    let other = same_listing(&write(&comb(62)));
+    let differ = |i: &usize| longest.lines().nth(*i) != other.lines().nth(*i);
+    let lines = longest.lines().count().max(other.lines().count());
+    assert_eq!((0..lines).filter(differ).collect::<Vec<_>>(), [1]);
 }
 
 /// Each sample is listed as the text beside it.

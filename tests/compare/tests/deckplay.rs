@@ -14,9 +14,9 @@ use reference::session::State;
 
 /// The beginnings of the answers that sessions have to bring about, beside the
 /// refusals.
-const WORDS: [&str; 15] = [
-    "ok", "tap", "finished", "rounds", "length", "counts", "run", "no run", "degree", "octant",
-    "arrow", "glyph", "error", "deck", "file",
+const WORDS: [&str; 16] = [
+    "ok", "tap", "finished", "rounds", "length", "counts", "kinds", "run", "no run", "degree",
+    "octant", "arrow", "glyph", "error", "deck", "file",
 ];
 
 /// The refusals among the answers.
@@ -83,7 +83,7 @@ fn files() {
 }
 
 /// Lines that are empty, a comment, no call, or a call with odd spaces.
-const OTHER_LINES: [&str; 39] = [
+const OTHER_LINES: [&str; 44] = [
     "",
     " ",
     "add",
@@ -117,6 +117,11 @@ const OTHER_LINES: [&str; 39] = [
     "write 856 ",
     "write 857",
     "  length",
+    "\tkinds ",
+    "kinds 0",
+    "kinds x",
+    "kind",
+    "Kinds",
     "octant 0 0",
     "arrow 0 0 0 0",
     "\tarrow 0  0\t1 -0 001\r",

@@ -5,13 +5,14 @@
 use compare::check::programs::same_answers;
 
 /// The names, each with the counts of numbers that it is taken with.
-const NAMES: [(&str, &[usize]); 17] = [
+const NAMES: [(&str, &[usize]); 19] = [
     ("add", &[2, 3]),
     ("withdraw", &[2]),
     ("round", &[0]),
     ("finish", &[0]),
     ("length", &[0]),
     ("counts", &[0]),
+    ("kinds", &[0]),
     ("degree", &[2]),
     ("run", &[1]),
     ("list", &[0]),
@@ -21,6 +22,7 @@ const NAMES: [(&str, &[usize]); 17] = [
     ("glyph", &[1]),
     ("rounds", &[]),
     ("arrows", &[]),
+    ("kind", &[]),
     ("Add", &[]),
     ("1", &[]),
 ];

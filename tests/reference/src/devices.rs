@@ -1,13 +1,13 @@
-//! Kinds of devices for tests: drawn at random, and files with and without the
-//! section that names them.
+//! Kinds of devices for tests: drawn at random, decks and calls with them, and files
+//! with and without the section that names them.
 
 use crate::examples::{comb, cross, deck, example, mixed, points, EXAMPLE};
 use crate::file::*;
-use crate::generate::{many_pins, Random};
+use crate::generate::{full_state, many_pins, pins as points_of, Kind, Random, KINDS};
 use crate::pins::{sensors, Pin, CONTROLLER, DISPLAY, SENSOR};
 use crate::plane::Point;
 use crate::script::call_line;
-use crate::session::{Call, State};
+use crate::session::{after, Call, State};
 
 /// Kinds that there are not: some that would be one if they were cut to 8 or 16
 /// bits, and the greatest that a script can name.
@@ -51,6 +51,52 @@ pub fn devices(random: &mut Random, points: &[Point]) -> Vec<Pin> {
         _ => {}
     }
     pins
+}
+
+/// Devices at the points, each kind as often as another.
+pub fn any_devices(random: &mut Random, points: &[Point]) -> Vec<Pin> {
+    let mut kind = || random.pick(&[SENSOR, DISPLAY, CONTROLLER]);
+    points
+        .iter()
+        .map(|&point| Pin::new(point, kind()))
+        .collect()
+}
+
+/// Decks with taps and with devices of every kind: so many of each kind of deck, of
+/// which every second has each device as often as another, and a comb of each size.
+pub fn decks_of_devices(random: &mut Random, times: usize, most: i64) -> Vec<State> {
+    let mut decks = Vec::new();
+    for kind in KINDS {
+        for time in 0..times {
+            let most = random.range(0, most) as usize;
+            let mut state = full_state(random, kind, most);
+            if time % 2 == 0 {
+                state.pins = any_devices(random, &state.places());
+            }
+            decks.push(state);
+        }
+    }
+    for state in (1..=62).map(comb) {
+        let pins = any_devices(random, &state.places());
+        decks.push(State { pins, ..state });
+    }
+    decks
+}
+
+/// Calls by which devices stand where taps may come later: pins and a run to the
+/// end, then at each tap a display or a controller, withdrawn again, and a run to
+/// the end.
+pub fn devices_at_taps(random: &mut Random, kind: Kind, most: usize) -> Vec<Call> {
+    let add = |pin: &Pin| Call::Add(pin.point.x, pin.point.y, pin.kind);
+    let places = points_of(random, kind, most);
+    let pins = any_devices(random, &places);
+    let mut calls: Vec<Call> = pins.iter().map(add).collect();
+    calls.push(Call::Finish);
+    for Point { x, y } in after(&calls).0.steiner {
+        let device = random.pick(&[DISPLAY, CONTROLLER]);
+        calls.extend([Call::Add(x, y, device), Call::Withdraw(x, y), Call::Finish]);
+    }
+    calls
 }
 
 /// The line of a script that asks for a call; once in two it names a sensor too.

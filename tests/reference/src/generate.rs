@@ -268,7 +268,7 @@ pub fn script(random: &mut Random, kind: Kind, calls: usize) -> String {
 /// a buffer that is exact or one byte short.
 pub fn question(random: &mut Random, state: &State) -> String {
     let points = state.points();
-    match random.range(0, 9) {
+    match random.range(0, 10) {
         0 => "length\n".to_string(),
         1 => "counts\n".to_string(),
         2 => format!("run {}\n", random.range(0, points.len() as i64)),
@@ -281,6 +281,7 @@ pub fn question(random: &mut Random, state: &State) -> String {
         6 => "list\n".to_string(),
         7 => arrow_line(&sight(random)) + "\n",
         8 => format!("glyph {}\n", random.range(-1, 9)),
+        9 => "kinds\n".to_string(),
         _ => format!("octant {} {}\n", random.range(-2, 2), random.range(-2, 2)),
     }
 }

@@ -22,6 +22,8 @@ pub mod differences;
 pub mod examples;
 pub mod generate;
 pub mod kind_variants;
+pub mod length_variants;
+pub mod listed;
 pub mod refusals;
 pub mod sights;
 pub mod variants;

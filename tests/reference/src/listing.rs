@@ -1,6 +1,7 @@
 //! The listing program.
 
 use crate::file::read;
+use crate::pins::lengths_by_kind;
 use crate::session::{finish, State};
 use crate::tree::{length, listing_order};
 
@@ -9,6 +10,8 @@ pub fn listing(state: &State) -> String {
     let edges = state.tree();
     let (pins, steiner) = (state.pins.len(), state.steiner.len());
     let mut text = format!("deck {pins} {steiner} {}\n", length(&edges));
+    let [a, b, c] = lengths_by_kind(&state.pins, &edges);
+    text += &format!("kinds {a} {b} {c}\n");
     for tap in &state.steiner {
         text += &format!("tap {} {}\n", tap.x, tap.y);
     }

@@ -1,6 +1,7 @@
-//! Pins: where a device sits, and what kind of device it is.
+//! Pins: where a device sits, and what kind of device it is; and the lengths of
+//! edges by kind.
 
-use crate::plane::Point;
+use crate::plane::{Edge, Point};
 
 /// The kinds of devices by their numbers; there are no others.
 pub const SENSOR: u32 = 0;
@@ -41,4 +42,23 @@ pub fn places(pins: &[Pin]) -> Vec<Point> {
 /// Whether all pins are sensors, as they are where there is none.
 pub fn only_sensors(pins: &[Pin]) -> bool {
     pins.iter().all(|pin| pin.kind == SENSOR)
+}
+
+/// The kind at a point held: that of the pin there, and 0 at a tap.
+pub fn kind_at(pins: &[Pin], point: Point) -> u32 {
+    let pin = pins.iter().find(|pin| pin.point == point);
+    pin.map_or(0, |pin| pin.kind)
+}
+
+/// The kind of an edge (SPEC 1.8): the largest at its ends.
+pub fn kind_of(pins: &[Pin], edge: Edge) -> u32 {
+    kind_at(pins, edge.lower).max(kind_at(pins, edge.higher))
+}
+
+/// The lengths of the kinds 0, 1 and 2 (SPEC 1.8): those of their edges, added up.
+pub fn lengths_by_kind(pins: &[Pin], edges: &[Edge]) -> [i64; 3] {
+    [SENSOR, DISPLAY, CONTROLLER].map(|kind| {
+        let of_kind = edges.iter().filter(|edge| kind_of(pins, **edge) == kind);
+        of_kind.map(|edge| edge.length()).sum()
+    })
 }

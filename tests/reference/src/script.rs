@@ -6,7 +6,7 @@ use crate::file::{read, write_into, LONGEST};
 use crate::listing::listing;
 use crate::pins::SENSOR;
 use crate::plane::{octant, Point};
-use crate::session::{call, counts, degree_at, edge_at, length};
+use crate::session::{call, counts, degree_at, edge_at, kind_lengths, length};
 use crate::session::{Call, Reply, State};
 
 /// The longest line of a script, without its line feed.
@@ -122,6 +122,7 @@ fn answer_question(state: &State, words: &[&str]) -> Option<String> {
     let answer = match words {
         ["length"] => length(state).map(|length| format!("length {length}")),
         ["counts"] => counts(state).map(|(p, t, r)| format!("counts {p} {t} {r}")),
+        ["kinds"] => kind_lengths(state).map(|[a, b, c]| format!("kinds {a} {b} {c}")),
         ["run", place] => answer_run(state, size(place)?),
         ["degree", x, y] => {
             let point = Point::new(number(x)?, number(y)?);

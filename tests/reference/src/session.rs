@@ -1,6 +1,6 @@
 //! The calls and questions on a deck.
 
-use crate::pins::{places, Pin};
+use crate::pins::{lengths_by_kind, places, Pin};
 use crate::plane::{Edge, Point};
 use crate::tree::{degree, length as tree_length, listing_order, tree};
 
@@ -265,6 +265,12 @@ pub fn counts(state: &State) -> Result<(usize, usize, usize), u8> {
     valid(state)?;
     let edges = state.tree().len();
     Ok((state.pins.len(), state.steiner.len(), edges))
+}
+
+/// The lengths of the edges of kinds 0, 1 and 2.
+pub fn kind_lengths(state: &State) -> Result<[i64; 3], u8> {
+    valid(state)?;
+    Ok(lengths_by_kind(&state.pins, &state.tree()))
 }
 
 /// The edge at a place of the listing order, counted from 0, if there is one.

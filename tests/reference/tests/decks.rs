@@ -135,6 +135,7 @@ fn questions() {
             .map(|e| (e.lower, e.higher, e.length()))
     };
     let end = |x, y| Point::new(x, y);
+    assert_eq!(kind_lengths(&state), Ok([18, 0, 0]));
     assert_eq!(run(0), Some((end(0, 0), end(5, 0), 5)));
     assert_eq!(run(1), Some((end(5, 0), end(5, 8), 8)));
     assert_eq!(run(2), Some((end(5, 0), end(10, 0), 5)));

@@ -13,6 +13,7 @@ use reference::session::*;
 
 const LISTING: &str = "\
 deck 3 1 18
+kinds 18 0 0
 tap 5 0
 run 0 0 5 0 5
 run 5 0 5 8 8
@@ -25,11 +26,15 @@ fn the_listing_example() {
     assert_eq!(list_program(&plain), LISTING);
     let full = write(&finish(&read(&plain).unwrap()).0);
     assert_eq!(list_program(&full), LISTING);
-    assert_eq!(list_program(&write(&State::default())), "deck 0 0 0\n");
+    assert_eq!(
+        list_program(&write(&State::default())),
+        "deck 0 0 0\nkinds 0 0 0\n"
+    );
     let one = write_plain(&deck(&[(7, -3)]).pins);
-    assert_eq!(list_program(&one), "deck 1 0 0\n");
+    assert_eq!(list_program(&one), "deck 1 0 0\nkinds 0 0 0\n");
     let two = write_plain(&deck(&[(-5, 0), (5, 4)]).pins);
-    assert_eq!(list_program(&two), "deck 2 0 14\nrun -5 0 5 4 14\n");
+    let text = "deck 2 0 14\nkinds 14 0 0\nrun -5 0 5 4 14\n";
+    assert_eq!(list_program(&two), text);
 }
 
 #[test]
@@ -48,8 +53,9 @@ fn the_listing_of_a_refused_file() {
 fn taps_are_listed_before_runs_and_rising() {
     let state = deck(&[(0, 0), (5, 8), (10, 0), (40, 0), (45, 8), (50, 0)]);
     let text = listing(&finish(&state).0);
-    assert!(text.starts_with("deck 6 2 66\ntap 5 0\ntap 45 0\nrun 0 0 5 0 5\n"));
-    assert_eq!(text.lines().count(), 10);
+    let first = "deck 6 2 66\nkinds 66 0 0\ntap 5 0\ntap 45 0\nrun 0 0 5 0 5\n";
+    assert!(text.starts_with(first));
+    assert_eq!(text.lines().count(), 11);
     assert!(text.ends_with("\nrun 45 0 50 0 5\n"));
 }
 

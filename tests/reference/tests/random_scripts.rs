@@ -9,7 +9,7 @@ use reference::script::{bytes_of, hex_of, play};
 use reference::session::State;
 
 /// The beginnings of the answers that a random script has to bring about.
-const WORDS: [&str; 21] = [
+const WORDS: [&str; 22] = [
     "ok",
     "refused 7",
     "refused 8",
@@ -23,6 +23,7 @@ const WORDS: [&str; 21] = [
     "rounds",
     "length",
     "counts",
+    "kinds",
     "run",
     "no run",
     "degree",

@@ -116,6 +116,7 @@ fn refusal_11() {
         refuses(&state, Call::Finish, NOT_SOUND);
         assert_eq!(length(&state), Err(NOT_SOUND));
         assert_eq!(counts(&state), Err(NOT_SOUND));
+        assert_eq!(kind_lengths(&state), Err(NOT_SOUND));
         assert_eq!(edge_at(&state, 1_000), Err(NOT_SOUND));
         assert_eq!(degree_at(&state, Point::new(0, 0)), Err(NOT_SOUND));
         for size in [0, 10, LONGEST] {

@@ -44,9 +44,9 @@ fn each_sample_is_listed_as_its_text() {
 #[test]
 fn the_sizes_of_the_samples() {
     for (name, pins, header) in [
-        ("example", 3, "deck 3 1 18\n"),
-        ("lane", 18, "deck 18 1 4750\n"),
-        ("sixty_four", 64, "deck 64 4 19600\n"),
+        ("example", 3, "deck 3 1 18\nkinds 18 0 0\n"),
+        ("lane", 18, "deck 18 1 4750\nkinds 4750 0 0\n"),
+        ("sixty_four", 64, "deck 64 4 19600\nkinds 19600 0 0\n"),
     ] {
         let bytes = fs::read(folder().join(format!("{name}.deck"))).unwrap();
         assert_eq!(read(&bytes).unwrap().pins.len(), pins, "{name}");
@@ -62,5 +62,7 @@ fn the_kinds_of_the_devices() {
     let count = |kind: u32| state.kinds().iter().filter(|&&other| other == kind).count();
     assert_eq!([SENSOR, DISPLAY, CONTROLLER].map(count), [9, 1, 1]);
     assert_eq!(bytes.len(), 38 + 5 * 11, "not plain");
-    assert!(list_program(&bytes).starts_with("deck 11 1 2850\n"));
+    // The lane from end to end, the display's run and the controller's.
+    let first = "deck 11 1 2850\nkinds 2000 550 300\n";
+    assert!(list_program(&bytes).starts_with(first));
 }

@@ -23,7 +23,8 @@ fn the_example_deck() {
     answers(&[
         ("counts", "counts 0 0 0"),
         ("length", "length 0"),
-        ("list", "deck 0 0 0"),
+        ("kinds", "kinds 0 0 0"),
+        ("list", "deck 0 0 0 / kinds 0 0 0"),
         ("run 0", "no run"),
         ("round", "finished"),
         ("finish", "rounds 0"),
@@ -40,8 +41,10 @@ fn the_example_deck() {
         ("degree 99999 0", "degree 0"),
         (
             "list",
-            "deck 3 1 18 / tap 5 0 / run 0 0 5 0 5 / run 5 0 5 8 8 / run 5 0 10 0 5",
+            "deck 3 1 18 / kinds 18 0 0 / tap 5 0 / run 0 0 5 0 5 / run 5 0 5 8 8 / \
+             run 5 0 10 0 5",
         ),
+        ("kinds", "kinds 18 0 0"),
         ("write", &format!("file 52 {EXAMPLE}")),
         ("write 52", &format!("file 52 {EXAMPLE}")),
         ("write 51", "refused 12"),
@@ -94,7 +97,8 @@ fn kinds() {
         ("add 9 0 0", "ok"),
         ("write", &format!("file 40 {sensors}")),
         (&format!("read {kinds}"), "ok"),
-        ("list", "deck 2 0 9 / run 0 0 9 0 9"),
+        ("list", "deck 2 0 9 / kinds 0 0 9 / run 0 0 9 0 9"),
+        ("kinds", "kinds 0 0 9"),
         ("write", &format!("file 50 {kinds}")),
         (&format!("read {}03", &kinds[..98]), "refused 15"),
         ("counts", "counts 0 0 0"),
@@ -161,6 +165,11 @@ fn octants_and_errors() {
         ("Round", "error"),
         (" ", "error"),
         ("round now", "error"),
+        ("kinds 0", "error"),
+        ("kinds 0 0 0", "error"),
+        ("kinds x", "error"),
+        ("kind", "error"),
+        ("Kinds", "error"),
         ("counts", "counts 0 0 0"),
     ]);
 }

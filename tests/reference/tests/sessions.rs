@@ -39,6 +39,8 @@ fn checked(state: &State, asked: Call) -> (State, Reply) {
     let (pins, taps, runs) = counts(&next).unwrap();
     assert!(taps <= pins.saturating_sub(2), "{next:?}");
     assert_eq!(runs, (pins + taps).saturating_sub(1));
+    let lengths = kind_lengths(&next).unwrap();
+    assert_eq!(Ok(lengths.iter().sum()), length(&next));
     match reply {
         Reply::Refused(_) | Reply::Finished => assert_eq!(next, *state),
         Reply::Done => assert_eq!(next, reckoned(state, asked)),
@@ -180,6 +182,7 @@ fn trees_and_rounds_ignore_kinds() {
             assert_eq!(state.places(), sensors.places());
             assert_eq!(state.steiner, sensors.steiner);
             assert!(only_sensors(&sensors.pins));
+            assert_eq!(kind_lengths(&sensors), Ok([length(&state).unwrap(), 0, 0]));
             answered += replies.len();
             other += usize::from(state != sensors);
         }

@@ -30,12 +30,12 @@ const ENTRY: &str = "add 0 2, add 1 1, add 0 0";
 const ENTRY_SWEEP: &str = "add 0 1, add 1 2, add 1 0, round, add 0 0";
 const EQUAL: &str = "add 0 0, add 1 1, add 0 2, add 2 0, round";
 
-const SWEPT_END: &str = "deck 3 0 4 / run 0 3 1 2 2 / run 1 2 2 1 2";
-const ORDER_END: &str = "deck 5 1 8 / tap 3 1 / run 0 2 2 2 2 / run 1 0 3 0 2 / run 2 2 3 1 2 / \
-                         run 3 0 3 1 1 / run 3 1 4 1 1";
+const SWEPT_END: &str = "deck 3 0 4 / kinds 4 0 0 / run 0 3 1 2 2 / run 1 2 2 1 2";
+const ORDER_END: &str = "deck 5 1 8 / kinds 8 0 0 / tap 3 1 / run 0 2 2 2 2 / run 1 0 3 0 2 / \
+                         run 2 2 3 1 2 / run 3 0 3 1 1 / run 3 1 4 1 1";
 const THREE_END: &str =
-    "deck 5 0 22 / run 0 7 1 0 8 / run 0 7 1 8 2 / run 1 0 7 0 6 / run 1 8 7 8 6";
-const PASS_END: &str = "deck 3 0 7 / run 0 2 1 0 3 / run 0 2 3 3 4";
+    "deck 5 0 22 / kinds 22 0 0 / run 0 7 1 0 8 / run 0 7 1 8 2 / run 1 0 7 0 6 / run 1 8 7 8 6";
+const PASS_END: &str = "deck 3 0 7 / kinds 7 0 0 / run 0 2 1 0 3 / run 0 2 3 3 4";
 
 const EXAMPLES: [Example; 19] = [
     ("a1", SWEPT, "tap 0 2 fall 2", SWEPT_END),
@@ -43,8 +43,8 @@ const EXAMPLES: [Example; 19] = [
         "a2",
         KEPT,
         "tap 2 1 fall 2",
-        "deck 5 1 7 / tap 2 1 / run 0 1 0 2 1 / run 0 1 2 1 2 / run 2 0 2 1 1 / run 2 1 3 1 1 / \
-         run 3 1 3 3 2",
+        "deck 5 1 7 / kinds 7 0 0 / tap 2 1 / run 0 1 0 2 1 / run 0 1 2 1 2 / run 2 0 2 1 1 / \
+         run 2 1 3 1 1 / run 3 1 3 3 2",
     ),
     ("b", SWEPT, "tap 0 2 fall 2", SWEPT_END),
     ("c1", ORDER, "ok", ORDER_END),
@@ -55,13 +55,13 @@ const EXAMPLES: [Example; 19] = [
         "d1",
         LINES,
         "tap 2 2 fall 2",
-        "deck 3 0 5 / run 0 2 3 2 3 / run 3 2 4 1 2",
+        "deck 3 0 5 / kinds 5 0 0 / run 0 2 3 2 3 / run 3 2 4 1 2",
     ),
     (
         "d2",
         ENDED,
         "tap 2 2 fall 2",
-        "deck 3 0 5 / run 0 2 3 2 3 / run 3 0 3 2 2",
+        "deck 3 0 5 / kinds 5 0 0 / run 0 2 3 2 3 / run 3 0 3 2 2",
     ),
     ("e1", PASS, "ok", PASS_END),
     ("e2", PASS, "ok", PASS_END),
@@ -69,33 +69,34 @@ const EXAMPLES: [Example; 19] = [
         "f1",
         JOINED,
         "ok",
-        "deck 3 0 2 / run 0 2 1 2 1 / run 1 1 1 2 1",
+        "deck 3 0 2 / kinds 2 0 0 / run 0 2 1 2 1 / run 1 1 1 2 1",
     ),
     ("f2", PASS, "ok", PASS_END),
     (
         "f3",
         JOINED_TIE,
         "ok",
-        "deck 3 0 4 / run 0 0 0 2 2 / run 0 0 1 1 2",
+        "deck 3 0 4 / kinds 4 0 0 / run 0 0 0 2 2 / run 0 0 1 1 2",
     ),
     ("f4", SWEPT, "tap 0 2 fall 2", SWEPT_END),
     (
         "g1",
         ENTRY,
         "ok",
-        "deck 3 0 4 / run 0 0 0 2 2 / run 0 0 1 1 2",
+        "deck 3 0 4 / kinds 4 0 0 / run 0 0 0 2 2 / run 0 0 1 1 2",
     ),
     (
         "g2",
         ENTRY_SWEEP,
         "ok",
-        "deck 4 0 4 / run 0 0 0 1 1 / run 0 0 1 0 1 / run 0 1 1 2 2",
+        "deck 4 0 4 / kinds 4 0 0 / run 0 0 0 1 1 / run 0 0 1 0 1 / run 0 1 1 2 2",
     ),
     (
         "h",
         EQUAL,
         "tap 0 1 fall 1",
-        "deck 4 1 5 / tap 0 1 / run 0 0 0 1 1 / run 0 0 2 0 2 / run 0 1 0 2 1 / run 0 1 1 1 1",
+        "deck 4 1 5 / kinds 5 0 0 / tap 0 1 / run 0 0 0 1 1 / run 0 0 2 0 2 / run 0 1 0 2 1 / \
+         run 0 1 1 1 1",
     ),
     ("f2", SWEPT, "tap 0 2 fall 2", SWEPT_END),
 ];

@@ -24,11 +24,11 @@ pub none-counted : (l : List ℕ) → Counts 0 l
 none-counted l = (omega arith, refl)
 
 -- A text that has room for less has room.
-pub roomy : (m : ℕ) (before after t u : List ℕ) (r : ℕ) → m ≤ 8192 → 8192 ≤ length before → t ≡ u → Pasted (fitting m before t) before after 0 r
-    → Pasted (fitting 8192 before u) before after 0 r
+pub roomy : (m : ℕ) (before after t u : List ℕ) (r : ℕ) → m ≤ 8704 → 8704 ≤ length before → t ≡ u → Pasted (fitting m before t) before after 0 r
+    → Pasted (fitting 8704 before u) before after 0 r
 roomy m before after t u r h k e f =
     subst (λ (l : List ℕ). Pasted l before after 0 r)
-    (ap (λ (b : Bool). if b (λ _. t) (λ _. [])) (le-leb m (length before) (omega arith) ∙ sym (le-leb 8192 (length before) k)) ∙ ap (fitting 8192 before) e) f
+    (ap (λ (b : Bool). if b (λ _. t) (λ _. [])) (le-leb m (length before) (omega arith) ∙ sym (le-leb 8704 (length before) k)) ∙ ap (fitting 8704 before) e) f
 
 -- What is printed, by what reading the file gave.
 pub printed-refusal : (b : List ℕ) {c : Changed} (n : ℕ) → ReadTo (readFile b) c → n ≡ refusalNumber (c .reply) → ¬ (n ≡ 0) → refusedLine n ≡ listingOfFile b

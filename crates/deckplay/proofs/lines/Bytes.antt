@@ -11,9 +11,9 @@ use Rattle.arrays.specs.Test.{if}
 use Rattle.model.specs.Contents.{emptyContents}
 use Rattle.deck.specs.declared.Deck.{Deck}
 use Rattle.deck.specs.Form.{deckOf}
-use Rattle.deckplay.specs.declared.answer.Played.{Played}
+use Rattle.answer.specs.declared.Played.{Played}
 use Rattle.deckplay.specs.declared.lines.Reader.{Reader}
-use Rattle.deckplay.specs.Play.{played, Plays}
+use Rattle.answer.specs.Play.{played, Plays}
 use Rattle.deckplay.specs.Lines.{Script, ended, more, taken, scriptOf, Reads, Fresh, Ends, Takes}
 
 pub fresh : (d : Deck) (l : List ℕ) → d ≡ deckOf emptyContents → Fresh (record { deck = d; line = l; size = 0 })

@@ -14,14 +14,14 @@ use Rattle.listing.proofs.list.Statement.{statement}
 use Rattle.listing.proofs.list.Tie as tie
 
 returns : tie.Need-returns
-returns c = front-none 8192 _ _ (c .if1 .taken)
+returns c = front-none 8704 _ _ (c .if1 .taken)
 
 returns-2 : tie.Need-returns-2
 returns-2 c =
     let at-refused-line = c .before .before in
     let at-valid-test = at-refused-line .before .before in
     let at-check = at-valid-test .before .before in
-    front-put 8192 _ _ _ _ (at-check .before .if1 .left)
+    front-put 8704 _ _ _ _ (at-check .before .if1 .left)
     (pasted-same (text-unsound _ (sym (at-check .check .ensures .ok) ∙ not-true _ (at-valid-test .if2 .taken))) (at-refused-line .refused-line .ensures))
 
 list-working-requires : tie.Need-list-working-requires
@@ -39,7 +39,7 @@ returns-3 c =
     let e = not-false _ (at-valid-test .if2 .left) in
     let out = entry .args .out .now in
     let text = ap listing (checked-sound _ _ k e .2) ∙ text-sound _ (sym (k .ok) ∙ e) in
-    pasted-same (ap (λ (t : List ℕ). fitting 8192 out t) text) (at-list-working .list-working .ensures)
+    pasted-same (ap (λ (t : List ℕ). fitting 8704 out t) text) (at-list-working .list-working .ensures)
 
 pub list-spec : {M : Type 1} → statement M
 list-spec =

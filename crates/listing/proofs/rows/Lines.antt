@@ -1,11 +1,9 @@
 -- The tap lines and the run lines of the first items, then a line more.
 use mathlib.Core.Path.{_≡_, refl, sym, ap, _∙_}
 use mathlib.Core.List.{List, [], _∷_, _++_, map, append-assoc}
-use mathlib.Core.Option.{some}
-use Prim.Native.Nat.{ℕ, zero, suc, _+_, _≤_, _<_}
-use native.Mathlib.Omega.{arith}
+use Prim.Native.Nat.{ℕ, _+_, _≤_, _<_}
 use native.Mathlib.Numerals.{add-one}
-use lib.ListN.{length, take, getD, getElem?}
+use lib.ListN.{length, take, getD}
 use lib.Seq.{take-suc, take-all}
 use Rattle.plane.specs.Point.{Point}
 use Rattle.plane.specs.Edge.{Edge, edgeLength}
@@ -15,6 +13,7 @@ use Rattle.model.specs.State.{State}
 use Rattle.model.specs.Question.{listed}
 use Rattle.working.specs.declared.edges.CodedEdge.{CodedEdge}
 use Rattle.working.specs.Edges.{edgeOf, EdgeAt}
+use Rattle.working.proofs.edges.Numbers.{edges-more}
 use Rattle.listing.specs.Line.{tapLine, runLine}
 
 -- The text of one item more.
@@ -45,11 +44,6 @@ map-more f (a ∷ l) k = ap (λ t. f a ∷ t) (map-more f l k)
 one-more : (a : List ℕ) (i : ℕ) → i < length a → take (i + 1) a ≡ take i a ++ (getD a i 0 ∷ [])
 one-more a i h = ap (λ (k : ℕ). take k a) (add-one i) ∙ take-suc a i 0 h
 
-next-item : {A : Type 0} (l : List A) (i : ℕ) (a : A) → getElem? l i ≡ some a → take (suc i) l ≡ take i l ++ (a ∷ [])
-next-item [] i a e = absurd (let z : _≡_ {A = ℕ} 0 1 = cc in omega arith)
-next-item (b ∷ l) zero a e = let q : b ≡ a = cc in ap (λ z. z ∷ []) q
-next-item (b ∷ l) (suc i) a e = ap (λ t. b ∷ t) (next-item l i a e)
-
 -- The lines of the first i Steiner points and of the first i edges.
 abbrev pub tapText : List ℕ → ℕ → List ℕ
 tapText codes i = tapLines (map pointOf (take i codes))
@@ -72,8 +66,7 @@ tap-more codes i h =
 
 pub run-more : (s : State) (i : ℕ) (e : CodedEdge) → EdgeAt s i e → runText (listed s) (i + 1) ≡ runText (listed s) i ++ runLine (edgeOf e) (e .distance)
 run-more s i e f =
-    ap (λ (k : ℕ). runText (listed s) k) (add-one i) ∙ ap runLines (next-item (listed s) i (edgeOf e) (f .there))
-    ∙ runs-more (take i (listed s)) (edgeOf e) ∙ ap (λ (n : ℕ). runText (listed s) i ++ runLine (edgeOf e) n) (sym (f .measured))
+    ap runLines (edges-more s i e f) ∙ runs-more (take i (listed s)) (edgeOf e) ∙ ap (λ (n : ℕ). runText (listed s) i ++ runLine (edgeOf e) n) (sym (f .measured))
 
 pub run-all : (s : State) (m : ℕ) → length (listed s) ≤ m → runText (listed s) m ≡ runLines (listed s)
 run-all s m h = ap runLines (take-all m (listed s) h)

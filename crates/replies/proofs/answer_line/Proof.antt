@@ -33,10 +33,11 @@ returns-3 c =
 returns-4 : tie.Need-returns-4
 unfolding answerText
 returns-4 c =
-    let at-counts-line = c .before .before in
-    let at-answer = at-counts-line .before .before .before in
+    let at-numbers-line = c .before .before in
+    let at-numbers-line-arg2 = at-numbers-line .before in
+    let at-answer = at-numbers-line-arg2 .before .before .before in
     let at-test = at-answer .before .before in
-    front-put 128 _ _ _ _ (at-test .if1 .left) (pasted-same (sym (ap answerText (at-answer .answer3 .given .1))) (at-counts-line .counts-line .ensures))
+    front-put 128 _ _ _ _ (at-test .if1 .left) (pasted-same (sym (ap answerText (at-answer .answer3 .given .1))) (at-numbers-line .numbers-line .ensures))
 
 returns-5 : tie.Need-returns-5
 unfolding answerText
@@ -69,6 +70,15 @@ returns-7 c =
     let at-test = at-answer .before .before in
     front-put 128 _ _ _ _ (at-test .if1 .left) (pasted-same (sym (ap answerText (at-answer .answer5 .given .1))) (at-number-line3 .number-line3 .ensures))
 
+returns-8 : tie.Need-returns-8
+unfolding answerText
+returns-8 c =
+    let at-numbers-line2 = c .before .before in
+    let at-numbers-line-arg4 = at-numbers-line2 .before in
+    let at-answer = at-numbers-line-arg4 .before .before .before in
+    let at-test = at-answer .before .before in
+    front-put 128 _ _ _ _ (at-test .if1 .left) (pasted-same (sym (ap answerText (at-answer .answer6 .given .1))) (at-numbers-line2 .numbers-line2 .ensures))
+
 pub answer-line-spec : {M : Type 1} → statement M
 answer-line-spec =
     tie.close
@@ -82,7 +92,11 @@ answer-line-spec =
     (λ c. search needs)
     (λ c κs. search needs)
     (λ c. search needs)
+    (λ c. search needs)
     (λ c κs. search needs)
+    (λ c. search needs)
+    (λ c κs. search needs)
+    (λ c. search needs)
     (λ c. search needs)
     (λ c κs. search needs)
     (λ c. search needs)
@@ -102,4 +116,6 @@ answer-line-spec =
     (λ c. search needs)
     returns-6
     (λ c. search needs)
-    returns-7)
+    returns-7
+    (λ c. search needs)
+    returns-8)

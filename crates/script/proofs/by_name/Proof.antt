@@ -1,7 +1,7 @@
 -- `script::by_name` meets its contract: the names are tried one after the other.
 use mathlib.Core.Path.{sym, _∙_}
 use borrow.Author.Needs.{needs}
-use Rattle.script.proofs.Names.{alone-write, alone-round, alone-finish, alone-length, alone-counts, alone-list, alone-none}
+use Rattle.script.proofs.Names.{alone-write, alone-round, alone-finish, alone-list, alone-question}
 use Rattle.script.proofs.by_name.Statement.{statement}
 use Rattle.script.proofs.by_name.Tie as tie
 
@@ -27,47 +27,21 @@ returns-4 c =
     let at-finish-test = c .before .before .before in
     let at-round-test = at-finish-test .before .before .before in
     let at-write-test = at-round-test .before .before .before in
-    alone-length _ (sym (at-write-test .before .same-bytes .ensures) ∙ at-write-test .if1 .left)
+    alone-list _ (sym (at-write-test .before .same-bytes .ensures) ∙ at-write-test .if1 .left)
     (sym (at-round-test .before .same-bytes2 .ensures) ∙ at-round-test .if2 .left)
     (sym (at-finish-test .before .same-bytes3 .ensures) ∙ at-finish-test .if3 .left) (sym (c .before .same-bytes4 .ensures) ∙ c .if4 .taken)
 
 returns-5 : tie.Need-returns-5
 returns-5 c =
-    let at-length-test = c .before .before .before in
-    let at-finish-test = at-length-test .before .before .before in
+    let at-list-test = c .before in
+    let at-finish-test = at-list-test .before .before .before in
     let at-round-test = at-finish-test .before .before .before in
     let at-write-test = at-round-test .before .before .before in
-    alone-counts _ (sym (at-write-test .before .same-bytes .ensures) ∙ at-write-test .if1 .left)
+    c .question-word .ensures
+    ∙ alone-question _ (sym (at-write-test .before .same-bytes .ensures) ∙ at-write-test .if1 .left)
     (sym (at-round-test .before .same-bytes2 .ensures) ∙ at-round-test .if2 .left)
     (sym (at-finish-test .before .same-bytes3 .ensures) ∙ at-finish-test .if3 .left)
-    (sym (at-length-test .before .same-bytes4 .ensures) ∙ at-length-test .if4 .left)
-    (sym (c .before .same-bytes5 .ensures) ∙ c .if5 .taken)
-
-returns-6 : tie.Need-returns-6
-returns-6 c =
-    let at-counts-test = c .before .before .before in
-    let at-length-test = at-counts-test .before .before .before in
-    let at-finish-test = at-length-test .before .before .before in
-    let at-round-test = at-finish-test .before .before .before in
-    let at-write-test = at-round-test .before .before .before in
-    alone-list _ (sym (at-write-test .before .same-bytes .ensures) ∙ at-write-test .if1 .left)
-    (sym (at-round-test .before .same-bytes2 .ensures) ∙ at-round-test .if2 .left)
-    (sym (at-finish-test .before .same-bytes3 .ensures) ∙ at-finish-test .if3 .left)
-    (sym (at-length-test .before .same-bytes4 .ensures) ∙ at-length-test .if4 .left)
-    (sym (at-counts-test .before .same-bytes5 .ensures) ∙ at-counts-test .if5 .left) (sym (c .before .same-bytes6 .ensures) ∙ c .if6 .taken)
-
-returns-7 : tie.Need-returns-7
-returns-7 c =
-    let at-counts-test = c .before .before .before in
-    let at-length-test = at-counts-test .before .before .before in
-    let at-finish-test = at-length-test .before .before .before in
-    let at-round-test = at-finish-test .before .before .before in
-    let at-write-test = at-round-test .before .before .before in
-    alone-none _ (sym (at-write-test .before .same-bytes .ensures) ∙ at-write-test .if1 .left)
-    (sym (at-round-test .before .same-bytes2 .ensures) ∙ at-round-test .if2 .left)
-    (sym (at-finish-test .before .same-bytes3 .ensures) ∙ at-finish-test .if3 .left)
-    (sym (at-length-test .before .same-bytes4 .ensures) ∙ at-length-test .if4 .left)
-    (sym (at-counts-test .before .same-bytes5 .ensures) ∙ at-counts-test .if5 .left) (sym (c .before .same-bytes6 .ensures) ∙ c .if6 .left)
+    (sym (at-list-test .before .same-bytes4 .ensures) ∙ at-list-test .if4 .left)
 
 pub by-name-spec : {M : Type 1} → statement M
 by-name-spec =
@@ -85,10 +59,5 @@ by-name-spec =
     (λ c. search needs)
     (λ c κs. search needs)
     returns-4
-    (λ c. search needs)
     (λ c κs. search needs)
-    returns-5
-    (λ c. search needs)
-    (λ c κs. search needs)
-    returns-6
-    returns-7)
+    returns-5)

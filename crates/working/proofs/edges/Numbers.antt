@@ -1,26 +1,28 @@
 -- The edges of a working form as numbers: the ends of its keys are those of the state's edges in the listing order, and the number
 -- of a point is where its code stands among the codes of all points.
-use mathlib.Core.Path.{_≡_, refl, sym, ap, _∙_, subst⁻¹}
+use mathlib.Core.Path.{_≡_, refl, sym, ap, _∙_, subst, subst⁻¹}
 use mathlib.Core.Logic.{⊎-elim}
 use mathlib.Core.Option.{some}
 use mathlib.Core.List.{List, [], _∷_, _++_, map, List·Memᴰ, List·Memᴰ·head as head, List·Memᴰ·tail as tail}
 use mathlib.Core.List.{List·Memᴰ·cases-cons as cases, List·Memᴰ·not-nil as not-nil}
 use Prim.Native.Nat.{ℕ, zero, suc, _+_, _-_, _/_, _%_, _<_}
 use native.Mathlib.Omega.{arith}
-use lib.Dec.{ltb}
+use native.Mathlib.Numerals.{add-one}
+use lib.Dec.{T, ltb}
 use lib.ListN.{length, take, getD, getElem?, replicate, length-map}
 use lib.Seq.{getD-take}
 use Rattle.arrays.specs.Paste.{Pasted}
 use Rattle.arrays.specs.Set.{tie, setOf}
 use Rattle.arrays.proofs.Set.{tie-eq, no-tie, set-of-in}
 use Rattle.arrays.proofs.Test.{by-test}
+use Rattle.arrays.proofs.sorted.Rise.{get-in}
 use Rattle.arrays.proofs.paste.Parts.{front-is}
 use Rattle.plane.specs.Point.{Point, lower}
 use Rattle.plane.specs.Edge.{Edge, edgeLength, listedBefore, planar}
-use Rattle.plane.specs.Code.{pointOf}
+use Rattle.plane.specs.Code.{pointOf, isCode}
 use Rattle.plane.proofs.Order.{lower-order, listed-order}
 use Rattle.model.specs.Tree.{mst}
-use Rattle.model.specs.State.{points}
+use Rattle.model.specs.State.{State, points}
 use Rattle.model.specs.Question.{listed, edgeCount}
 use Rattle.model.specs.File.{numberOf}
 use Rattle.model.proofs.Tree.{mst-run-tree}
@@ -36,7 +38,7 @@ use Rattle.working.specs.declared.Working.{Working}
 use Rattle.working.specs.declared.edges.CodedEdge.{CodedEdge}
 use Rattle.working.specs.InOrder.{InOrder, stateOf}
 use Rattle.working.specs.Edges.{edgeNumbers, edgeRow, edgeOf, EdgeAt}
-use Rattle.working.proofs.InOrder.{all-points, arranged-placed}
+use Rattle.working.proofs.InOrder.{all-codes, all-points, arranged-placed}
 
 -- A point among those of a list of codes, from its number.
 number-point : (l : List ℕ) (q : Point) → List·Memᴰ q (map pointOf l) → pointOf (getD l (numberOf (map pointOf l) q) 0) ≡ q
@@ -77,6 +79,16 @@ module _ (w : Working) (p : InOrder w) where
 
   pub listed-length : length (listed (stateOf w)) ≡ w .nkeys
   listed-length = listed-count (stateOf w) (arranged-placed (w .points) (p .arranged)) ∙ sym edge-count
+
+  -- What stands at the number of a point is a code.
+  held-code : (n : ℕ) → n < w .npoints → T (isCode (getD (w .codes) n 0))
+  held-code n h =
+      let codes = take (w .npoints) (w .codes) in
+      let here : map pointOf codes ≡ points (stateOf w) = ap (map pointOf) (p .codes) ∙ all-points (w .points) (p .arranged) in
+      let long : length codes ≡ w .npoints = sym (length-map codes pointOf) ∙ ap length here ∙ sym (p .count) in
+      subst (λ (k : ℕ). T (isCode k)) (getD-take (w .npoints) (w .codes) n 0 h)
+      (all-codes (w .points) (p .arranged) _
+      (subst (λ (l : List ℕ). List·Memᴰ (getD codes n 0) l) (p .codes) (get-in codes n (omega (arith, long, h)))))
 
   -- The code of a point stands at its number.
   below : (q : Point) → List·Memᴰ q (points (stateOf w)) → numberOf (points (stateOf w)) q < w .npoints
@@ -134,4 +146,15 @@ module _ (w : Working) (p : InOrder w) where
         record {
           there = item .1 ∙ ap some (sym (ap edgeOf same ∙ between (item .0) (item .2) (getD row i 0) both-is));
           measured = ap (λ (z : CodedEdge). z .distance) same ∙ long;
+          coded = subst⁻¹ (λ (z : CodedEdge). T (isCode (z .low)) × T (isCode (z .high))) same
+              (held-code _ (both-within .0), held-code _ (both-within .1));
         }
+
+-- The edges up to a place, and the edge there.
+next-item : {A : Type 0} (l : List A) (i : ℕ) (a : A) → getElem? l i ≡ some a → take (suc i) l ≡ take i l ++ (a ∷ [])
+next-item [] i a e = absurd (let z : _≡_ {A = ℕ} 0 1 = cc in omega arith)
+next-item (b ∷ l) zero a e = let q : b ≡ a = cc in ap (λ z. z ∷ []) q
+next-item (b ∷ l) (suc i) a e = ap (λ t. b ∷ t) (next-item l i a e)
+
+pub edges-more : (s : State) (i : ℕ) (e : CodedEdge) → EdgeAt s i e → take (i + 1) (listed s) ≡ take i (listed s) ++ (edgeOf e ∷ [])
+edges-more s i e f = ap (λ (k : ℕ). take k (listed s)) (add-one i) ∙ next-item (listed s) i (edgeOf e) (f .there)

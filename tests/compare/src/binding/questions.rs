@@ -24,6 +24,13 @@ mod library {
             numbers: &mut [u64; 3],
             places: &mut [i32; 4],
         ) -> u8;
+        /// The lengths of the edges of kinds 0, 1 and 2.
+        pub fn entry_kind_lengths(
+            words: &[u64; WORDS],
+            kinds: &[u8; KIND_PLACES],
+            numbers: &mut [u64; 3],
+            places: &mut [i32; 4],
+        ) -> u8;
         /// The edge at a place of the listing order.
         pub fn entry_edge_at(
             i: usize,
@@ -49,6 +56,7 @@ mod library {
 pub enum Question {
     Length,
     Counts,
+    Kinds,
     EdgeAt(usize),
     DegreeAt(i32, i32),
 }
@@ -72,6 +80,7 @@ pub fn ask(deck: &Deck, question: Question) -> Parts {
     p.kind = match question {
         Question::Length => make!(entry_length),
         Question::Counts => make!(entry_counts),
+        Question::Kinds => make!(entry_kind_lengths),
         Question::EdgeAt(i) => make!(entry_edge_at, i),
         Question::DegreeAt(x, y) => make!(entry_degree_at, x, y),
     };

@@ -6,7 +6,7 @@ use crate::binding::parts::{coordinate, Parts};
 use crate::binding::questions::{ask, is_valid, Question};
 use reference::generate::Random;
 use reference::plane::{Edge, Point};
-use reference::session::{counts, degree_at, edge_at, length, Reply, State};
+use reference::session::{counts, degree_at, edge_at, kind_lengths, length, Reply, State};
 
 /// The parts of an edge.
 fn edge_parts(edge: Edge) -> Parts {
@@ -14,6 +14,14 @@ fn edge_parts(edge: Edge) -> Parts {
     Parts {
         places: [a.x, a.y, b.x, b.y].map(coordinate),
         ..Parts::number(7, edge.length() as u64)
+    }
+}
+
+/// The parts of the lengths by kind.
+pub fn kind_parts(lengths: [i64; 3]) -> Parts {
+    Parts {
+        numbers: lengths.map(|length| length as u64),
+        ..Parts::number(10, 0)
     }
 }
 
@@ -28,6 +36,7 @@ fn expected(state: &State, question: Question) -> Result<Parts, u8> {
                 ..Parts::number(6, 0)
             }
         }
+        Question::Kinds => kind_parts(kind_lengths(state)?),
         Question::EdgeAt(i) => edge_at(state, i)?.map_or(Parts::number(8, 0), edge_parts),
         Question::DegreeAt(x, y) => {
             let point = Point::new(x.into(), y.into());
@@ -41,7 +50,7 @@ fn expected(state: &State, question: Question) -> Result<Parts, u8> {
 pub fn questions(random: &mut Random, state: &State, most: usize) -> Vec<Question> {
     let points = state.points();
     let end = points.len().saturating_sub(1);
-    let mut asked = vec![Question::Length, Question::Counts];
+    let mut asked = vec![Question::Length, Question::Counts, Question::Kinds];
     let beyond = [end, end + 1, 125, 127, 128, 1 << 32, usize::MAX];
     asked.extend(beyond.map(Question::EdgeAt));
     asked.extend((0..end).map(Question::EdgeAt).take(most));
@@ -84,6 +93,7 @@ pub fn all_refused(deck: &Deck, state: &State) {
     for question in [
         Question::Length,
         Question::Counts,
+        Question::Kinds,
         Question::EdgeAt(0),
         Question::EdgeAt(usize::MAX),
         Question::DegreeAt(coordinate(held.x), coordinate(held.y)),

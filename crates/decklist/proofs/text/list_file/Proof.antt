@@ -11,7 +11,7 @@ use Rattle.decklist.proofs.text.list_file.Statement.{statement}
 use Rattle.decklist.proofs.text.list_file.Tie as tie
 
 returns : tie.Need-returns
-returns c = (front-none 8192 _ _ (c .if1 .taken), none-counted (c .before .before .before .args .out .now))
+returns c = (front-none 8704 _ _ (c .if1 .taken), none-counted (c .before .before .before .args .out .now))
 
 returns-2 : tie.Need-returns-2
 returns-2 c =
@@ -48,7 +48,7 @@ returns-3 c =
     let taken = read-taken (readFile _) (read-possible _) (at-refusal-number .before .read-working .ensures) (at-refusal-number .refusal-number .ensures)
     (at-run-to-end .before .if2 .left) in
     let e = printed-deck (entry .args .file .now) _ _ (taken .0) (at-run-to-end .run-to-end .ensures .next) in
-    let f = roomy 8192 _ _ _ _ _ (omega arith) (at-room-test .if1 .left) e (at-list-working .list-working .ensures) in
+    let f = roomy 8704 _ _ _ _ _ (omega arith) (at-room-test .if1 .left) e (at-list-working .list-working .ensures) in
     (f, front-within f)
 
 pub list-file-spec : {M : Type 1} → statement M

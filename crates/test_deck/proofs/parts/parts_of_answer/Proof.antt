@@ -31,6 +31,9 @@ returns-5 c = c .one-number3 .ensures ∙ ap partsOfAnswer (sym (c .before .enum
 returns-6 : tie.Need-returns-6
 returns-6 c = c .one-number4 .ensures ∙ ap partsOfAnswer (sym (c .before .before .answer5 .given .1))
 
+returns-7 : tie.Need-returns-7
+returns-7 c = ap partsOfAnswer (sym (c .before .answer6 .given .1))
+
 pub parts-of-answer-spec : {M : Type 1} → statement M
 parts-of-answer-spec =
     tie.close
@@ -46,9 +49,11 @@ parts-of-answer-spec =
     (λ c κs. search needs)
     (λ c. search needs)
     (λ c κs. search needs)
+    (λ c. search needs)
     returns
     returns-2
     returns-3
     returns-4
     returns-5
-    returns-6)
+    returns-6
+    returns-7)
