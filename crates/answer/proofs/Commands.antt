@@ -17,10 +17,9 @@ use Rattle.questions.specs.declared.Answer.{Answer}
 use Rattle.questions.specs.Answers.{Question}
 use Rattle.script.specs.declared.Change.{Change}
 use Rattle.script.specs.declared.Query.{Query}
-use Rattle.script.specs.declared.Direction.{Direction}
 use Rattle.replies.specs.Replies.{answerText}
 use Rattle.answer.specs.declared.Played.{Played}
-use Rattle.answer.specs.Play.{Line, stays, changes, octantText, directionText, callFor, questionFor, Plays}
+use Rattle.answer.specs.Play.{Line, stays, changes, callFor, questionFor, Plays}
 
 -- What was asked for (a command, a call or a question) is k, and what was played is the line that it asks for.
 pub obeys : {A : Type 0} (lineFor : A → Line) {c k : A} {a : Line} {before after : List ℕ} {p : Played} → c ≡ k → a ≡ lineFor k
@@ -35,10 +34,6 @@ pub answers : (d : Deck) {q k : Query} {a : Line} {before after : List ℕ} {p :
     → Plays a before after p → Plays (stays d (answerText (asked d (questionFor q)))) before after p
 answers d = obeys (λ (k : Query). stays d (answerText (asked d (questionFor k))))
 
-pub directs : (d : Deck) {q k : Direction} {a : Line} {before after : List ℕ} {p : Played} → q ≡ k → a ≡ stays d (directionText k)
-    → Plays a before after p → Plays (stays d (directionText q)) before after p
-directs d = obeys (λ (k : Direction). stays d (directionText k))
-
 -- Equal answers are one line.
 pub same-answer : {d : Deck} {a b : Answer} → a ≡ b → stays d (answerText a) ≡ stays d (answerText b)
 same-answer {d} = ap (λ (z : Answer). stays d (answerText z))
@@ -50,6 +45,3 @@ module _ {x y : ℤ} (fx : SFits w32 x) (fy : SFits w32 y) (d : Deck) where
   pub asked-at : (f : Point → Question) {a : Answer} → a ≡ asked d (f (point (read x) (read y)))
       → stays d (answerText a) ≡ stays d (answerText (asked d (f (point x y))))
   asked-at f e = same-answer (e ∙ read-two (λ (u v : ℤ). asked d (f (point u v))) x y fx fy)
-
-  pub octant-at : stays d (octantText (read x) (read y)) ≡ stays d (octantText x y)
-  octant-at = read-two (λ (u v : ℤ). stays d (octantText u v)) x y fx fy

@@ -1,5 +1,4 @@
--- What the proofs of a line's answer use, and the examples.
+-- What the proofs of a line's answer use.
 pub mod Commands
-pub mod Examples
 pub mod Texts
 pub mod Written

@@ -2,14 +2,11 @@
 use mathlib.Core.Path.{_≡_}
 use mathlib.Core.List.{List, []}
 use Prim.Native.Nat.{ℕ, min}
-use lib.Dec.{leb, eqb}
-use lib.IntN.{ℤ}
+use lib.Dec.{leb}
 use lib.ListN.{length}
 use Rattle.io.specs.Counts as io
-use Rattle.arrays.specs.Test.{if, ifNatural}
-use Rattle.arrays.specs.Text.{byte}
+use Rattle.arrays.specs.Test.{if}
 use Rattle.plane.specs.Point.{point}
-use Rattle.plane.specs.Octant.{octantCount, octant}
 use Rattle.model.specs.Call as call
 use Rattle.model.specs.File.{fileOf}
 use Rattle.arrays.specs.Paste.{Pasted}
@@ -25,14 +22,12 @@ use Rattle.script.specs.declared.Change.{Change}
 use Rattle.script.specs.declared.Change.the-variants as change
 use Rattle.script.specs.declared.Query.{Query}
 use Rattle.script.specs.declared.Query.the-variants as query
-use Rattle.script.specs.declared.Direction.{Direction}
-use Rattle.script.specs.declared.Direction.the-variants as direction
 use Rattle.script.specs.declared.Command.{Command}
 use Rattle.script.specs.declared.Command.the-variants as command
 use Rattle.script.specs.Commands as script
 use Rattle.ascii.specs.Encoding.{fileText, joinedLines}
-use Rattle.arrow.specs.Arrow.{arrow, glyph}
-use Rattle.replies.specs.Replies.{errorWord, octantWord, numberText, replyText, answerText, indicationText, glyphText}
+use Rattle.replies.specs.Replies.{errorWord, replyText, answerText}
+use Rattle.directions.specs.Directions.{directionText}
 use Rattle.listing.specs.Whole.{deckText}
 use Rattle.answer.specs.declared.Played.{Played}
 
@@ -59,20 +54,6 @@ writeText d n =
     if (sound d)
     (λ _. if (leb (length file) n) (λ _. fileText file) (λ _. answerText (answer.Refused 12)))
     (λ _. answerText (answer.Refused 11))
-
--- `octant DX DY`: `error` for 0 0.
-abbrev pub octantText : ℤ → ℤ → List ℕ
-octantText x y = let k = octant x y in if (eqb k octantCount) (λ _. errorWord) (λ _. numberText octantWord k)
-
--- `glyph N`: the glyph of any whole number; a negative one is no arrow.
-unfoldable pub glyphOf : ℤ → ℕ
-glyphOf = ifNatural glyph (byte "?")
-
--- The answer to a question on directions: `octant DX DY`, `arrow DISPLAYX DISPLAYY BAYX BAYY PITCH`, `glyph N`.
-unfoldable pub directionText : Direction → List ℕ
-directionText (direction.Octant x y) = octantText x y
-directionText (direction.Arrow x y u v pitch) = indicationText (arrow (point x y) (point u v) pitch)
-directionText (direction.Glyph n) = glyphText (glyphOf n)
 
 -- The call and the question of a line.
 unfoldable pub callFor : Change → call.Call

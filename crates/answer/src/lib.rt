@@ -4,14 +4,11 @@ use ascii::encode::join_lines;
 use deck::Deck;
 use deck::Outcome;
 use deckfile::Written;
+use directions::direction_line;
 use listing::LISTING_ROOM;
-use plane::octants::NO_OCTANT;
 use questions::Answer;
 use replies::answer_line;
 use replies::error_line;
-use replies::glyph_line;
-use replies::indication_line;
-use replies::octant_line;
 use replies::reply_line;
 use script::Change;
 use script::Command;
@@ -28,12 +25,10 @@ ghost use Rattle.deckfile.specs.Reading.{reading};
 ghost use Rattle.script.specs.declared.Command.the-variants as command;
 ghost use Rattle.script.specs.Commands.{longestFile, commandOf, fileInLine};
 ghost use Rattle.ascii.specs.Encoding.{joinedLines};
-ghost use Rattle.replies.specs.Replies.{errorWord, answerText, indicationText, glyphText};
-ghost use Rattle.plane.specs.Point.{point};
-ghost use Rattle.arrow.specs.Arrow as arrow;
+ghost use Rattle.replies.specs.Replies.{errorWord, answerText};
+ghost use Rattle.directions.specs.Directions.{directionText};
 ghost use Rattle.listing.specs.Whole.{deckText};
 ghost use Rattle.answer.specs.Play.{answerRoom, stays, changes, writeText, callFor, questionFor, lineOf, played, Plays};
-ghost use Rattle.answer.specs.Play.{octantText, glyphOf, directionText};
 
 // Room for any answer: the lines of a listing joined take three times as many bytes at most.
 pub const ANSWER_ROOM: usize = 3 * LISTING_ROOM;
@@ -130,62 +125,14 @@ fn write(d: Deck, capacity: u32, out: &mut [u8]) -> Played
     }
 }
 
-// The octant of a difference.
-fn octant(d: Deck, x: i32, y: i32, out: &mut [u8]) -> Played
-    requires { ⌜ answerRoom ≤ length (now out) ⌝ }
-    ensures { λ r. ⌜ Plays (stays d (octantText x y)) (now (out .entry)) (now (out .exit)) r ⌝ }
-{
-    let k = plane::octants::octant(x, y);
-    if k == NO_OCTANT {
-        return failed(d, out);
-    }
-    Played {
-        next: d,
-        size: octant_line(k as u64, out),
-    }
-}
-
-// The arrow from a display to a bay.
-fn arrow(d: Deck, x: i16, y: i16, u: i16, v: i16, pitch: i32, out: &mut [u8]) -> Played
-    requires { ⌜ answerRoom ≤ length (now out) ⌝ }
-    ensures { λ r. ⌜ Plays (stays d (indicationText (arrow.arrow (point x y) (point u v) pitch))) (now (out .entry)) (now (out .exit)) r ⌝ }
-{
-    Played {
-        next: d,
-        size: indication_line(arrow::arrow(x, y, u, v, pitch), out),
-    }
-}
-
-// The glyph of any number of 32 bits.
-fn glyph_of(n: i32) -> u8
-    ensures { λ r. ⌜ r ≡ glyphOf n ⌝ }
-{
-    if n < 0 {
-        return b'?';
-    }
-    arrow::glyph(n as u32)
-}
-
-// The glyph of a number.
-fn glyph(d: Deck, n: i32, out: &mut [u8]) -> Played
-    requires { ⌜ answerRoom ≤ length (now out) ⌝ }
-    ensures { λ r. ⌜ Plays (stays d (glyphText (glyphOf n))) (now (out .entry)) (now (out .exit)) r ⌝ }
-{
-    Played {
-        next: d,
-        size: glyph_line(glyph_of(n), out),
-    }
-}
-
 // Answers a question on directions.
 fn direct(d: Deck, q: Direction, out: &mut [u8]) -> Played
     requires { ⌜ answerRoom ≤ length (now out) ⌝ }
     ensures { λ r. ⌜ Plays (stays d (directionText q)) (now (out .entry)) (now (out .exit)) r ⌝ }
 {
-    match q {
-        Direction::Octant(x, y) => octant(d, x, y, out),
-        Direction::Arrow(x, y, u, v, pitch) => arrow(d, x, y, u, v, pitch, out),
-        Direction::Glyph(n) => glyph(d, n, out),
+    Played {
+        next: d,
+        size: direction_line(q, out),
     }
 }
 

@@ -1,6 +1,4 @@
 // Arrays of numbers, below everything else: no point and no graph is known here.
-pub mod narrow;
 pub mod number;
 pub mod paste;
 pub mod same;
-pub mod sorted;

@@ -75,7 +75,7 @@ fn add_at(d: WorkingDeck, k: u64, kind: u32) -> Changed
     let pins = d.form.points.pins;
     let npins = d.form.points.npins;
     let unknown = (LARGEST_KIND as u32) < kind;
-    let there = arrays::sorted::has(&pins, npins, k);
+    let there = sorted::has(&pins, npins, k);
     let full = MAX_PINS <= npins;
     if unknown {
         return refuse(d, 15);
@@ -101,7 +101,7 @@ fn withdraw_at(d: WorkingDeck, k: u64) -> Changed
     ensures { λ r. ⌜ ChangedBy d (call.withdraw (pointOf k)) r ⌝ }
 {
     let pins = d.form.points.pins;
-    if !arrays::sorted::has(&pins, d.form.points.npins, k) {
+    if !sorted::has(&pins, d.form.points.npins, k) {
         return refuse(d, 9);
     }
     let next = working::change::remove(d.form, k);

@@ -9,16 +9,16 @@ use deck::Deck;
 use deck::Outcome;
 use deck::changes::outcome_of;
 use deck::check::check;
+use header::PINS;
+use header::POINT_SIZE;
+use header::is_headed;
+use header::is_laid_out;
+use header::is_whole;
+use header::size;
 use points::MAX_PINS;
 use reader::refuse;
 use reader::working_of_file;
 use sections::codes::decode_points;
-use sections::header::PINS;
-use sections::header::POINT_SIZE;
-use sections::header::is_headed;
-use sections::header::is_laid_out;
-use sections::header::is_whole;
-use sections::header::size;
 use working::deck::WorkingDeck;
 use writer::file_length;
 use writer::put_file;
@@ -32,7 +32,7 @@ ghost use Rattle.deckfile.specs.ReadWorking.{ReadTo};
 ghost use Rattle.deckfile.specs.Writing.{storedAnswer, storedBuffer, written, bufferAfter};
 
 // The bytes of the longest file (SPEC 7.5).
-pub const LONGEST: usize = sections::header::LONGEST;
+pub const LONGEST: usize = header::LONGEST;
 
 // What writing answers: a refusal by its number, or the length of the file.
 pub enum Written {

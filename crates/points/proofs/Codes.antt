@@ -18,7 +18,7 @@ use Rattle.arrays.proofs.Order.{nat-order}
 use Rattle.arrays.proofs.Set.{put-in, put-sorted, out-in, out-sorted, rising-sorted}
 use Rattle.arrays.proofs.Test.{true-of, of-true}
 use Rattle.arrays.proofs.paste.Parts.{front-take, front-drop, front-count}
-use Rattle.arrays.proofs.sorted.Results.{removed-part, removed-behind, put-most, put-least, out-most}
+use Rattle.sorted.proofs.Results.{removed-part, removed-behind, put-most, put-least, out-most}
 use Rattle.plane.specs.Code.{code, isCode}
 use Rattle.plane.specs.Point.{Point, lower}
 use Rattle.plane.proofs.codes.Points.{AllInRange, map-codes, codes-are}

@@ -1,7 +1,7 @@
 // Points that join and leave.
 use super::Points;
-use arrays::sorted::out;
-use arrays::sorted::put;
+use sorted::out;
+use sorted::put;
 ghost use mathlib.Core.Path.{_≡_};
 ghost use mathlib.Core.List.{List·Memᴰ};
 ghost use Prim.Native.Nat.{_+_, _<_};

@@ -32,10 +32,10 @@ fn is_ordered(a: &[u64], n: usize) -> bool
     if !are_codes(a, n) {
         return false;
     }
-    if !arrays::sorted::rises(a, n) {
+    if !sorted::rises(a, n) {
         return false;
     }
-    arrays::sorted::zeros_from(a, n)
+    sorted::zeros_from(a, n)
 }
 
 // Returns whether the pins and the Steiner points are sets of codes apart from each other, few enough.
@@ -58,5 +58,5 @@ pub fn is_arranged(q: Points) -> bool
     if !is_ordered(&steiner, nsteiner) {
         return false;
     }
-    arrays::sorted::none_in(&pins, npins, &steiner, nsteiner)
+    sorted::none_in(&pins, npins, &steiner, nsteiner)
 }

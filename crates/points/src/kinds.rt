@@ -2,7 +2,7 @@
 use super::MAX_PINS;
 use arrays::paste::put_byte;
 use arrays::paste::put_bytes;
-use arrays::sorted::index_of;
+use sorted::index_of;
 ghost use mathlib.Core.Path.{_≡_};
 ghost use mathlib.Core.List.{map};
 ghost use Prim.Native.Nat.{ℕ, _≤_};

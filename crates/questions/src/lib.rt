@@ -48,14 +48,10 @@ fn degree_of(w: Working, k: u64) -> usize
 {
     let codes = w.codes;
     let keys = w.keys;
-    if !arrays::sorted::has(&codes, w.npoints, k) {
+    if !sorted::has(&codes, w.npoints, k) {
         return 0;
     }
-    tree::list::degree_of(
-        &keys,
-        w.nkeys,
-        arrays::sorted::index_of(&codes, w.npoints, k),
-    )
+    tree::list::degree_of(&keys, w.nkeys, sorted::index_of(&codes, w.npoints, k))
 }
 
 // Returns the length of the tree.

@@ -1,11 +1,11 @@
 // The sections of points: check 5.
-use super::header::LONGEST;
-use super::header::PINS;
-use super::header::POINT_SIZE;
-use super::header::SHORTEST;
-use super::header::STEINER;
-use super::header::offset;
-use super::header::size;
+use header::LONGEST;
+use header::PINS;
+use header::POINT_SIZE;
+use header::SHORTEST;
+use header::STEINER;
+use header::offset;
+use header::size;
 use plane::codes::Located;
 use plane::codes::locate;
 use plane::from_bytes;
@@ -69,8 +69,7 @@ fn are_placed(pins: &[u64], n: usize, steiner: &[u64], m: usize) -> bool
     requires { ⌜ (n ≤ length (now pins)) × (m ≤ length (now steiner)) ⌝ }
     ensures { λ r. ⌜ r ≡ placedCodes (take n (now (pins .entry))) (take m (now (steiner .entry))) ⌝ }
 {
-    arrays::sorted::rises(pins, n)
-        & (arrays::sorted::rises(steiner, m) & arrays::sorted::none_in(pins, n, steiner, m))
+    sorted::rises(pins, n) & (sorted::rises(steiner, m) & sorted::none_in(pins, n, steiner, m))
 }
 
 // The points of a file as codes, with zeros behind them.

@@ -1,6 +1,6 @@
 // The section of edges (SPEC 7.3: runs).
-use super::header::EDGE_SIZE;
 use arrays::number::wide;
+use header::EDGE_SIZE;
 use plane::PLACES;
 ghost use mathlib.Core.Path.{_≡_};
 ghost use Prim.Native.Nat.{_+_, _*_, _≤_};

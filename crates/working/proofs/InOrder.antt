@@ -18,7 +18,7 @@ use Rattle.model.specs.State.{points, Placed}
 use Rattle.arrays.proofs.Set.{union-in, union-sorted, rising-sorted, union-length}
 use Rattle.model.proofs.Candidate.{map-in}
 use Rattle.arrays.specs.Paste.{Pasted}
-use Rattle.arrays.proofs.sorted.Rise.{get-in, get-rises}
+use Rattle.sorted.proofs.Rise.{get-in, get-rises}
 use Rattle.tree.specs.Held.{held}
 use Rattle.tree.specs.Keys.{treeKeys}
 use Rattle.arrays.specs.Tab.{tab}

@@ -50,7 +50,7 @@ pub fn arrange(q: Points) -> Working
     let pins = q.pins;
     let steiner = q.steiner;
     let mut codes = [0u64; PLACES];
-    let npoints = arrays::sorted::union(&pins, q.npins, &steiner, q.nsteiner, &mut codes);
+    let npoints = sorted::union(&pins, q.npins, &steiner, q.nsteiner, &mut codes);
     let mut xs = [0u16; PLACES];
     let mut ys = [0u16; PLACES];
     unpack(&codes, npoints, &mut xs, &mut ys);

@@ -17,7 +17,7 @@ fn first_weak(codes: &[u64], n: usize, keys: &[u64], m: usize, steiner: &[u64], 
 {
     let mut j = 0;
     while j < t {
-        let i = arrays::sorted::index_of(codes, n, steiner[j]);
+        let i = sorted::index_of(codes, n, steiner[j]);
         if tree::list::degree_of(keys, m, i) <= 2 {
             return j;
         }

@@ -19,6 +19,7 @@ use reference::plane::Point;
 use reference::refusals::NOT_SOUND;
 use reference::session::{finish, Call, State};
 use std::collections::BTreeMap;
+use std::thread;
 
 /// What was seen: for each damage how many decks were not sound and how many were,
 /// and for each word and each kind how many that are not sound differ there.
@@ -26,6 +27,21 @@ struct Seen {
     damages: BTreeMap<&'static str, (usize, usize)>,
     words: [usize; WORDS],
     kinds: [usize; KIND_PLACES],
+}
+
+impl Seen {
+    /// Adds what was seen elsewhere.
+    fn add(&mut self, other: &Seen) {
+        for (name, counts) in &other.damages {
+            let sum = self.damages.entry(name).or_default();
+            *sum = (sum.0 + counts.0, sum.1 + counts.1);
+        }
+        let add = |sum: &mut usize, count: &usize| *sum += count;
+        let words = self.words.iter_mut().zip(&other.words);
+        words.for_each(|(sum, count)| add(sum, count));
+        let kinds = self.kinds.iter_mut().zip(&other.kinds);
+        kinds.for_each(|(sum, count)| add(sum, count));
+    }
 }
 
 /// Calls at places held, free and out of range, and with a kind that there is not;
@@ -95,6 +111,20 @@ fn damages(random: &mut Random, state: &State) -> Vec<Damaged> {
     all.extend(unused(&deck));
     all.extend(kinds(&deck));
     all
+}
+
+/// Does all damages to every second deck, from the one at `first` on.
+fn damage_half(states: &[State], first: usize) -> Seen {
+    let mut random = Random::new(51 + first as u64);
+    let mut seen = Seen {
+        damages: BTreeMap::new(),
+        words: [0; WORDS],
+        kinds: [0; KIND_PLACES],
+    };
+    for state in states.iter().skip(first).step_by(2) {
+        damage(&mut random, state, &mut seen);
+    }
+    seen
 }
 
 /// Does all damages to a deck, and counts them.
@@ -190,16 +220,14 @@ const LEAST: [(&str, usize, usize); 31] = [
 
 #[test]
 fn damaged_decks() {
-    let mut random = Random::new(51);
-    let mut seen = Seen {
-        damages: BTreeMap::new(),
-        words: [0; WORDS],
-        kinds: [0; KIND_PLACES],
-    };
+    let mut random = Random::new(50);
     let states = [special(&mut random), bases(&mut random)].concat();
-    for state in &states {
-        damage(&mut random, state, &mut seen);
-    }
+    let seen = thread::scope(|scope| {
+        let other = scope.spawn(|| damage_half(&states, 1));
+        let mut seen = damage_half(&states, 0);
+        seen.add(&other.join().expect("the other half"));
+        seen
+    });
     for (name, (refused, sound)) in &seen.damages {
         println!("{name}: {refused} refused, {sound} sound");
     }

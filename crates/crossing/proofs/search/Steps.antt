@@ -7,7 +7,7 @@ use lib.ListN.{length, take, drop, getD}
 use Rattle.plane.specs.Point.{Point}
 use Rattle.plane.specs.Coordinate.{coordinate}
 use Rattle.model.specs.Round.{column, crossings}
-use Rattle.arrays.proofs.sorted.Part.{next, at-end}
+use Rattle.sorted.proofs.Part.{next, at-end}
 use Rattle.score.specs.Gain.{tableAt, gain, raysAt}
 use Rattle.score.specs.Prepared.{Prepared}
 use Rattle.crossing.specs.declared.found.Greatest.{Greatest}

@@ -12,7 +12,7 @@ use Rattle.arrays.specs.Set.{put, out}
 use Rattle.arrays.proofs.Order.{nat-order}
 use Rattle.arrays.proofs.Set.{put-in, out-in}
 use Rattle.arrays.proofs.paste.Parts.{front-take, front-count}
-use Rattle.arrays.proofs.sorted.Results.{removed-part, put-most, out-most}
+use Rattle.sorted.proofs.Results.{removed-part, put-most, out-most}
 use Rattle.plane.specs.Code.{pointOf, isCode}
 use Rattle.plane.specs.Point.{lower}
 use Rattle.plane.proofs.codes.Sets.{points-put, points-out}

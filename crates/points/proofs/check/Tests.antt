@@ -13,7 +13,7 @@ use Rattle.arrays.specs.Set.{rising, all, has}
 use Rattle.arrays.proofs.Order.{nat-order}
 use Rattle.arrays.proofs.Set.{all-in, has-not}
 use Rattle.arrays.proofs.Test.{and-parts, and-both, true-of, of-true}
-use Rattle.arrays.proofs.sorted.Search.{all-zero}
+use Rattle.sorted.proofs.Search.{all-zero}
 use Rattle.plane.specs.Code.{isCode}
 use Rattle.model.specs.State.{maxPins}
 use Rattle.points.specs.declared.Points.{Points}

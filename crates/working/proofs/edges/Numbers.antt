@@ -15,7 +15,7 @@ use Rattle.arrays.specs.Paste.{Pasted}
 use Rattle.arrays.specs.Set.{tie, setOf}
 use Rattle.arrays.proofs.Set.{tie-eq, no-tie, set-of-in}
 use Rattle.arrays.proofs.Test.{by-test}
-use Rattle.arrays.proofs.sorted.Rise.{get-in}
+use Rattle.sorted.proofs.Rise.{get-in}
 use Rattle.arrays.proofs.paste.Parts.{front-is}
 use Rattle.plane.specs.Point.{Point, lower}
 use Rattle.plane.specs.Edge.{Edge, edgeLength, listedBefore, planar}

@@ -15,8 +15,8 @@ use Rattle.arrays.specs.Set.{has}
 use Rattle.arrays.specs.Test.{if}
 use Rattle.arrays.proofs.Order.{nat-order}
 use Rattle.arrays.proofs.Set.{out-length, has-in, union-in}
-use Rattle.arrays.proofs.sorted.Results.{index-has, index-at}
-use Rattle.arrays.proofs.sorted.Rise.{get-in}
+use Rattle.sorted.proofs.Results.{index-has, index-at}
+use Rattle.sorted.proofs.Rise.{get-in}
 use Rattle.plane.specs.Code.{pointOf, isCode}
 use Rattle.plane.specs.Edge.{Edge}
 use Rattle.plane.specs.Point.{Point, lower}

@@ -4,7 +4,7 @@ use borrow.Author.Tests.{not-true, not-false}
 use native.Mathlib.Omega.{arith}
 use borrow.Author.Needs.{needs}
 use Rattle.plane.specs.Code.{isCode}
-use Rattle.arrays.proofs.sorted.Scan.{Passed, passed-none, passed-more, passed-fail, passed-end}
+use Rattle.sorted.proofs.Scan.{Passed, passed-none, passed-more, passed-fail, passed-end}
 use Rattle.points.proofs.check.are_codes.Statement.{statement}
 use Rattle.points.proofs.check.are_codes.Tie as tie
 

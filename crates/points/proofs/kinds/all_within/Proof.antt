@@ -9,7 +9,7 @@ use lib.Seq.{take-length}
 use borrow.Author.Tests.{le-leb, lt-leb}
 use borrow.Author.Needs.{needs}
 use Rattle.arrays.specs.Set.{all}
-use Rattle.arrays.proofs.sorted.Scan.{Passed, passed-none, passed-more, passed-fail, passed-end}
+use Rattle.sorted.proofs.Scan.{Passed, passed-none, passed-more, passed-fail, passed-end}
 use Rattle.points.proofs.kinds.all_within.Statement.{statement}
 use Rattle.points.proofs.kinds.all_within.Tie as tie
 

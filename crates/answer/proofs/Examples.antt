@@ -1,7 +1,0 @@
--- The examples hold: the definitions compute them.
-use mathlib.Core.Path.{refl}
-use Rattle.answer.specs.Examples.{answers, texts, Directions}
-
-pub directions : Directions
-unfolding answers texts
-directions = refl

@@ -1,0 +1,3 @@
+-- What the proofs of directions use, and the examples.
+pub mod Examples
+pub mod Octant
