@@ -6,6 +6,7 @@ use working::deck::WorkingDeck;
 use working::edges::CodedEdge;
 use working::edges::edge_at;
 use working::edges::edge_numbers;
+use working::edges::length_of;
 ghost use mathlib.Core.Path.{_≡_};
 ghost use Prim.Native.Nat.{_≤_};
 ghost use lib.ListN.{length};
@@ -35,7 +36,7 @@ pub fn measure(d: WorkingDeck) -> Measures
         pins: d.form.points.npins as u64,
         steiner: d.form.points.nsteiner as u64,
         edges: d.form.nkeys as u64,
-        length: rounds::length_of(d.form),
+        length: length_of(d.form),
     }
 }
 

@@ -1,16 +1,12 @@
 -- A working form has what the search for the best crossing asks for, and the search is over the points of its state.
-use mathlib.Core.Path.{_≡_, ap, _∙_}
+use mathlib.Core.Path.{_≡_, ap}
 use native.Mathlib.Omega.{arith}
-use lib.ListN.{length, take}
-use Rattle.spanning.specs.Graph.{total}
+use lib.ListN.{length}
 use Rattle.model.specs.State.{points}
-use Rattle.model.specs.Tree.{treeLength}
 use Rattle.model.specs.Round.{best}
-use Rattle.tree.specs.Keys.{weight}
 use Rattle.working.specs.declared.Working.{Working}
 use Rattle.working.specs.InOrder.{InOrder, stateOf}
 use Rattle.crossing.specs.Search.{TreeGiven, pointsOf, answerOf}
-use Rattle.crossing.proofs.Sum.{keys-length}
 
 module _ (w : Working) (p : InOrder w) (hx : length (w .xs) ≡ 128) (hy : length (w .ys) ≡ 128) (hk : length (w .keys) ≡ 136) where
   pub given : TreeGiven (w .xs) (w .ys) (w .npoints) (w .keys) (w .nkeys)
@@ -23,9 +19,6 @@ module _ (w : Working) (p : InOrder w) (hx : length (w .xs) ≡ 128) (hy : lengt
         within = omega (arith, p .keysFew);
         tree = p .tree;
       }
-
-  pub length-is : total weight (take (w .nkeys) (w .keys)) ≡ treeLength (points (stateOf w))
-  length-is = keys-length given ∙ ap treeLength (p .points)
 
   pub best-is : answerOf (best (pointsOf (w .xs) (w .ys) (w .npoints))) ≡ answerOf (best (points (stateOf w)))
   best-is = ap (λ ps. answerOf (best ps)) (p .points)

@@ -2,6 +2,7 @@
 // show that it is, as the check of a deck does.
 use crossing::found::Best;
 use working::Working;
+use working::edges::length_of;
 ghost use mathlib.Core.Path.{_≡_};
 ghost use Rattle.model.specs.State.{Valid, points};
 ghost use Rattle.model.specs.Tree.{treeLength};
@@ -27,15 +28,6 @@ pub struct Rounded {
 pub struct Ended {
     pub working: Working,
     pub count: u64,
-}
-
-// Returns the length of the tree of a working form.
-pub fn length_of(w: Working) -> u64
-    requires { ⌜ work.InOrder w ⌝ }
-    ensures { λ r. ⌜ r ≡ treeLength (points (work.stateOf w)) ⌝ }
-{
-    let keys = w.keys;
-    tree::list::total_of(&keys, w.nkeys)
 }
 
 // The lowest crossing of greatest saving, if one saves more than 0.

@@ -8,6 +8,8 @@ ghost use mathlib.Core.Path.{_≡_};
 ghost use Prim.Native.Nat.{_<_};
 ghost use Rattle.plane.specs.Point.{dist};
 ghost use Rattle.plane.specs.Code.{pointOf};
+ghost use Rattle.model.specs.State.{points};
+ghost use Rattle.model.specs.Tree.{treeLength};
 ghost use Rattle.working.specs.InOrder.{InOrder, stateOf};
 ghost use Rattle.working.specs.Edges.{edgeRow, EdgeAt};
 
@@ -16,6 +18,15 @@ pub struct CodedEdge {
     pub low: u64,
     pub high: u64,
     pub distance: u64,
+}
+
+// Returns the length of the tree.
+pub fn length_of(w: Working) -> u64
+    requires { ⌜ InOrder w ⌝ }
+    ensures { λ r. ⌜ r ≡ treeLength (points (stateOf w)) ⌝ }
+{
+    let keys = w.keys;
+    tree::list::total_of(&keys, w.nkeys)
 }
 
 // Returns the edges of the tree in the listing order, each by the numbers of its two ends in one, with zeros behind.

@@ -12,6 +12,7 @@ use lib.Dec.{T, ltb}
 use lib.ListN.{length, take, getD, getElem?, replicate, length-map}
 use lib.Seq.{getD-take}
 use Rattle.arrays.specs.Paste.{Pasted}
+use Rattle.spanning.specs.Graph.{total}
 use Rattle.arrays.specs.Set.{tie, setOf}
 use Rattle.arrays.proofs.Set.{tie-eq, no-tie, set-of-in}
 use Rattle.arrays.proofs.Test.{by-test}
@@ -21,7 +22,7 @@ use Rattle.plane.specs.Point.{Point, lower}
 use Rattle.plane.specs.Edge.{Edge, edgeLength, listedBefore, planar}
 use Rattle.plane.specs.Code.{pointOf, isCode}
 use Rattle.plane.proofs.Order.{lower-order, listed-order}
-use Rattle.model.specs.Tree.{mst}
+use Rattle.model.specs.Tree.{mst, treeLength}
 use Rattle.model.specs.State.{State, points}
 use Rattle.model.specs.Question.{listed, edgeCount}
 use Rattle.model.specs.File.{numberOf}
@@ -29,7 +30,8 @@ use Rattle.model.proofs.Tree.{mst-run-tree}
 use Rattle.model.proofs.Prune.{points-rise}
 use Rattle.model.proofs.FileSize.{listed-count, number-below}
 use Rattle.tree.specs.Held.{held}
-use Rattle.tree.specs.Keys.{edgeOf as edgeOfKey, treeKeys, endsOf, endsAt}
+use Rattle.tree.specs.Keys.{edgeOf as edgeOfKey, weight, treeKeys, endsOf, endsAt}
+use Rattle.tree.proofs.Lengths.{rising-total}
 use Rattle.tree.proofs.Numbers.{ends-listed}
 use Rattle.tree.proofs.Sorted.{tree-keys-mst}
 use Rattle.points.specs.Coded.{padded, places}
@@ -69,6 +71,11 @@ module _ (w : Working) (p : InOrder w) where
   row-is ends r f =
       let l = setOf ltb (map endsOf (take (w .nkeys) (w .keys))) in
       front-is f ∙ ap (λ (z : List ℕ). l ++ z) (drop-zeros (length l) places) ∙ ap (padded places) ends-are
+
+  -- The total of the keys is the length of the tree.
+  pub length-is : total weight (take (w .nkeys) (w .keys)) ≡ treeLength (points (stateOf w))
+  length-is =
+      ap (total weight) (p .tree) ∙ rising-total (held (w .xs) (w .ys)) (w .npoints) (omega (arith, p .few)) (p .rises) ∙ ap treeLength (p .points)
 
   -- How many edges there are.
   pub edge-count : w .nkeys ≡ edgeCount (stateOf w)
