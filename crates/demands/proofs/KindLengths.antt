@@ -1,5 +1,5 @@
 -- Cable by kind on a deck, from the claim on contents: the questions and the listing of a sound deck are those of its contents.
-use mathlib.Core.Path.{_≡_, sym, ap, _∙_}
+use mathlib.Core.Path.{sym, ap, _∙_}
 use mathlib.Core.List.{List, _++_}
 use Prim.Native.Nat.{ℕ, _+_}
 use Rattle.model.specs.Contents.{Contents}

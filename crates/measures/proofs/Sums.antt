@@ -1,11 +1,11 @@
 -- The lengths of the edges passed, kind by kind: one edge more is added to the sum of its kind, which is looked up by the codes of its ends.
-use mathlib.Core.Path.{_≡_, refl, sym, ap, _∙_, subst, subst⁻¹}
-use mathlib.Core.List.{List, [], _∷_, _++_}
+use mathlib.Core.Path.{_≡_, refl, sym, ap, _∙_}
+use mathlib.Core.List.{List, [], _∷_}
 use Prim.Native.Nat.{ℕ, zero, suc, _+_, _*_, _≤_, max}
 use native.Mathlib.Nat.{add-zero}
 use native.Mathlib.Omega.{arith}
 use lib.Dec.{T, ltb, eqb}
-use lib.ListN.{length, take, getD, set}
+use lib.ListN.{take, getD, set}
 use lib.Seq.{take-all}
 use Rattle.arrays.specs.Beside.{beside}
 use Rattle.arrays.proofs.Test.{by-test}

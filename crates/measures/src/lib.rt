@@ -17,7 +17,7 @@ ghost use Rattle.working.specs.WorkingDeck.{contentsOf};
 ghost use Rattle.measures.specs.Measures.{measuresOf, codedKind};
 
 // How many kinds of devices there are.
-pub const KINDS: usize = 3;
+pub const KIND_COUNT: usize = 3;
 
 // The numbers of pins, Steiner points and edges, and the length of the tree.
 pub struct Measures {
@@ -51,7 +51,7 @@ fn edge_kind(e: CodedEdge, pins: &[u64], kinds: &[u8], n: usize) -> u64
 }
 
 // Returns how long the edges of each kind of device are together.
-pub fn kind_lengths(d: WorkingDeck) -> [u64; KINDS]
+pub fn kind_lengths(d: WorkingDeck) -> [u64; KIND_COUNT]
     requires { ⌜ InOrder (d .form) ⌝ }
     requires { ⌜ ValidContents (contentsOf d) ⌝ }
     ensures { λ r. ⌜ r ≡ kindLengths (contentsOf d) ⌝ }
@@ -59,7 +59,7 @@ pub fn kind_lengths(d: WorkingDeck) -> [u64; KINDS]
     let pins = d.form.points.pins;
     let kinds = d.kinds;
     let ends = edge_numbers(d.form);
-    let mut sums = [0u64; KINDS];
+    let mut sums = [0u64; KIND_COUNT];
     let mut i = 0;
     while i < d.form.nkeys {
         let e = edge_at(d.form, &ends, i);

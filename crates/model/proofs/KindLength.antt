@@ -3,7 +3,7 @@
 use mathlib.Core.Path.{_≡_, refl, sym, ap, _∙_, subst}
 use mathlib.Core.Logic.{_↔_, _⊎_, inl, inr, ⊎-elim}
 use mathlib.Core.Bool.{Bool, true, false}
-use mathlib.Core.List.{List, [], _∷_, _++_, List·Memᴰ, List·Memᴰ·head as head, List·Memᴰ·tail as tail}
+use mathlib.Core.List.{List, [], _∷_, _++_, List·Memᴰ}
 use Prim.Native.Nat.{ℕ, zero, suc, _+_, _≤_}
 use native.Mathlib.Decide.{decLe}
 use native.Mathlib.Omega.{arith}
@@ -11,7 +11,7 @@ use lib.Dec.{T, eqb, eqb→eq}
 use lib.Ieee.Fits.{eq→eqb}
 use Rattle.arrays.specs.Test.{if}
 use Rattle.arrays.specs.Set.{has, passing}
-use Rattle.arrays.proofs.Test.{by-test, of-true}
+use Rattle.arrays.proofs.Test.{of-true}
 use Rattle.arrays.proofs.Set.{has-in, passing-in, set-of-in, set-of-sorted}
 use Rattle.arrays.proofs.Members.{sorted-distinct}
 use Rattle.arrays.proofs.Beside.{beside-one, beside-none}
@@ -21,11 +21,10 @@ use Rattle.plane.specs.Point.{Point, lower}
 use Rattle.plane.specs.Edge.{Edge, edgeLength, listedBefore}
 use Rattle.plane.proofs.Order.{lower-order, listed-order, before-order}
 use Rattle.model.specs.Tree.{treeLength}
-use Rattle.model.specs.State.{State, Placed}
 use Rattle.model.specs.DeviceKinds.{sensor, largestKind}
 use Rattle.model.specs.Contents.{Contents, kindAt, ValidContents}
 use Rattle.model.specs.Question.{treeOf, listed, lengthOfState}
-use Rattle.model.specs.KindLength.{runKind, ofKind, lengthIn, kindLength, AtEnd, RunKind, KindLengths}
+use Rattle.model.specs.KindLength.{runKind, ofKind, lengthIn, AtEnd, RunKind, KindLengths}
 use Rattle.model.proofs.FileSize.{tree-of}
 
 -- The kind of a run and the relation.

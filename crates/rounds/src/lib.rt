@@ -5,7 +5,6 @@ use working::Working;
 use working::edges::length_of;
 ghost use mathlib.Core.Path.{_≡_};
 ghost use Rattle.model.specs.State.{Valid, points};
-ghost use Rattle.model.specs.Tree.{treeLength};
 ghost use Rattle.model.specs.Round as round;
 ghost use Rattle.working.specs.InOrder as work;
 ghost use Rattle.crossing.specs.Search.{answerOf};
