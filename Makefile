@@ -31,20 +31,22 @@ replay_library: ## lists of calls for C: target/staticlib/libreplay.a
 display_library: ## arrows on displays for C: target/staticlib/libdisplay.a
 	rt staticlib display
 
-# The proved functions as libraries for the tests in Rust, the longest first. Side by side only where all they need is proved already.
-entries: entry_test_deck entry_replay entry_test_tree entry_planner entry_display ## the proved functions as libraries for the tests
-
-entry_%:
-	rt staticlib $*
+# The proved functions as libraries for the tests in Rust. One after the other: two at a time would get in each other's way in target/.
+entries: ## the proved functions as libraries for the tests
+	rt staticlib test_tree
+	rt staticlib test_deck
+	rt staticlib planner
+	rt staticlib replay
+	rt staticlib display
 
 # The prover over every crate, then the tests on what it proved.
 test: ## the gate: the prover over every crate, then the tests; the last line is the verdict
 	sh tests/gate/gate.sh $(MAKE) -s tests
 
-# The libraries first; the programs are in target/bin already. The comparison leaves a processor free at times, for the other tests.
+# The libraries are linked beside the tests that need none of them; the programs are in target/bin already.
 tests: ## the tests alone, once the prover has passed
-	$(MAKE) -s -j2 -O entries
-	$(MAKE) -s -j2 -O compare_tests gate_tests
+	$(MAKE) -s -j2 -O entries gate_tests
+	$(MAKE) -s compare_tests
 
 reference_tests: ## the tests of the independent implementation
 	cd tests/reference && cargo test --release --offline --quiet

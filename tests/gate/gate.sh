@@ -22,9 +22,8 @@ store=$(mktemp -d) || fail "no room for the prover's output"
 trap 'rm -rf "$store"' EXIT
 
 rt fmt --check || fail "the layout of the sources"
-# The prover starts its checks in batches, and a batch ends with its slowest: four times as many at a time as there are processors. A check
-# takes some 0.6 GB; where there is less memory, RT_JOBS says how many.
-RT_JOBS=${RT_JOBS:-$(($(nproc) * 4))}
+# The prover starts its checks in batches, and a batch ends with its slowest: twice as many at a time as there are processors.
+RT_JOBS=${RT_JOBS:-$(($(nproc) * 2))}
 export RT_JOBS
 {
     rt ci 2>&1
