@@ -35,7 +35,7 @@ headText m = numbersLine deckWord (m .pins) (m .steiner) (m .length)
 abbrev kindsText : List ℕ → List ℕ
 kindsText l = numbersLine kindsWord (getD l 0 0) (getD l 1 0) (getD l 2 0)
 
-pub listing-put : (d : WorkingDeck) (m : Measures) (l : List ℕ) → (let c = workingDeck.contentsOf d in m ≡ measuresOf c) → (let c = workingDeck.contentsOf d in l ≡ kindLengths c)
+pub listing-put : (d : WorkingDeck) (m : Measures) (l : List ℕ) → m ≡ measuresOf (workingDeck.contentsOf d) → l ≡ kindLengths (workingDeck.contentsOf d)
     → {old new : List ℕ} {at r : ℕ}
     → (let s = work.stateOf (d .form) in Pasted (headText m ++ (kindsText l ++ (tapLines (s .steiner) ++ runLines (question.listed s)))) old new at r)
     → Pasted (listing (workingDeck.contentsOf d)) old new at r

@@ -64,7 +64,8 @@ module _ (d : WorkingDeck) where
       }
 
   -- The kind by the codes of the ends is that of the edge.
-  pub kind-is : (p : InOrder (d .form)) (v : ValidContents c) {i r : ℕ} {e : CodedEdge} → EdgeAt (stateOf (d .form)) i e → r ≡ codedKind e (d .form .points .pins) (d .kinds) (d .form .points .npins)
+  pub kind-is : (p : InOrder (d .form)) (v : ValidContents c) {i r : ℕ} {e : CodedEdge}
+      → EdgeAt (stateOf (d .form)) i e → r ≡ codedKind e (d .form .points .pins) (d .kinds) (d .form .points .npins)
       → (r ≡ runKind c (edgeOf e)) × (r ≤ largestKind)
   unfolding runKind
   kind-is p v {e = e} at is =

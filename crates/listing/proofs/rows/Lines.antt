@@ -66,7 +66,8 @@ tap-more codes i h =
 
 pub run-more : (s : State) (i : ℕ) (e : CodedEdge) → EdgeAt s i e → runText (listed s) (i + 1) ≡ runText (listed s) i ++ runLine (edgeOf e) (e .distance)
 run-more s i e f =
-    ap runLines (edges-more s i e f) ∙ runs-more (take i (listed s)) (edgeOf e) ∙ ap (λ (n : ℕ). runText (listed s) i ++ runLine (edgeOf e) n) (sym (f .measured))
+    ap runLines (edges-more s i e f) ∙ runs-more (take i (listed s)) (edgeOf e)
+    ∙ ap (λ (n : ℕ). runText (listed s) i ++ runLine (edgeOf e) n) (sym (f .measured))
 
 pub run-all : (s : State) (m : ℕ) → length (listed s) ≤ m → runText (listed s) m ≡ runLines (listed s)
 run-all s m h = ap runLines (take-all m (listed s) h)
