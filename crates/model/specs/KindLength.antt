@@ -32,11 +32,12 @@ kindLength c k = lengthIn c (listed (c .state)) k
 abbrev pub kindLengths : Contents → List ℕ
 kindLengths c = kindLength c 0 ∷ kindLength c 1 ∷ kindLength c 2 ∷ []
 
--- The kind of a run, apart from how it is worked out: no pin at an end of it is of a larger kind, and one there is of this kind unless it is that of
--- a sensor.
+-- A point is an end of a run.
 abbrev pub AtEnd : Point → Edge → Type 0
 AtEnd p e = (p ≡ e .lo) ⊎ (p ≡ e .hi)
 
+-- The kind of a run, apart from how it is worked out: no pin at an end of it is of a larger kind, and one there is of this kind unless it is that of
+-- a sensor.
 pub record RunKind (c : Contents) (e : Edge) (k : ℕ) : Type 0 where
   pub largest : (p : Point) → AtEnd p e → List·Memᴰ p (c .state .pins) → kindAt c p ≤ k
   pub held : (k ≡ sensor) ⊎ ((p : Point) × AtEnd p e × List·Memᴰ p (c .state .pins) × (kindAt c p ≡ k))
