@@ -15,10 +15,10 @@ use Rattle.arrays.proofs.Test.{and-parts, and-both, true-of, of-true, false-of}
 use Rattle.model.specs.Refusal.{firstFailed, FirstFailed}
 use Rattle.model.proofs.Refusal.{first-failed}
 use Rattle.plane.specs.Point.{Point}
-use Rattle.plane.specs.Octant.{inOctant, octant}
+use Rattle.octants.specs.Octant.{inOctant, octant}
 use Rattle.plane.proofs.Whole.{sub-value, abs-value, whole-ext}
-use Rattle.plane.proofs.Octant.{octant-is, one-octant}
-use Rattle.plane.proofs.octants.Between.{octant-most, octant-none}
+use Rattle.octants.proofs.OneOctant.{octant-is, one-octant}
+use Rattle.octants.proofs.Between.{octant-most, octant-none}
 use Rattle.plane.proofs.Stored.{moved}
 use Rattle.arrow.specs.declared.Indication.{Indication}
 use Rattle.arrow.specs.declared.Indication.the-variants as indication

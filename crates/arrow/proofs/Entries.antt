@@ -9,7 +9,7 @@ use lib.ListN.{getD}
 use mir.Syntax.{w32}
 use mir.Val.{SFits}
 use Rattle.arrays.proofs.Signed.{read, read-is, read-one}
-use Rattle.plane.specs.Octant.{octant}
+use Rattle.octants.specs.Octant.{octant}
 use Rattle.plane.proofs.Signed.{raised, lowered, lowered-fits}
 use Rattle.arrow.specs.Table.{tableLimit, rowLength, inTable, differenceAt, offset, entryAt, arrowTable, entry}
 

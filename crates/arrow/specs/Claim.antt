@@ -10,7 +10,7 @@ use lib.ListN.{length, getD}
 use lib.Signed.{leZ}
 use Rattle.arrays.specs.Text.{byte}
 use Rattle.plane.specs.Point.{Point}
-use Rattle.plane.specs.Octant.{inOctant, octant}
+use Rattle.octants.specs.Octant.{inOctant, octant}
 use Rattle.arrow.specs.declared.Indication.the-variants as indication
 use Rattle.arrow.specs.Table.{arrowTable}
 use Rattle.arrow.specs.Arrow.{arrow, glyph}

@@ -6,7 +6,7 @@ use lib.Dec.{leb}
 use lib.IntN.{ℤ, pos, natAbs, subℕ, _+ℤ_}
 use lib.ListN.{getD}
 use Rattle.arrays.specs.Tab.{tab}
-use Rattle.plane.specs.Octant.{octant}
+use Rattle.octants.specs.Octant.{octant}
 
 -- The largest difference in the table, and without its sign the smallest; how many entries a row has, which are those of one dy, and
 -- how many the table has.

@@ -1,6 +1,6 @@
 // The table of arrows: the constant, and the same numbers worked out by the octants.
 use super::constant::ARROWS;
-use plane::octants::octant;
+use octants::octant;
 ghost use mathlib.Core.Path.{_≡_};
 ghost use Rattle.arrow.specs.Table.{arrowTable};
 

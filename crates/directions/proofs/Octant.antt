@@ -9,7 +9,7 @@ use mir.Syntax.{w32}
 use mir.Val.{SFits}
 use Rattle.arrays.specs.Test.{if}
 use Rattle.arrays.proofs.Signed.{read, read-two}
-use Rattle.plane.specs.Octant.{octant}
+use Rattle.octants.specs.Octant.{octant}
 use Rattle.replies.specs.Replies.{errorWord, octantWord, numberText}
 use Rattle.directions.specs.Directions.{octantText}
 

@@ -6,7 +6,7 @@ use lib.IntN.{ℤ}
 use Rattle.arrays.specs.Test.{if, ifNatural}
 use Rattle.arrays.specs.Text.{byte}
 use Rattle.plane.specs.Point.{point}
-use Rattle.plane.specs.Octant.{octantCount, octant}
+use Rattle.octants.specs.Octant.{octantCount, octant}
 use Rattle.arrow.specs.Arrow.{arrow, glyph}
 use Rattle.script.specs.declared.Direction.{Direction}
 use Rattle.script.specs.declared.Direction.the-variants as direction

@@ -6,7 +6,7 @@ use Prim.Native.String.{String}
 use lib.IntN.{pos, negsuc}
 use Rattle.arrays.specs.Tab.{tab}
 use Rattle.arrays.specs.Text.{bytes}
-use Rattle.plane.specs.Octant.{conditions, firstTrue, octant}
+use Rattle.octants.specs.Octant.{conditions, firstTrue, octant}
 use Rattle.model.specs.Refusal.{firstFailed}
 use Rattle.model.specs.Listing.{digitsFrom}
 use Rattle.arrow.specs.Table.{entryAt, arrowTable, entry}

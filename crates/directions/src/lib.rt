@@ -1,6 +1,6 @@
 // Answers to questions on directions, for which no deck is needed: the line of an octant, of an arrow, of a glyph.
-use plane::octants::NO_OCTANT;
-use plane::octants::octant;
+use octants::NO_OCTANT;
+use octants::octant;
 use replies::error_line;
 use replies::glyph_line;
 use replies::indication_line;

@@ -1,7 +1,7 @@
 -- The table of decks, each row by computation: it holds, and the file of the last state of a row of calls reads back to that state.
 use mathlib.Core.Path.{refl}
 use Rattle.arrays.specs.Set.{Each}
-use Rattle.plane.specs.OctantTable.{octants}
+use Rattle.octants.specs.OctantTable.{octants}
 use Rattle.model.specs.Decks.{deckRow, Holds, Filed, play, halfAround, filed}
 use Rattle.model.specs.Example.{ExampleListing, exampleFile, exampleText, listingAnswer}
 use Rattle.model.specs.Table.{table, deck1, deck2, deck3, deck4, deck5, deck6, deck7, deck8, deck9, deck10, deck11}

@@ -8,7 +8,7 @@ use Rattle.spanning.specs.Kruskal.{comp, kruskal}
 use Rattle.plane.specs.Point.{Point, lower, gap, dist, pointDec}
 use Rattle.plane.specs.Edge.{Edge, before, listedBefore, planar}
 use Rattle.plane.specs.Coordinate.{signed16, word16}
-use Rattle.plane.specs.OctantTable.{octants}
+use Rattle.octants.specs.OctantTable.{octants}
 use Rattle.plane.specs.Box.{extreme, spread, halfPerimeter}
 use Rattle.arrays.specs.Beside.{beside}
 use Rattle.arrays.specs.Set.{put, out, has, union, rising, all, passing}

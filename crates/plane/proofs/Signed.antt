@@ -12,14 +12,11 @@ use lib.Signed.{nonNeg, ltZ, leZ}
 use mir.Syntax.{Width, w16, w32}
 use mir.Val.{Fits, SFits}
 use Rattle.plane.specs.Coordinate.{base}
-use Rattle.plane.specs.Octant.{octant}
-use Rattle.arrays.proofs.Signed.{read, read-is, read-one, read-two}
+use Rattle.arrays.proofs.Signed.{read, read-is, read-one}
 use Rattle.arrays.proofs.Test.{and-parts, and-both, same-test}
 use Rattle.plane.proofs.Whole.{plus, minus, one-sided, abs-value, sub-value, add-value, difference-value, whole-ext}
 use Rattle.plane.proofs.Whole.{less-value, value-less, atmost-value, value-atmost}
 use Rattle.plane.proofs.Stored.{moved}
-use Rattle.plane.proofs.Sector.{SectorOf}
-use Rattle.plane.proofs.octants.Between.{sector-octant, octant-none}
 
 -- What a test says.
 pub less-yes : (a b : ℤ) → ltZ a b ≡ true → plus a + minus b < plus b + minus a
@@ -64,13 +61,6 @@ sum-fits a b f g h k =
     fits-by (a +ℤ b)
     (⊎-elim (λ e. omega (arith, bounds a f, add-value a b)) (λ e. omega (arith, bounds a f, add-value a b)) (one-sided (a +ℤ b)))
     (⊎-elim (λ e. omega (arith, bounds b g, add-value a b)) (λ e. omega (arith, bounds b g, add-value a b)) (one-sided (a +ℤ b)))
-
--- The octant of two numbers, by what is read back from their bits.
-pub read-octant : (k : ℕ) (dx dy : ℤ) → SFits w32 dx → SFits w32 dy → SectorOf k (read dx) (read dy) → k ≡ octant dx dy
-read-octant k dx dy f g s = sym (sector-octant k (read dx) (read dy) s) ∙ read-two octant dx dy f g
-
-pub read-none : (dx dy : ℤ) → SFits w32 dx → SFits w32 dy → plus (read dx) ≡ minus (read dx) → plus (read dy) ≡ minus (read dy) → 8 ≡ octant dx dy
-read-none dx dy f g e h = sym (octant-none (read dx) (read dy) e h) ∙ read-two octant dx dy f g
 
 -- A number that is at most so large without its sign lies between two bounds.
 pub between : (k : ℕ) (z : ℤ) → leZ (negsuc k) z && leZ z (pos (suc k)) ≡ leb (natAbs z) (suc k)

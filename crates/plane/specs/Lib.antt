@@ -2,9 +2,6 @@ pub mod Box
 pub mod Code
 pub mod Coordinate
 pub mod Edge
-pub mod Nearest
-pub mod Octant
-pub mod OctantTable
 pub mod Places
 pub mod Point
 pub mod Stored

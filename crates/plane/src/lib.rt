@@ -1,10 +1,9 @@
-// The plane of a deck: points, distances, the orders and the octants.
+// The plane of a deck: points, distances and the orders.
 //
 // A stored coordinate is a u16 that holds the coordinate plus 30,000. Every function here takes all values of its parameters,
 // also stored coordinates above 60,000, which no point in range has.
 pub mod codes;
 pub mod numbers;
-pub mod octants;
 
 ghost use mathlib.Core.Path.{_≡_};
 ghost use Prim.Native.Nat.{_≤_};

@@ -7,10 +7,10 @@ use Rattle.spanning.specs.Graph.{Graph}
 use Rattle.spanning.specs.Kruskal.{kruskal}
 use Rattle.arrays.specs.Test.{if}
 use Rattle.plane.specs.Point.{Point, dist}
-pub use Rattle.plane.specs.Octant.{octantCount}
+pub use Rattle.octants.specs.Octant.{octantCount}
 pub use Rattle.plane.specs.Places.{places}
 use Rattle.plane.specs.Edge.{Edge}
-use Rattle.plane.specs.Nearest.{inOctantOf}
+use Rattle.octants.specs.Nearest.{inOctantOf}
 use Rattle.arrays.specs.Set.{union}
 use Rattle.arrays.specs.Tab.{tab}
 use Rattle.model.specs.File.{numberOf}

@@ -1,7 +1,7 @@
 // The nearest points of a new one, by octants.
 use super::keys::NO_KEY;
 use super::keys::key;
-use plane::octants::OCTANTS;
+use octants::OCTANTS;
 ghost use mathlib.Core.Path.{_≡_};
 ghost use Prim.Native.Nat.{_≤_, _<_};
 ghost use lib.ListN.{length};
@@ -17,7 +17,7 @@ pub fn nearest(xs: &[u16], ys: &[u16], n: usize, x: u16, y: u16) -> [u64; OCTANT
     let mut best = [NO_KEY; OCTANTS];
     let mut j: usize = 0;
     while j < n {
-        let o = plane::octants::octant_between(x, y, xs[j], ys[j]) as usize;
+        let o = octants::octant_between(x, y, xs[j], ys[j]) as usize;
         let k = key(plane::distance(xs[j], ys[j], x, y), j, n);
         if o < OCTANTS {
             best[o] = plane::numbers::smaller(k, best[o]);

@@ -4,7 +4,7 @@ pub mod deck;
 pub mod edges;
 pub mod prune;
 
-use plane::octants::OCTANTS;
+use octants::OCTANTS;
 use points::PLACES;
 use points::Points;
 ghost use mathlib.Core.Path.{_≡_};

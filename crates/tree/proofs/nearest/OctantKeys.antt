@@ -9,10 +9,10 @@ use lib.Dec.{T, T-not}
 use lib.ListN.{length, getD, set}
 use lib.IntN.{ℤ, _-ℤ_}
 use Rattle.plane.specs.Point.{Point, dist}
-use Rattle.plane.specs.Octant.{conditions, inOctant, firstTrue, octant}
-use Rattle.plane.specs.Nearest.{inOctantOf}
+use Rattle.octants.specs.Octant.{conditions, inOctant, firstTrue, octant}
+use Rattle.octants.specs.Nearest.{inOctantOf}
 use Rattle.arrays.proofs.Test.{by-test}
-use Rattle.plane.proofs.Octant.{octant-is}
+use Rattle.octants.proofs.OneOctant.{octant-is}
 use Rattle.tree.specs.Keys.{key, leastKey}
 use Rattle.arrays.specs.Tab.{tab}
 use Rattle.arrays.proofs.Tab.{tab-get, tab-same, tab-set}

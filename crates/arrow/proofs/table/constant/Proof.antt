@@ -2,7 +2,7 @@
 use Rattle.arrays.specs.Same.{sameList}
 use Rattle.arrays.specs.Tab.{tab}
 use Rattle.arrays.proofs.same.Alike.{same-eq}
-use Rattle.plane.specs.Octant.{conditions, firstTrue, octant}
+use Rattle.octants.specs.Octant.{conditions, firstTrue, octant}
 use Rattle.arrow.specs.Table.{entryAt, arrowTable}
 use Rattle.arrow.proofs.table.constant.Statement.{statement}
 use Rattle.arrow.proofs.table.constant.Tie as tie

@@ -9,16 +9,16 @@ use native.Mathlib.Omega.{arith}
 use lib.Dec.{T, leb, leb→le, nleb→lt}
 use lib.ListN.{length}
 use lib.IntN.{ℤ, pos, _-ℤ_}
 use Rattle.plane.specs.Point.{Point, lower}
 use Rattle.plane.specs.Coordinate.{coordinate}
-use Rattle.plane.specs.Octant.{conditions, firstTrue, octant}
+use Rattle.octants.specs.Octant.{conditions, firstTrue, octant}
 use Rattle.plane.specs.Stored.{one, pointAt}
 use Rattle.plane.proofs.Whole.{plus, minus, whole-ext, difference-value}
 use Rattle.arrays.proofs.Order.{tied}
 use Rattle.plane.proofs.Order.{lower-order}
-use Rattle.plane.proofs.Sector.{Sector, Parts, SectorOf, sector-moves, from-sector}
-use Rattle.plane.proofs.Octant.{octant-is}
+use Rattle.octants.proofs.Sector.{Sector, Parts, SectorOf, sector-moves, from-sector}
+use Rattle.octants.proofs.OneOctant.{octant-is}
 use Rattle.plane.proofs.Stored.{coordinate-value, lower-true}
 
 -- The octant whose sector a difference is in.
 pub sector-octant : (k : ℕ) (dx dy : ℤ) → SectorOf k dx dy → octant dx dy ≡ k

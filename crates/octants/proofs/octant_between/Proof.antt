@@ -1,12 +1,12 @@
--- `plane::octants::octant_between` meets its contract: each arm is a half turn, told by the order by y and then by x, in which the
+-- `octants::octant_between` meets its contract: each arm is a half turn, told by the order by y and then by x, in which the
 -- tests counted are the rays that the difference has reached.
 use mathlib.Core.Path.{sym, ap, _∙_}
 use Prim.Native.Nat.{ℕ, _+_}
 use native.Mathlib.Omega.{arith}
 use borrow.Author.Needs.{needs}
-use Rattle.plane.proofs.octants.Between.{between-upper, between-under, between-none}
-use Rattle.plane.proofs.octants.octant_between.Statement.{statement}
-use Rattle.plane.proofs.octants.octant_between.Tie as tie
+use Rattle.octants.proofs.Between.{between-upper, between-under, between-none}
+use Rattle.octants.proofs.octant_between.Statement.{statement}
+use Rattle.octants.proofs.octant_between.Tie as tie
 
 add-result : tie.Need-add-result
 add-result c =

@@ -1,9 +1,9 @@
--- `plane::octants::passes` meets its contract: a test counts for at most one.
+-- `octants::passes` meets its contract: a test counts for at most one.
 use native.Mathlib.Omega.{arith}
 use borrow.Author.Needs.{needs}
-use Rattle.plane.proofs.octants.Between.{at-most-one}
-use Rattle.plane.proofs.octants.passes.Statement.{statement}
-use Rattle.plane.proofs.octants.passes.Tie as tie
+use Rattle.octants.proofs.Between.{at-most-one}
+use Rattle.octants.proofs.passes.Statement.{statement}
+use Rattle.octants.proofs.passes.Tie as tie
 
 add-result : tie.Need-add-result
 add-result c = omega (arith, at-most-one (c .args .p), at-most-one (c .args .q))

@@ -4,9 +4,9 @@ use mathlib.Core.Option.{Option, none, some}
 use mathlib.Core.List.{List, [], _∷_}
 use Prim.Native.Nat.{ℕ}
 use lib.IntN.{pos, negsuc}
 use Rattle.plane.specs.Point.{Point, point, gap, dist}
-use Rattle.plane.specs.Octant.{conditions, firstTrue, octant}
-use Rattle.plane.specs.Nearest.{nearest}
+use Rattle.octants.specs.Octant.{conditions, firstTrue, octant}
+use Rattle.octants.specs.Nearest.{nearest}
 
 -- The octants of a list of differences.
 unfoldable pub octants : List Point → List ℕ

@@ -9,9 +9,9 @@ use lib.Dec.{T}
 use lib.ListN.{length, getD}
 use lib.IntN.{ℤ, pos, negℤ, negℤ-negℤ}
 use lib.Signed.{ltZ, leZ}
-use Rattle.plane.specs.Octant.{conditions, inOctant}
+use Rattle.octants.specs.Octant.{conditions, inOctant}
 use Rattle.arrays.proofs.Test.{and-parts, and-both, same-test}
 use Rattle.plane.proofs.Whole.{plus, minus, neg-plus, neg-minus, less-value, value-less, atmost-value, value-atmost}
 
 -- The conditions of octants 0 and 1, and the turn. After eight octants they come again, so the octant's number is bounded apart.
 abbrev pub Sector : ℕ → ℕ → ℕ → ℕ → ℕ → Type 0

@@ -6,8 +6,8 @@ use Prim.Native.Nat.{ℕ}
 use lib.Dec.{ltb}
 use lib.IntN.{_-ℤ_}
 use Rattle.arrays.specs.Test.{if}
 use Rattle.plane.specs.Point.{Point, dist}
-use Rattle.plane.specs.Octant.{inOctant}
+use Rattle.octants.specs.Octant.{inOctant}
 
 -- q is in octant k as seen from p (SPEC 3.1).
 abbrev pub inOctantOf : ℕ → Point → Point → Bool

@@ -1,4 +1,4 @@
--- `plane::octants::octant` meets its contract: the tests on the way to each return say which sector the difference is in. A sum is
+-- `octants::octant` meets its contract: the tests on the way to each return say which sector the difference is in. A sum is
 -- taken only of numbers with unlike signs, so it fits and is read back as it is.
 use mathlib.Core.Path.{_≡_}
 use Prim.Native.Nat.{ℕ}
@@ -6,13 +6,14 @@ use native.Mathlib.Omega.{arith}
 use lib.IntN.{ℤ, _+ℤ_, +ℤ-comm}
 use mir.Syntax.{w32}
 use mir.ValLaws.{toZ-ofZ}
-use Rattle.plane.specs.Octant.{octant}
+use Rattle.octants.specs.Octant.{octant}
 use Rattle.plane.proofs.Whole.{add-value}
-use Rattle.plane.proofs.Sector.{SectorOf}
+use Rattle.octants.proofs.Sector.{SectorOf}
 use Rattle.arrays.proofs.Signed.{read, read-fits}
-use Rattle.plane.proofs.Signed.{tests, sum-fits, read-octant, read-none}
-use Rattle.plane.proofs.octants.octant.Statement.{statement}
-use Rattle.plane.proofs.octants.octant.Tie as tie
+use Rattle.plane.proofs.Signed.{tests, sum-fits}
+use Rattle.octants.proofs.Read.{read-octant, read-none}
+use Rattle.octants.proofs.octant.Statement.{statement}
+use Rattle.octants.proofs.octant.Tie as tie
 
 -- What is read back from the bits of dx and dy.
 abbrev x : tie.Start → ℤ

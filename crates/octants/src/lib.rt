@@ -1,11 +1,11 @@
 // The octants: which of eight the difference of two points is in.
-use super::is_lower;
+use plane::is_lower;
 ghost use mathlib.Core.Path.{_≡_};
 ghost use Prim.Native.Nat.{_+_, _≤_};
 ghost use lib.IntN.{_-ℤ_};
 ghost use Rattle.plane.specs.Coordinate.{coordinate};
-ghost use Rattle.plane.specs.Octant as table;
+ghost use Rattle.octants.specs.Octant as table;
 ghost use Rattle.plane.specs.Stored.{one};
 
 // How many octants there are, and what stands for the octant of no difference.
 pub const OCTANTS: usize = 8;

@@ -11,9 +11,9 @@ use native.Mathlib.Decide.{decLt}
 use lib.Dec.{T}
 use lib.ListN.{getD}
 use lib.IntN.{ℤ, pos}
-use Rattle.plane.specs.Octant.{conditions, inOctant, firstTrue, octant}
+use Rattle.octants.specs.Octant.{conditions, inOctant, firstTrue, octant}
 use Rattle.plane.proofs.Whole.{plus, minus, whole-ext}
-use Rattle.plane.proofs.Sector.{Sector, to-sector, from-sector}
+use Rattle.octants.proofs.Sector.{Sector, to-sector, from-sector}
 
 -- In the first quarter, octants 0 and 1, no difference is in a later octant.
 later : (k a b c d : ℕ) → suc (suc k) < 8 → b < a → d ≤ c → Sector k c d b a → ⊥

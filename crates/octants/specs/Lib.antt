@@ -1,0 +1,3 @@
+pub mod Nearest
+pub mod Octant
+pub mod OctantTable

@@ -1,2 +1,0 @@
--- What the proofs of the octant between two stored points use.
-pub mod Between
