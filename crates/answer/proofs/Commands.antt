@@ -15,8 +15,8 @@ use Rattle.deck.specs.Calls.{called}
 use Rattle.deck.specs.Questions.{asked}
 use Rattle.questions.specs.declared.Answer.{Answer}
 use Rattle.questions.specs.Answers.{Question}
-use Rattle.script.specs.declared.Change.{Change}
-use Rattle.script.specs.declared.Query.{Query}
+use Rattle.commands.specs.declared.Change.{Change}
+use Rattle.commands.specs.declared.Query.{Query}
 use Rattle.replies.specs.Replies.{answerText}
 use Rattle.answer.specs.declared.Played.{Played}
 use Rattle.answer.specs.Play.{Line, stays, changes, callFor, questionFor, Plays}

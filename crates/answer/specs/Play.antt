@@ -18,13 +18,14 @@ use Rattle.deck.specs.Calls.{called}
 use Rattle.deck.specs.Questions.{asked}
 use Rattle.questions.specs.Answers.{Question, ofLength, ofCounts, ofEdge, ofDegree, ofKinds}
 use Rattle.deckfile.specs.Reading.{reading}
-use Rattle.script.specs.declared.Change.{Change}
-use Rattle.script.specs.declared.Change.the-variants as change
-use Rattle.script.specs.declared.Query.{Query}
-use Rattle.script.specs.declared.Query.the-variants as query
-use Rattle.script.specs.declared.Command.{Command}
-use Rattle.script.specs.declared.Command.the-variants as command
-use Rattle.script.specs.Commands as script
+use Rattle.commands.specs.declared.Change.{Change}
+use Rattle.commands.specs.declared.Change.the-variants as change
+use Rattle.commands.specs.declared.Query.{Query}
+use Rattle.commands.specs.declared.Query.the-variants as query
+use Rattle.commands.specs.declared.Command.{Command}
+use Rattle.commands.specs.declared.Command.the-variants as command
+use Rattle.commands.specs.Commands.{longestFile}
+use Rattle.script.specs.Line as script
 use Rattle.ascii.specs.Encoding.{fileText, joinedLines}
 use Rattle.replies.specs.Replies.{errorWord, replyText, answerText}
 use Rattle.directions.specs.Directions.{directionText}
@@ -74,7 +75,7 @@ unfoldable pub lineOf : Deck → List ℕ → Command → Line
 lineOf d b command.Blank = stays d []
 lineOf d b command.Error = stays d errorWord
 lineOf d b command.Read = changes (reading (script.fileInLine b))
-lineOf d b (command.Write n) = stays d (writeText d (min n script.longestFile))
+lineOf d b (command.Write n) = stays d (writeText d (min n longestFile))
 lineOf d b (command.Call c) = changes (called d (callFor c))
 lineOf d b (command.Ask q) = stays d (answerText (asked d (questionFor q)))
 lineOf d b (command.Direct q) = stays d (directionText q)

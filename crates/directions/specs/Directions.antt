@@ -8,8 +8,8 @@ use Rattle.arrays.specs.Text.{byte}
 use Rattle.plane.specs.Point.{point}
 use Rattle.octants.specs.Octant.{octantCount, octant}
 use Rattle.arrow.specs.Arrow.{arrow, glyph}
-use Rattle.script.specs.declared.Direction.{Direction}
-use Rattle.script.specs.declared.Direction.the-variants as direction
+use Rattle.commands.specs.declared.Direction.{Direction}
+use Rattle.commands.specs.declared.Direction.the-variants as direction
 use Rattle.replies.specs.Replies.{errorWord, octantWord, numberText, indicationText, glyphText}
 
 -- `octant DX DY`: `error` for 0 0.

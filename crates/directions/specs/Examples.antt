@@ -12,8 +12,8 @@ use Rattle.model.specs.Listing.{digitsFrom}
 use Rattle.arrow.specs.Table.{entryAt, arrowTable, entry}
 use Rattle.arrow.specs.Arrow.{arrowChecks, arrow, glyph}
 use Rattle.replies.specs.Replies.{indicationText}
-use Rattle.script.specs.declared.Direction.{Direction}
-use Rattle.script.specs.declared.Direction.the-variants.{Octant, Arrow, Glyph}
+use Rattle.commands.specs.declared.Direction.{Direction}
+use Rattle.commands.specs.declared.Direction.the-variants.{Octant, Arrow, Glyph}
 use Rattle.directions.specs.Directions.{glyphOf, directionText}
 
 -- The answers.

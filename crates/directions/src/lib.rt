@@ -1,11 +1,11 @@
 // Answers to questions on directions, for which no deck is needed: the line of an octant, of an arrow, of a glyph.
+use commands::Direction;
 use octants::NO_OCTANT;
 use octants::octant;
 use replies::error_line;
 use replies::glyph_line;
 use replies::indication_line;
 use replies::octant_line;
-use script::Direction;
 ghost use mathlib.Core.Path.{_≡_};
 ghost use Rattle.arrays.specs.Paste.{Pasted};
 ghost use Rattle.ascii.specs.Text.{fitting};

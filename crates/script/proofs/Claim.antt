@@ -15,12 +15,12 @@ use Rattle.arrays.proofs.same.Alike.{same-eq, same-refl, same-not}
 use Rattle.words.specs.Hex.{isHex}
 use Rattle.words.specs.Arguments.{argumentsOf}
 use Rattle.words.specs.declared.arguments.Arguments.the-variants.{Zero, One, Two, Three, Five}
-use Rattle.script.specs.declared.Command.the-variants.{Error, Read}
-use Rattle.script.specs.Commands.{questionWord, ofOneWord, withSize, withNumber, withPair, withKind, withThree, areShort, withFive, ofNumbers}
-use Rattle.script.specs.Commands.{ofFile, withFile, ofWords}
+use Rattle.commands.specs.declared.Command.the-variants.{Error, Read}
+use Rattle.commands.specs.Commands.{questionWord, ofOneWord, withSize, withNumber, withPair, withKind, withThree, areShort, withFive, ofNumbers}
+use Rattle.script.specs.Line.{ofFile, withFile, ofWords}
 use Rattle.script.specs.Claim.{OnlyNames, Names}
-use Rattle.script.proofs.Names.{alone-question, question-none, sized-none, number-negative, pair-none}
-use Rattle.script.proofs.Names.{kind-negative, three-add, three-none, five-none, five-long}
+use Rattle.commands.proofs.Names.{alone-question, question-none, sized-none, number-negative, pair-none}
+use Rattle.commands.proofs.Names.{kind-negative, three-add, three-none, five-none, five-long}
 
 -- A name that is not in a list is none of its names.
 not-same : (w n : List ℕ) → ¬ (w ≡ n) → sameList w n ≡ false

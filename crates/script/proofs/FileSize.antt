@@ -9,10 +9,10 @@ use lib.Dec.{ltb}
 use lib.ListN.{length, length-append}
 use borrow.Author.Tests.{ltb-false}
 use Rattle.arrays.specs.Test.{if}
-use Rattle.script.specs.declared.Command.the-variants.{Blank, Error, Read}
+use Rattle.commands.specs.declared.Command.the-variants.{Blank, Error, Read}
 use Rattle.words.specs.Words.{isSpace, ended, split, wordsOf}
 use Rattle.words.specs.Hex.{isHex, pairs}
-use Rattle.script.specs.Commands.{ofWords, isBlank, commandOf, second, fileInLine}
+use Rattle.script.specs.Line.{ofWords, isBlank, commandOf, second, fileInLine}
 
 -- The lengths of words, added up.
 unfoldable total : List (List ℕ) → ℕ

@@ -1,6 +1,5 @@
-pub mod Arguments
 pub mod Claim
 pub mod Examples
+pub mod File
 pub mod FileSize
 pub mod Lines
-pub mod Names

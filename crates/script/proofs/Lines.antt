@@ -9,13 +9,14 @@ use lib.Dec.{eqb}
 use lib.ListN.{length, take, drop, getD}
 use lib.Seq.{take-nil}
 use borrow.Author.Tests.{lt-ltb, le-ltb, eq-eqb, ne-eqb}
-use Rattle.script.specs.declared.Command.{Command}
-use Rattle.script.specs.declared.Command.the-variants.{Blank, Error}
+use Rattle.commands.specs.declared.Command.{Command}
+use Rattle.commands.specs.declared.Command.the-variants.{Blank, Error}
 use Rattle.words.specs.Words.{split, wordsOf, Next}
 use Rattle.arrays.specs.Paste.{Pasted}
 use Rattle.arrays.proofs.paste.Parts.{front-same}
 use Rattle.words.specs.Hex.{isHex, pairs}
-use Rattle.script.specs.Commands.{ofNumbers, ofFile, withFile, ofWords, isBlank, commandOf, second, fileInLine}
+use Rattle.commands.specs.Commands.{ofNumbers}
+use Rattle.script.specs.Line.{ofFile, withFile, ofWords, isBlank, commandOf, second, fileInLine}
 use Rattle.arrays.specs.Text.{bytes}
 use Rattle.arrays.specs.Same.{sameList}
 use Rattle.words.specs.declared.arguments.Arguments.{Arguments}

@@ -11,12 +11,13 @@ use Rattle.words.specs.declared.arguments.Arguments.{Arguments}
 use Rattle.words.specs.declared.arguments.Arguments.the-variants.{Zero, One, Two, Three, Four, Five, Invalid}
 use Rattle.words.specs.Hex.{isHex}
 use Rattle.words.specs.Arguments.{argumentsOf}
-use Rattle.script.specs.declared.Command.the-variants.{Error, Read, Write, Call, Ask, Direct}
-use Rattle.script.specs.declared.Command.the-variants as command
-use Rattle.script.specs.declared.Change.the-variants.{Add, Withdraw, Round, Finish}
-use Rattle.script.specs.declared.Query.the-variants.{Length, Counts, Run, Degree, Kinds}
-use Rattle.script.specs.declared.Direction.the-variants.{Octant, Arrow, Glyph}
-use Rattle.script.specs.Commands.{areShort, ofNumbers, ofWords}
+use Rattle.commands.specs.declared.Command.the-variants.{Error, Read, Write, Call, Ask, Direct}
+use Rattle.commands.specs.declared.Command.the-variants as command
+use Rattle.commands.specs.declared.Change.the-variants.{Add, Withdraw, Round, Finish}
+use Rattle.commands.specs.declared.Query.the-variants.{Length, Counts, Run, Degree, Kinds}
+use Rattle.commands.specs.declared.Direction.the-variants.{Octant, Arrow, Glyph}
+use Rattle.commands.specs.Commands.{areShort, ofNumbers}
+use Rattle.script.specs.Line.{ofWords}
 
 -- With these arguments no name but those listed is one.
 abbrev pub OnlyNames : List (List ℕ) → Arguments → Type 0

@@ -5,19 +5,20 @@ use Prim.Native.Nat.{ℕ}
 use Prim.Native.String.{String}
 use lib.ListN.{replicate}
 use lib.IntN.{pos, negsuc}
-use Rattle.script.specs.declared.Command.{Command}
-use Rattle.script.specs.declared.Command.the-variants.{Blank, Error, Read, Write, Call, Ask, Direct}
-use Rattle.script.specs.declared.Change.the-variants.{Add, Withdraw, Round, Finish}
-use Rattle.script.specs.declared.Query.the-variants.{Run, Kinds}
-use Rattle.script.specs.declared.Direction.the-variants.{Octant, Arrow, Glyph}
+use Rattle.commands.specs.declared.Command.{Command}
+use Rattle.commands.specs.declared.Command.the-variants.{Blank, Error, Read, Write, Call, Ask, Direct}
+use Rattle.commands.specs.declared.Change.the-variants.{Add, Withdraw, Round, Finish}
+use Rattle.commands.specs.declared.Query.the-variants.{Run, Kinds}
+use Rattle.commands.specs.declared.Direction.the-variants.{Octant, Arrow, Glyph}
 use Rattle.arrays.specs.Text.{bytes}
 use Rattle.arrays.specs.Same.{sameList}
 use Rattle.words.specs.Words.{isSpace, split}
 use Rattle.words.specs.Numbers.{areDigits, valueFrom, numberOf}
 use Rattle.words.specs.Arguments.{numbersOf, argumentsOf}
 use Rattle.words.specs.Hex.{digitOf, isHex, pairs}
-use Rattle.script.specs.Commands.{questionWord, ofOneWord, withSize, withNumber, withPair, withKind, withThree, isShort, areShort, withFive}
-use Rattle.script.specs.Commands.{ofNumbers, ofFile, withFile, ofWords, commandOf, fileInLine}
+use Rattle.commands.specs.Commands.{questionWord, ofOneWord, withSize, withNumber, withPair, withKind, withThree, isShort, areShort, withFive}
+use Rattle.commands.specs.Commands.{ofNumbers}
+use Rattle.script.specs.Line.{ofFile, withFile, ofWords, commandOf, fileInLine}
 
 -- The commands of lines.
 unfoldable pub commands : List String → List Command

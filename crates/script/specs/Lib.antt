@@ -1,3 +1,3 @@
 pub mod Claim
-pub mod Commands
 pub mod Examples
+pub mod Line

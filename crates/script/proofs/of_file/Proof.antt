@@ -1,7 +1,7 @@
 -- `script::of_file` meets its contract: by the two forms of a file.
 use mathlib.Core.Path.{sym, _∙_}
 use borrow.Author.Needs.{needs}
-use Rattle.script.proofs.Arguments.{file-dash, file-hex, file-other}
+use Rattle.script.proofs.File.{file-dash, file-hex, file-other}
 use Rattle.script.proofs.of_file.Statement.{statement}
 use Rattle.script.proofs.of_file.Tie as tie
 

@@ -1,11 +1,11 @@
--- `script::are_short` meets its contract: each of the four tests is the definition's.
+-- `commands::are_short` meets its contract: each of the four tests is the definition's.
 use mathlib.Core.Path.{ap₂, _∙_}
 use mathlib.Core.Bool.{_&&_}
 use borrow.Author.Needs.{needs}
 use Rattle.arrays.proofs.Signed.{read-four}
-use Rattle.script.specs.Commands.{areShort}
-use Rattle.script.proofs.are_short.Statement.{statement}
-use Rattle.script.proofs.are_short.Tie as tie
+use Rattle.commands.specs.Commands.{areShort}
+use Rattle.commands.proofs.are_short.Statement.{statement}
+use Rattle.commands.proofs.are_short.Tie as tie
 
 returns : tie.Need-returns
 unfolding areShort

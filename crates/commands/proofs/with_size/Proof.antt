@@ -1,9 +1,9 @@
--- `script::with_size` meets its contract: the names are tried one after the other.
+-- `commands::with_size` meets its contract: the names are tried one after the other.
 use mathlib.Core.Path.{sym, _∙_}
 use borrow.Author.Needs.{needs}
-use Rattle.script.proofs.Names.{sized-write, sized-run, sized-none}
-use Rattle.script.proofs.with_size.Statement.{statement}
-use Rattle.script.proofs.with_size.Tie as tie
+use Rattle.commands.proofs.Names.{sized-write, sized-run, sized-none}
+use Rattle.commands.proofs.with_size.Statement.{statement}
+use Rattle.commands.proofs.with_size.Tie as tie
 
 returns : tie.Need-returns
 returns c =

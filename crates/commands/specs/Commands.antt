@@ -1,30 +1,22 @@
--- The command of a line (SPEC 9.3, 9.5).
-use mathlib.Core.Bool.{Bool, true, _&&_, _||_}
-use mathlib.Core.List.{List, [], _∷_}
+-- The command of a name and the numbers behind it (SPEC 9.3, 9.5).
+use mathlib.Core.Bool.{Bool, _&&_}
+use mathlib.Core.List.{List}
 use Prim.Native.Nat.{ℕ}
-use lib.Dec.{ltb, eqb}
-use lib.ListN.{length}
 use lib.IntN.{ℤ, pos, negsuc}
 use lib.Signed.{leZ}
 use Rattle.arrays.specs.Test.{if, ifNatural}
-use Rattle.script.specs.declared.Command.{Command}
-use Rattle.script.specs.declared.Command.the-variants.{Blank, Error, Read, Write, Call, Ask, Direct}
-use Rattle.script.specs.declared.Change.the-variants.{Add, Withdraw, Round, Finish}
-use Rattle.script.specs.declared.Query.the-variants.{Length, Counts, Run, Degree, Kinds}
-use Rattle.script.specs.declared.Direction.the-variants.{Octant, Arrow, Glyph}
-use Rattle.script.specs.declared.Command.the-variants as command
+use Rattle.commands.specs.declared.Command.{Command}
+use Rattle.commands.specs.declared.Command.the-variants.{Error, Write, Call, Ask, Direct}
+use Rattle.commands.specs.declared.Change.the-variants.{Add, Withdraw, Round, Finish}
+use Rattle.commands.specs.declared.Query.the-variants.{Length, Counts, Run, Degree, Kinds}
+use Rattle.commands.specs.declared.Direction.the-variants.{Octant, Arrow, Glyph}
+use Rattle.commands.specs.declared.Command.the-variants as command
 use Rattle.words.specs.declared.arguments.Arguments.{Arguments}
 use Rattle.words.specs.declared.arguments.Arguments.the-variants.{Zero, One, Two, Three, Four, Five, Invalid}
-use Rattle.arrays.specs.Text.{bytes, byte}
+use Rattle.arrays.specs.Text.{bytes}
 use Rattle.arrays.specs.Same.{sameList}
-use Rattle.words.specs.Words.{wordsOf}
-use Rattle.words.specs.Arguments.{argumentsOf}
-use Rattle.words.specs.Hex.{isHex, pairs}
 
--- The most bytes of a line, and of a deck file.
-abbrev pub lineLimit : ℕ
-lineLimit = 4000
-
+-- The most bytes of a deck file.
 abbrev pub longestFile : ℕ
 longestFile = 856
 
@@ -91,38 +83,3 @@ ofNumbers w (Three i j k) = withThree w i j k
 ofNumbers w (Four i j k l) = Error
 ofNumbers w (Five i j k l m) = withFive w i j k l m
 ofNumbers w Invalid = Error
-
--- `read HEX`: one word of hexadecimal digits in pairs, or `-` for no bytes.
-unfoldable pub ofFile : List ℕ → Command
-ofFile x = if (sameList x (bytes "-") || isHex x) (λ _. Read) (λ _. Error)
-
-unfoldable pub withFile : List (List ℕ) → Command
-withFile [] = Error
-withFile (x ∷ []) = ofFile x
-withFile (x ∷ y ∷ l) = Error
-
--- The command of a line's words: `read` and its file, or a name and numbers.
-unfoldable pub ofWords : List (List ℕ) → Command
-ofWords [] = Error
-ofWords (w ∷ l) = if (sameList w (bytes "read")) (λ _. withFile l) (λ _. ofNumbers w (argumentsOf l))
-
--- Whether a line is empty or a comment, which begins with `#`.
-abbrev pub isBlank : List ℕ → Bool
-isBlank [] = true
-isBlank (b ∷ l) = eqb b (byte "#")
-
--- The command of a line, which has no line feed. A line of more than 4,000 bytes is an error.
-unfoldable pub commandOf : List ℕ → Command
-commandOf line =
-    if (ltb lineLimit (length line)) (λ _. Error)
-    (λ _. if (isBlank line) (λ _. Blank) (λ _. ofWords (wordsOf line)))
-
--- The second word, empty where there is none.
-abbrev pub second : List (List ℕ) → List ℕ
-second [] = []
-second (w ∷ []) = []
-second (w ∷ x ∷ l) = x
-
--- The bytes that the second word of a line stands for: none where it is not pairs of hexadecimal digits.
-unfoldable pub fileInLine : List ℕ → List ℕ
-fileInLine line = let x = second (wordsOf line) in if (isHex x) (λ _. pairs x) (λ _. [])

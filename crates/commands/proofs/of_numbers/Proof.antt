@@ -1,11 +1,11 @@
--- `script::of_numbers` meets its contract: in each arm the numbers are told, and read back from their bits.
+-- `commands::of_numbers` meets its contract: in each arm the numbers are told, and read back from their bits.
 use mathlib.Core.Path.{_∙_}
 use borrow.Author.Needs.{needs}
 use Rattle.arrays.proofs.Signed.{read-one, read-two, read-three, read-five}
-use Rattle.script.specs.Commands.{withNumber, withPair, withThree, withFive, ofNumbers}
-use Rattle.script.proofs.Arguments.{same-command}
-use Rattle.script.proofs.of_numbers.Statement.{statement}
-use Rattle.script.proofs.of_numbers.Tie as tie
+use Rattle.commands.specs.Commands.{withNumber, withPair, withThree, withFive, ofNumbers}
+use Rattle.commands.proofs.Arguments.{same-command}
+use Rattle.commands.proofs.of_numbers.Statement.{statement}
+use Rattle.commands.proofs.of_numbers.Tie as tie
 
 returns : tie.Need-returns
 unfolding ofNumbers

@@ -1,4 +1,4 @@
--- `script::with_five` meets its contract: the name and the four places are tested, and each number is read back from its bits.
+-- `commands::with_five` meets its contract: the name and the four places are tested, and each number is read back from its bits.
 use mathlib.Core.Path.{_≡_, sym, _∙_}
 use mathlib.Core.Bool.{true}
 use mir.Syntax.{w32}
@@ -6,13 +6,13 @@ use mir.ValLaws.{toZ-ofZ}
 use borrow.Author.Needs.{needs}
 use borrow.Author.Tests.{not-true, not-false}
 use Rattle.arrays.proofs.Signed.{read-four, cut-fits, cut-read}
-use Rattle.script.specs.declared.Command.the-variants.{Direct}
-use Rattle.script.specs.declared.Direction.the-variants.{Arrow}
-use Rattle.script.specs.Commands.{areShort}
-use Rattle.script.proofs.Arguments.{all-fit}
-use Rattle.script.proofs.Names.{five-none, five-long, five-arrow}
-use Rattle.script.proofs.with_five.Statement.{statement}
-use Rattle.script.proofs.with_five.Tie as tie
+use Rattle.commands.specs.declared.Command.the-variants.{Direct}
+use Rattle.commands.specs.declared.Direction.the-variants.{Arrow}
+use Rattle.commands.specs.Commands.{areShort}
+use Rattle.commands.proofs.Arguments.{all-fit}
+use Rattle.commands.proofs.Names.{five-none, five-long, five-arrow}
+use Rattle.commands.proofs.with_five.Statement.{statement}
+use Rattle.commands.proofs.with_five.Tie as tie
 
 returns : tie.Need-returns
 returns c = five-none _ _ _ _ _ _ (sym (c .before .same-bytes .ensures) ∙ not-true _ (c .if1 .taken))

@@ -1,9 +1,9 @@
--- `script::by_name` meets its contract: the names are tried one after the other.
+-- `commands::by_name` meets its contract: the names are tried one after the other.
 use mathlib.Core.Path.{sym, _∙_}
 use borrow.Author.Needs.{needs}
-use Rattle.script.proofs.Names.{alone-write, alone-round, alone-finish, alone-list, alone-question}
-use Rattle.script.proofs.by_name.Statement.{statement}
-use Rattle.script.proofs.by_name.Tie as tie
+use Rattle.commands.proofs.Names.{alone-write, alone-round, alone-finish, alone-list, alone-question}
+use Rattle.commands.proofs.by_name.Statement.{statement}
+use Rattle.commands.proofs.by_name.Tie as tie
 
 returns : tie.Need-returns
 returns c =

@@ -1,4 +1,4 @@
--- `script::with_kind` meets its contract: by the number's sign, which is that of what is read back from its bits.
+-- `commands::with_kind` meets its contract: by the number's sign, which is that of what is read back from its bits.
 use mathlib.Core.Path.{_≡_, sym, _∙_}
 use lib.IntN.{ℤ, pos, natAbs}
 use lib.Signed.{ltZ}
@@ -6,11 +6,11 @@ use mir.Syntax.{w32}
 use mir.Val.{SFits}
 use native.Mathlib.Omega.{arith}
 use Rattle.arrays.proofs.Signed.{read, read-one, read-three, read-fits, not-negative}
-use Rattle.script.specs.declared.Command.the-variants.{Call}
-use Rattle.script.specs.declared.Change.the-variants.{Add}
-use Rattle.script.proofs.Names.{kind-negative, kind-natural}
-use Rattle.script.proofs.with_kind.Statement.{statement}
-use Rattle.script.proofs.with_kind.Tie as tie
+use Rattle.commands.specs.declared.Command.the-variants.{Call}
+use Rattle.commands.specs.declared.Change.the-variants.{Add}
+use Rattle.commands.proofs.Names.{kind-negative, kind-natural}
+use Rattle.commands.proofs.with_kind.Statement.{statement}
+use Rattle.commands.proofs.with_kind.Tie as tie
 
 -- The sign by what is read back.
 sign : {i : ℤ} → SFits w32 i → ltZ (read i) (pos 0) ≡ ltZ i (pos 0)

@@ -1,11 +1,11 @@
--- `script::with_three` meets its contract: the name, and then the kind.
+-- `commands::with_three` meets its contract: the name, and then the kind.
 use mathlib.Core.Path.{sym, _∙_}
 use Rattle.arrays.proofs.Signed.{read-three}
-use Rattle.script.specs.Commands.{withKind}
-use Rattle.script.proofs.Names.{three-add, three-none}
+use Rattle.commands.specs.Commands.{withKind}
+use Rattle.commands.proofs.Names.{three-add, three-none}
 use borrow.Author.Needs.{needs}
-use Rattle.script.proofs.with_three.Statement.{statement}
-use Rattle.script.proofs.with_three.Tie as tie
+use Rattle.commands.proofs.with_three.Statement.{statement}
+use Rattle.commands.proofs.with_three.Tie as tie
 
 returns : tie.Need-returns
 returns c =

@@ -1,15 +1,15 @@
--- `script::with_pair` meets its contract: the names are tried one after the other, and the numbers are read back from their bits.
+-- `commands::with_pair` meets its contract: the names are tried one after the other, and the numbers are read back from their bits.
 use mathlib.Core.Path.{sym, _∙_}
 use lib.IntN.{ℤ}
 use borrow.Author.Needs.{needs}
-use Rattle.script.specs.declared.Command.the-variants.{Call, Ask, Direct}
-use Rattle.script.specs.declared.Change.the-variants.{Add, Withdraw}
-use Rattle.script.specs.declared.Query.the-variants.{Degree}
-use Rattle.script.specs.declared.Direction.the-variants.{Octant}
-use Rattle.script.proofs.Names.{pair-add, pair-withdraw, pair-degree, pair-octant, pair-none}
+use Rattle.commands.specs.declared.Command.the-variants.{Call, Ask, Direct}
+use Rattle.commands.specs.declared.Change.the-variants.{Add, Withdraw}
+use Rattle.commands.specs.declared.Query.the-variants.{Degree}
+use Rattle.commands.specs.declared.Direction.the-variants.{Octant}
+use Rattle.commands.proofs.Names.{pair-add, pair-withdraw, pair-degree, pair-octant, pair-none}
 use Rattle.arrays.proofs.Signed.{read-two}
-use Rattle.script.proofs.with_pair.Statement.{statement}
-use Rattle.script.proofs.with_pair.Tie as tie
+use Rattle.commands.proofs.with_pair.Statement.{statement}
+use Rattle.commands.proofs.with_pair.Tie as tie
 
 returns : tie.Need-returns
 returns c =

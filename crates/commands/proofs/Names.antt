@@ -6,14 +6,14 @@ use Prim.Native.Nat.{ℕ}
 use lib.IntN.{ℤ, pos, natAbs}
 use lib.Signed.{ltZ}
 use Rattle.arrays.proofs.Signed.{if-negative, if-natural}
-use Rattle.script.specs.declared.Command.the-variants.{Error, Write, Call, Ask, Direct}
-use Rattle.script.specs.declared.Change.the-variants.{Add, Withdraw, Round, Finish}
-use Rattle.script.specs.declared.Query.the-variants.{Length, Counts, Run, Degree, Kinds}
-use Rattle.script.specs.declared.Direction.the-variants.{Octant, Arrow, Glyph}
-use Rattle.script.specs.declared.Command.the-variants as command
+use Rattle.commands.specs.declared.Command.the-variants.{Error, Write, Call, Ask, Direct}
+use Rattle.commands.specs.declared.Change.the-variants.{Add, Withdraw, Round, Finish}
+use Rattle.commands.specs.declared.Query.the-variants.{Length, Counts, Run, Degree, Kinds}
+use Rattle.commands.specs.declared.Direction.the-variants.{Octant, Arrow, Glyph}
+use Rattle.commands.specs.declared.Command.the-variants as command
 use Rattle.arrays.specs.Text.{bytes}
 use Rattle.arrays.specs.Same.{sameList}
-use Rattle.script.specs.Commands.{questionWord, ofOneWord, withSize, withNumber, withPair, withKind, withThree, areShort, withFive}
+use Rattle.commands.specs.Commands.{questionWord, ofOneWord, withSize, withNumber, withPair, withKind, withThree, areShort, withFive}
 
 -- The names of one word.
 module _ (w : List ℕ) where

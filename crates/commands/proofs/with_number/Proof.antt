@@ -1,4 +1,4 @@
--- `script::with_number` meets its contract: by the name and by the number's sign, which is that of what is read back from its bits.
+-- `commands::with_number` meets its contract: by the name and by the number's sign, which is that of what is read back from its bits.
 use mathlib.Core.Path.{_≡_, sym, _∙_}
 use mathlib.Core.List.{List}
 use Prim.Native.Nat.{ℕ}
@@ -9,12 +9,12 @@ use mir.Val.{SFits}
 use native.Mathlib.Omega.{arith}
 use borrow.Author.Needs.{needs}
 use Rattle.arrays.proofs.Signed.{read, read-one, read-fits, not-negative}
-use Rattle.script.specs.declared.Command.the-variants.{Direct}
-use Rattle.script.specs.declared.Direction.the-variants.{Glyph}
-use Rattle.script.specs.Commands.{withSize}
-use Rattle.script.proofs.Names.{number-glyph, number-negative, number-size}
-use Rattle.script.proofs.with_number.Statement.{statement}
-use Rattle.script.proofs.with_number.Tie as tie
+use Rattle.commands.specs.declared.Command.the-variants.{Direct}
+use Rattle.commands.specs.declared.Direction.the-variants.{Glyph}
+use Rattle.commands.specs.Commands.{withSize}
+use Rattle.commands.proofs.Names.{number-glyph, number-negative, number-size}
+use Rattle.commands.proofs.with_number.Statement.{statement}
+use Rattle.commands.proofs.with_number.Tie as tie
 
 returns : tie.Need-returns
 returns c =

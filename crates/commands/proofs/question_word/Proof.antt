@@ -1,9 +1,9 @@
--- `script::question_word` meets its contract: the names of questions are tried one after the other.
+-- `commands::question_word` meets its contract: the names of questions are tried one after the other.
 use mathlib.Core.Path.{sym, _∙_}
 use borrow.Author.Needs.{needs}
-use Rattle.script.proofs.Names.{question-length, question-counts, question-kinds, question-none}
-use Rattle.script.proofs.question_word.Statement.{statement}
-use Rattle.script.proofs.question_word.Tie as tie
+use Rattle.commands.proofs.Names.{question-length, question-counts, question-kinds, question-none}
+use Rattle.commands.proofs.question_word.Statement.{statement}
+use Rattle.commands.proofs.question_word.Tie as tie
 
 returns : tie.Need-returns
 returns c = question-length _ (sym (c .before .same-bytes .ensures) ∙ c .if1 .taken)

@@ -1,6 +1,6 @@
--- A command by its arguments: the file of `read`, numbers of 16 bits, and the numbers behind a name as they are told.
-use mathlib.Core.Path.{_≡_, refl, sym, ap}
-use mathlib.Core.Bool.{true, false, _&&_}
+-- A command by its arguments: numbers of 16 bits, and the numbers behind a name as they are told.
+use mathlib.Core.Path.{_≡_, sym, ap}
+use mathlib.Core.Bool.{true, _&&_}
 use mathlib.Core.List.{List}
 use Prim.Native.Nat.{ℕ}
 use native.Mathlib.Omega.{arith}
@@ -9,26 +9,9 @@ use lib.IntN.{ℤ, pos, negsuc}
 use lib.Signed.{leZ}
 use mir.Syntax.{w16}
 use mir.Val.{SFits}
-use Rattle.script.specs.declared.Command.the-variants.{Error, Read}
 use Rattle.words.specs.declared.arguments.Arguments.{Arguments}
-use Rattle.arrays.specs.Text.{bytes}
-use Rattle.arrays.specs.Same.{sameList}
 use Rattle.arrays.proofs.Test.{and-parts, of-true}
-use Rattle.words.specs.Hex.{isHex}
-use Rattle.script.specs.Commands.{isShort, areShort, ofNumbers, ofFile}
-
-module _ (x : List ℕ) where
-  pub file-dash : sameList x (bytes "-") ≡ true → Read ≡ ofFile x
-  unfolding ofFile
-  file-dash a = rw a refl
-
-  pub file-hex : sameList x (bytes "-") ≡ false → isHex x ≡ true → Read ≡ ofFile x
-  unfolding ofFile
-  file-hex a b = rw (a, b) refl
-
-  pub file-other : sameList x (bytes "-") ≡ false → isHex x ≡ false → Error ≡ ofFile x
-  unfolding ofFile
-  file-other a b = rw (a, b) refl
+use Rattle.commands.specs.Commands.{isShort, areShort, ofNumbers}
 
 -- A number that 16 bits hold fits them.
 is-short-fits : (z : ℤ) → T (isShort z) → SFits w16 z
