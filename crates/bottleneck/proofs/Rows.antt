@@ -7,9 +7,9 @@ use native.Mathlib.Decide.{ℕ-discrete}
 use native.Mathlib.Omega.{arith}
 use borrow.Author.Tests.{eq-eqb, ne-eqb}
 use lib.ListN.{length, getD}
-use Rattle.tree.specs.Keys.{places}
-use Rattle.tree.specs.Labels.{moved}
-use Rattle.tree.proofs.kruskal.Labels.{moved-hit, moved-miss}
+use Rattle.keys.specs.Keys.{places}
+use Rattle.kruskal.specs.Labels.{moved}
+use Rattle.kruskal.proofs.Labels.{moved-hit, moved-miss}
 use Rattle.bottleneck.specs.Table.{entry, chosen, merged, RowFilled, LabelsMerged}
 
 -- The two outcomes of the test in `chosen`.

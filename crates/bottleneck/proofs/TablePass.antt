@@ -12,10 +12,10 @@ use lib.ListN.{length, take, getD}
 use Rattle.spanning.specs.Graph.{Conn, stop, In}
 use Rattle.spanning.specs.Bottleneck.{Bottleneck}
 use Rattle.spanning.proofs.Conn.{conn-mono, conn-none}
-use Rattle.tree.specs.Keys.{places, keyGraph, weight, low, high}
-use Rattle.tree.specs.Labels.{moved}
-use Rattle.tree.proofs.keys.Parts.{weight-le}
-use Rattle.tree.proofs.kruskal.Labels.{Labelled, labels-connect, labels-merged, labels-same}
+use Rattle.keys.specs.Keys.{places, keyGraph, weight, low, high}
+use Rattle.kruskal.specs.Labels.{moved}
+use Rattle.keys.proofs.Parts.{weight-le}
+use Rattle.kruskal.proofs.Labels.{Labelled, labels-connect, labels-merged, labels-same}
 use Rattle.bottleneck.specs.Table.{entries, entry, LabelsMerged, FillRequires, Bottlenecks}
 use Rattle.bottleneck.proofs.FirstKeys.{first-at, first-before, first-more}
 use Rattle.bottleneck.proofs.HeaviestEdge.{same-bottleneck, new-bottleneck}

@@ -8,7 +8,7 @@ use Rattle.spanning.specs.Graph.{Conn, In}
 use Rattle.arrays.specs.Order.{Sorted}
 use Rattle.spanning.specs.Bottleneck.{Bottleneck}
 use Rattle.arrays.specs.Test.{if}
-use Rattle.tree.specs.Keys.{places, keyGraph, weight}
+use Rattle.keys.specs.Keys.{places, keyGraph, weight}
 
 -- The table has a row for each number, and a row an entry for each number.
 abbrev pub entries : ℕ

@@ -3,16 +3,16 @@
 //
 // The entry of the numbers u and v stands at u * PLACES + v. Kruskal's pass fills the table: the key that merges two labels is the
 // longest so far, so its length is the bottleneck of each number with the one label and each with the other.
+use keys::high;
+use keys::low;
+use keys::weight;
+use kruskal::relabel;
+use kruskal::separate;
 use plane::PLACES;
-use tree::keys::high;
-use tree::keys::low;
-use tree::keys::weight;
-use tree::kruskal::relabel;
-use tree::kruskal::separate;
 ghost use mathlib.Core.Path.{_≡_};
 ghost use Prim.Native.Nat.{ℕ, _+_, _≤_, _<_};
 ghost use lib.ListN.{length, take};
-ghost use Rattle.tree.specs.Keys.{places};
+ghost use Rattle.keys.specs.Keys.{places};
 ghost use Rattle.bottleneck.specs.Table.{entries, entry, chosen, RowFilled, LabelsMerged, FillRequires, Bottlenecks};
 
 // The weight w if the label is the one wanted, else the old entry.

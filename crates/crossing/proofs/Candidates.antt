@@ -16,7 +16,7 @@ use Rattle.plane.proofs.Stored.{coordinate-less}
 use Rattle.arrays.specs.Set.{union, setOf}
 use Rattle.model.specs.Round.{crossings, notHeld, candidates, bestAbove, best}
 use Rattle.arrays.proofs.SetMap.{union-map}
-use Rattle.tree.specs.Held.{held}
+use Rattle.keys.specs.Held.{held}
 use Rattle.arrays.specs.Tab.{tab}
 use Rattle.tree.proofs.Sorted.{ps-sorted}
 use Rattle.regions.specs.Rays.{far}

@@ -6,8 +6,8 @@ use native.Mathlib.Omega.{arith}
 use lib.ListN.{take}
 use Rattle.spanning.specs.Graph.{total}
 use Rattle.model.specs.Tree.{treeLength}
-use Rattle.tree.specs.Held.{held}
-use Rattle.tree.specs.Keys.{weight}
+use Rattle.keys.specs.Held.{held}
+use Rattle.keys.specs.Keys.{weight}
 use Rattle.tree.proofs.Lengths.{rising-total}
 use Rattle.crossing.specs.Search.{TreeGiven, pointsOf}
 

@@ -13,8 +13,8 @@ use Rattle.plane.specs.Coordinate.{storedOf}
 use Rattle.plane.specs.Stored.{pointAt}
 use Rattle.arrays.specs.Set.{setOf}
 use Rattle.tree.specs.Build.{Rises}
-use Rattle.tree.specs.Held.{held}
-use Rattle.tree.specs.Keys.{treeKeys}
+use Rattle.keys.specs.Held.{held}
+use Rattle.keys.specs.Keys.{treeKeys}
 use Rattle.arrays.specs.Tab.{tab}
 use Rattle.regions.specs.Rays.{places, tableSize, far}
 use Rattle.regions.specs.Nearest.{ColumnGiven}

@@ -16,7 +16,7 @@ use Rattle.model.proofs.Tree.{mst-run-tree, tree-edges}
 use Rattle.model.proofs.Prune.{points-rise}
 use Rattle.model.proofs.Bounds.{points-count, points-few}
 use Rattle.model.proofs.FileSize.{listed-count, number-below, runs-length}
-use Rattle.tree.specs.Keys.{endsAt}
+use Rattle.tree.specs.Ends.{endsAt}
 use Rattle.points.specs.Coded.{places}
 use Rattle.points.proofs.Codes.{padded-take}
 use Rattle.points.proofs.Coded.{pins-count, steiner-count}

@@ -24,7 +24,7 @@ use Rattle.arrays.proofs.Set.{has-in}
 use Rattle.model.proofs.Tree.{mst-run-tree, tree-edges}
 use Rattle.model.proofs.FileSize.{listed-count}
 use Rattle.model.proofs.Prune.{points-in, points-rise}
-use Rattle.tree.specs.Keys.{keyGraph}
+use Rattle.keys.specs.Keys.{keyGraph}
 use Rattle.arrays.specs.Array.{indexOf}
 use Rattle.plane.specs.Code.{pointOf, isCode}
 use Rattle.working.specs.declared.Working.{Working}

@@ -16,7 +16,7 @@ use Rattle.arrays.proofs.Order.{nat-order}
 use Rattle.arrays.specs.Set.{union}
 use Rattle.model.proofs.Candidate.{map-in}
 use Rattle.arrays.proofs.Set.{union-in, union-sorted}
-use Rattle.tree.specs.Keys.{weight, low, high, keyGraph}
+use Rattle.keys.specs.Keys.{weight, low, high, keyGraph}
 use Rattle.regions.specs.Rays.{places, rayLength, rayPoint, far, farRay}
 use Rattle.score.specs.Gain.{over, bound}
 

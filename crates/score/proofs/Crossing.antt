@@ -14,7 +14,7 @@ use Rattle.arrays.specs.Set.{put, has}
 use Rattle.model.specs.Tree.{treeLength}
 use Rattle.arrays.proofs.Set.{has-in, put-same}
 use Rattle.tree.specs.Build.{Rises}
-use Rattle.tree.specs.Keys.{weight, allKeys, treeKeys, joinedKeys}
+use Rattle.keys.specs.Keys.{weight, allKeys, treeKeys, joinedKeys}
 use Rattle.arrays.specs.Tab.{tab}
 use Rattle.arrays.proofs.Tab.{tab-in}
 use Rattle.tree.proofs.Lengths.{rising-total, joined-total}

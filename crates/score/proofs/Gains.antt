@@ -12,8 +12,8 @@ use Rattle.spanning.proofs.OneMore.{one-more, one-more-bridge}
 use Rattle.arrays.proofs.Order.{nat-order}
 use Rattle.arrays.specs.Set.{put, union}
 use Rattle.arrays.proofs.Set.{put-in}
-use Rattle.tree.specs.Keys.{weight, keyGraph}
-use Rattle.tree.proofs.keys.Parts.{weight-le}
+use Rattle.keys.specs.Keys.{weight, keyGraph}
+use Rattle.keys.proofs.Parts.{weight-le}
 use Rattle.regions.specs.Rays.{rayLength, rayPoint, far, farRay}
 use Rattle.score.specs.Gain.{bound, gain}
 use Rattle.score.proofs.Bounds.{keyOf, starred, Rays, key-weight, key-conn, Plain, starred-sorted, bound-bottleneck}

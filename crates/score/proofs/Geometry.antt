@@ -16,10 +16,10 @@ use Rattle.plane.proofs.Metric.{gap-sym, gap-triangle}
 use Rattle.plane.proofs.Stored.{gap-rising, gap-falling}
 use Rattle.arrays.specs.Set.{put}
 use Rattle.model.specs.Tree.{treeLength}
-use Rattle.tree.specs.Held.{held}
-use Rattle.tree.specs.Keys.{weight, keyGraph, allKeys, treeKeys}
+use Rattle.keys.specs.Held.{held}
+use Rattle.keys.specs.Keys.{weight, keyGraph, allKeys, treeKeys}
 use Rattle.arrays.specs.Tab.{tab}
-use Rattle.tree.proofs.keys.All.{all-keys-sorted}
+use Rattle.keys.proofs.All.{all-keys-sorted}
 use Rattle.tree.proofs.Size.{near-words}
 use Rattle.regions.specs.Rays.{places, ray, rayLength, rayPoint, far, farRay}
 use Rattle.regions.specs.Nearest.{Side, east, west, north, south, rayAt, alongOf, rayTo, Region, AtRows, ColumnGiven}

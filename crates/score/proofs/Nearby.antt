@@ -18,9 +18,9 @@ use Rattle.arrays.proofs.Order.{nat-order}
 use Rattle.plane.proofs.Metric.{dist-sym}
 use Rattle.arrays.specs.Set.{put, union}
 use Rattle.arrays.proofs.Set.{put-in, put-sorted, union-in, union-sorted}
-use Rattle.tree.specs.Keys.{key, weight, low, high, keyGraph, rays, allKeys, treeKeys, joinedKeys}
-use Rattle.tree.proofs.keys.Parts as keys
-use Rattle.tree.proofs.keys.All.{rays-in, KeyAt, all-keys-in, all-keys-sorted, key-ends, all-keys-join}
+use Rattle.keys.specs.Keys.{key, weight, low, high, keyGraph, rays, allKeys, treeKeys, joinedKeys}
+use Rattle.keys.proofs.Parts as keys
+use Rattle.keys.proofs.All.{rays-in, KeyAt, all-keys-in, all-keys-sorted, key-ends, all-keys-join}
 use Rattle.regions.specs.Rays.{places, ray, rayLength, rayPoint, far, farRay}
 use Rattle.score.specs.Gain.{gain}
 use Rattle.score.proofs.Bounds.{keyOf, withFar, starred, Rays, Rising, Walk, key-edge, key-weight, key-conn, Plain, starred-in, starred-sorted}

@@ -11,11 +11,11 @@ use Rattle.spanning.proofs.Kruskal.{kruskal-in, kruskal-sorted, kruskal-connect
 use Rattle.plane.specs.Point.{Point, dist}
 use Rattle.model.specs.Tree.{treeLength}
 use Rattle.tree.specs.Build.{Rises}
-use Rattle.tree.specs.Held.{held}
-use Rattle.tree.specs.Keys.{weight, keyGraph, allKeys, treeKeys}
+use Rattle.keys.specs.Held.{held}
+use Rattle.keys.specs.Keys.{weight, keyGraph, allKeys, treeKeys}
 use Rattle.arrays.specs.Tab.{tab}
-use Rattle.tree.proofs.keys.Parts.{key-weight}
-use Rattle.tree.proofs.keys.All.{all-keys-in, all-keys-sorted, all-keys-join}
+use Rattle.keys.proofs.Parts.{key-weight}
+use Rattle.keys.proofs.All.{all-keys-in, all-keys-sorted, all-keys-join}
 use Rattle.tree.proofs.Lengths.{rising-total}
 use Rattle.tree.proofs.Size.{Words, near-words, keys-most}
 use Rattle.bottleneck.specs.Table.{FillRequires}

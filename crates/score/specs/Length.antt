@@ -5,8 +5,8 @@ use Prim.Native.Nat.{ℕ, _≤_, _<_}
 use lib.ListN.{length}
 use Rattle.model.specs.Tree.{treeLength}
 use Rattle.tree.specs.Build.{Rises}
-use Rattle.tree.specs.Held.{held}
-use Rattle.tree.specs.Keys.{treeKeys}
+use Rattle.keys.specs.Held.{held}
+use Rattle.keys.specs.Keys.{treeKeys}
 use Rattle.arrays.specs.Tab.{tab}
 use Rattle.bottleneck.specs.Table.{Bottlenecks}
 use Rattle.regions.specs.Rays.{places, tableSize}

@@ -8,8 +8,8 @@ use Rattle.plane.specs.Coordinate.{base}
 use Rattle.arrays.specs.Set.{put}
 use Rattle.model.specs.Tree.{treeLength}
 use Rattle.tree.specs.Build.{Rises}
-use Rattle.tree.specs.Held.{held}
-use Rattle.tree.specs.Keys.{treeKeys}
+use Rattle.keys.specs.Held.{held}
+use Rattle.keys.specs.Keys.{treeKeys}
 use Rattle.bottleneck.specs.Table.{Bottlenecks}
 use Rattle.regions.specs.Rays.{places, tableSize, far}
 use Rattle.regions.specs.Rows.{RowsGiven, Located}

@@ -7,7 +7,7 @@ use lib.Dec.{ltb}
 use lib.ListN.{length, take, drop}
 use lib.Seq.{take-length}
 use Rattle.arrays.specs.Set.{setOf}
-use Rattle.tree.specs.Keys.{endsOf}
+use Rattle.keys.specs.Keys.{endsOf}
 use Rattle.arrays.specs.Tab.{tab}
 use Rattle.tree.specs.Build.{BuildRequires}
 use Rattle.arrays.specs.Paste.{Pasted}

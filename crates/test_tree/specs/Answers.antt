@@ -7,8 +7,8 @@ use Prim.Native.Nat.{ℕ, _+_, _≤_}
 use lib.Dec.{ltb}
 use lib.ListN.{length, getD}
 use Rattle.arrays.specs.Set.{setOf}
-use Rattle.tree.specs.Held.{held}
-use Rattle.tree.specs.Keys.{treeKeys, endsOf}
+use Rattle.keys.specs.Held.{held}
+use Rattle.keys.specs.Keys.{treeKeys, endsOf}
 use Rattle.arrays.specs.Tab.{tab}
 use Rattle.tree.specs.Build.{Rises, lengthWith}
 use Rattle.arrays.specs.Paste.{Pasted}

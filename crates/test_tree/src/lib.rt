@@ -10,7 +10,7 @@ use tree::list::degree_of;
 use tree::list::listing;
 ghost use mathlib.Core.Path.{_≡_};
 ghost use Rattle.spanning.specs.Graph.{degree};
-ghost use Rattle.tree.specs.Keys.{keyGraph};
+ghost use Rattle.keys.specs.Keys.{keyGraph};
 ghost use Rattle.test_tree.specs.Answers.{Builds, Measures, Lists};
 
 // No count: the largest usize.

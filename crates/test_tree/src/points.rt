@@ -2,7 +2,7 @@
 ghost use mathlib.Core.Bool.{true, false};
 ghost use Prim.Native.Nat.{_≤_, _<_};
 ghost use lib.ListN.{length};
-ghost use Rattle.tree.specs.Held.{held};
+ghost use Rattle.keys.specs.Held.{held};
 ghost use Rattle.tree.specs.Build.{Rises};
 ghost use Rattle.test_tree.specs.Answers.{Points, Says};
 

@@ -17,10 +17,10 @@ use Rattle.plane.proofs.Order.{lower-order}
 use Rattle.arrays.specs.Set.{put, union}
 use Rattle.model.specs.Tree.{treeLength}
 use Rattle.arrays.proofs.Set.{put-in, put-sorted}
-use Rattle.tree.specs.Keys.{weight, keyGraph, rays, allKeys, treeKeys, joinedKeys}
+use Rattle.keys.specs.Keys.{weight, keyGraph, rays, allKeys, treeKeys, joinedKeys}
 use Rattle.arrays.specs.Tab.{tab}
 use Rattle.tree.specs.Build.{Rises}
-use Rattle.tree.proofs.keys.All.{rays-same, all-keys-same}
+use Rattle.keys.proofs.All.{rays-same, all-keys-same}
 use Rattle.arrays.proofs.Tab.{tab-in}
 use Rattle.tree.proofs.Sorted.{ps-sorted, one-to-one}
 use Rattle.tree.proofs.Total.{tree-keys-total}

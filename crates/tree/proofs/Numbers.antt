@@ -23,10 +23,11 @@ use Rattle.arrays.proofs.Set.{tie-eq, no-tie}
 use Rattle.arrays.proofs.SetMap.{union-map}
 use Rattle.model.proofs.Tree.{mst-run-tree}
 use Rattle.model.proofs.FileSize.{number-rises, number-below}
-use Rattle.tree.specs.Keys.{keyGraph, edgeOf, allKeys, treeKeys, endsOf, endsAt}
+use Rattle.keys.specs.Keys.{keyGraph, edgeOf, allKeys, treeKeys, endsOf}
+use Rattle.tree.specs.Ends.{endsAt}
 use Rattle.arrays.specs.Tab.{tab}
 use Rattle.tree.specs.Build.{Rises}
-use Rattle.tree.proofs.keys.All.{all-keys-in, key-ends}
+use Rattle.keys.proofs.All.{all-keys-in, key-ends}
 use Rattle.arrays.proofs.Tab.{tab-in, tab-length}
 use Rattle.tree.proofs.Sorted.{ps-sorted, tree-keys-mst}
 

@@ -16,7 +16,7 @@ use Rattle.plane.proofs.Stored.{coordinate-value}
 use Rattle.model.specs.Tree.{mst}
 use Rattle.model.proofs.Tree.{mst-run-tree}
 use Rattle.model.proofs.Bounds.{edges-fewer}
-use Rattle.tree.specs.Keys.{edgeOf, treeKeys}
+use Rattle.keys.specs.Keys.{edgeOf, treeKeys}
 use Rattle.arrays.specs.Tab.{tab}
 use Rattle.tree.specs.Build.{Rises}
 use Rattle.tree.proofs.Sorted.{ps-sorted, tree-keys-mst}

@@ -21,10 +21,10 @@ use Rattle.plane.proofs.EdgeAtPoint.{level, listed-lo, listed-hi}
 use Rattle.model.specs.Tree.{edges, mst, edgesAt}
 use Rattle.model.proofs.Tree.{edges-in, edges-sorted}
 use Rattle.model.proofs.Candidate.{map-in}
-use Rattle.tree.specs.Keys.{key, keyGraph, edgeOf, allKeys, treeKeys}
+use Rattle.keys.specs.Keys.{key, keyGraph, edgeOf, allKeys, treeKeys}
 use Rattle.arrays.specs.Tab.{tab}
 use Rattle.tree.specs.Build.{Rises}
-use Rattle.tree.proofs.keys.All.{KeyAt, all-keys-in, all-keys-sorted, key-ends}
+use Rattle.keys.proofs.All.{KeyAt, all-keys-in, all-keys-sorted, key-ends}
 use Rattle.arrays.proofs.Tab.{tab-in}
 
 sorted-snoc : {A : Type 0} (R : A → A → Type 0) (l : List A) (a : A) → Sorted R l → ((b : A) → List·Memᴰ b l → R b a) → Sorted R (l ++ (a ∷ []))

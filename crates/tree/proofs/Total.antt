@@ -26,9 +26,9 @@ use Rattle.model.proofs.Tree.{mst-run-tree}
 use Rattle.plane.proofs.Axis.{Connects}
 use Rattle.model.proofs.Cover.{Ends, mst-cover}
 use Rattle.model.proofs.Candidate.{map-in}
-use Rattle.tree.specs.Keys.{key, weight, high, keyGraph, edgeOf, allKeys, treeKeys}
-use Rattle.tree.proofs.keys.Parts.{key-weight, weight-le}
-use Rattle.tree.proofs.keys.All.{KeyAt, all-keys-in, all-keys-sorted, key-ends, all-keys-join}
+use Rattle.keys.specs.Keys.{key, weight, high, keyGraph, edgeOf, allKeys, treeKeys}
+use Rattle.keys.proofs.Parts.{key-weight, weight-le}
+use Rattle.keys.proofs.All.{KeyAt, all-keys-in, all-keys-sorted, key-ends, all-keys-join}
 
 -- The number of a point among the first n (n where it is not among them).
 index : (ℕ → Point) → ℕ → Point → ℕ

@@ -7,8 +7,8 @@ use Rattle.plane.specs.Point.{Point, lower, Lower}
 use Rattle.plane.specs.Stored.{pointAt}
 use Rattle.arrays.specs.Set.{put}
 use Rattle.model.specs.Tree.{treeLength}
-use Rattle.tree.specs.Held.{held}
-use Rattle.tree.specs.Keys.{places, octantCount, treeKeys}
+use Rattle.keys.specs.Held.{held}
+use Rattle.keys.specs.Keys.{places, octantCount, treeKeys}
 use Rattle.arrays.specs.Tab.{tab}
 
 -- The first n points rise with their numbers.

@@ -1,4 +1,2 @@
 pub mod Build
-pub mod Held
-pub mod Keys
-pub mod Labels
+pub mod Ends

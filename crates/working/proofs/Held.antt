@@ -8,7 +8,7 @@ use lib.ListN.{length, getD, set, length-set}
 use lib.Seq.{getD-set-same, getD-set-other}
 use Rattle.plane.specs.Code.{xOf, yOf, pointOf}
 use Rattle.plane.specs.Stored.{pointAt}
-use Rattle.tree.specs.Held.{held}
+use Rattle.keys.specs.Held.{held}
 
 -- The first i of n codes are passed.
 pub record Unpacked (codes : List ℕ) (n : ℕ) (xs₀ ys₀ xs ys : List ℕ) (i : ℕ) : Type 0 where

@@ -19,8 +19,8 @@ use Rattle.arrays.proofs.Set.{union-in, union-sorted, rising-sorted, union-leng
 use Rattle.model.proofs.Candidate.{map-in}
 use Rattle.arrays.specs.Paste.{Pasted}
 use Rattle.sorted.proofs.Rise.{get-in, get-rises}
-use Rattle.tree.specs.Held.{held}
-use Rattle.tree.specs.Keys.{treeKeys}
+use Rattle.keys.specs.Held.{held}
+use Rattle.keys.specs.Keys.{treeKeys}
 use Rattle.arrays.specs.Tab.{tab}
 use Rattle.tree.specs.Build.{Rises, BuildRequires}
 use Rattle.arrays.proofs.Tab.{tab-length, tab-get, tab-same}

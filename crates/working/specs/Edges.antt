@@ -9,7 +9,7 @@ use Rattle.plane.specs.Edge.{Edge, edgeLength}
 use Rattle.plane.specs.Code.{pointOf, isCode}
 use Rattle.model.specs.State.{State, points}
 use Rattle.model.specs.Question.{listed}
-use Rattle.tree.specs.Keys.{endsAt}
+use Rattle.tree.specs.Ends.{endsAt}
 use Rattle.points.specs.Coded.{padded, places}
 use Rattle.working.specs.declared.edges.CodedEdge.{CodedEdge}
 

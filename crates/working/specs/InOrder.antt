@@ -6,9 +6,9 @@ use lib.Dec.{ltb}
 use lib.ListN.{length, take}
 use Rattle.arrays.specs.Set.{union}
 use Rattle.model.specs.State.{State, points}
-use Rattle.tree.specs.Keys.{treeKeys}
+use Rattle.keys.specs.Keys.{treeKeys}
 use Rattle.arrays.specs.Tab.{tab}
-use Rattle.tree.specs.Held.{held}
+use Rattle.keys.specs.Held.{held}
 use Rattle.tree.specs.Build.{Rises}
 use Rattle.points.specs.declared.Points.{Points}
 use Rattle.points.specs.Coded as coded

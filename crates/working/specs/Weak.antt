@@ -6,7 +6,7 @@ use lib.ListN.{take}
 use Rattle.spanning.specs.Graph.{degree}
 use Rattle.arrays.specs.Test.{if}
 use Rattle.arrays.specs.Array.{indexOf}
-use Rattle.tree.specs.Keys.{keyGraph}
+use Rattle.keys.specs.Keys.{keyGraph}
 use Rattle.working.specs.declared.Working.{Working}
 
 -- Where it stands in a list of codes, among the points whose codes are `all` and whose tree has the keys; the length where there is none.

@@ -1,9 +1,9 @@
 // The edges of a working form in the listing order. Whoever needs the edges of a deck asks for them here.
 use super::Working;
+use keys::FACTOR;
 use plane::codes::x_of;
 use plane::codes::y_of;
 use points::PLACES;
-use tree::keys::FACTOR;
 ghost use mathlib.Core.Path.{_≡_};
 ghost use Prim.Native.Nat.{_<_};
 ghost use Rattle.plane.specs.Point.{dist};

@@ -11,7 +11,7 @@ ghost use mathlib.Core.Path.{_≡_};
 ghost use Prim.Native.Nat.{ℕ, _≤_, _<_};
 ghost use lib.ListN.{length, getD};
 ghost use Rattle.plane.specs.Code.{pointOf};
-ghost use Rattle.tree.specs.Held.{held};
+ghost use Rattle.keys.specs.Held.{held};
 ghost use Rattle.points.specs.Coded.{Arranged};
 ghost use Rattle.working.specs.InOrder.{InOrder};
 

@@ -2,8 +2,8 @@
 use mathlib.Core.Path.{refl}
 use Prim.Native.Nat.{_+_, _*_, _-_}
 use native.Mathlib.Omega.{arith}
-use Rattle.tree.specs.Keys.{places}
-use Rattle.tree.proofs.kruskal.Fill.{Filled, fill-none, fill-more}
+use Rattle.keys.specs.Keys.{places}
+use Rattle.kruskal.proofs.Fill.{Filled, fill-none, fill-more}
 use Rattle.bottleneck.proofs.clear_diagonal.Statement.{statement}
 use Rattle.bottleneck.proofs.clear_diagonal.Tie as tie
 

@@ -4,7 +4,7 @@ use mathlib.Core.Path.{refl}
 use Prim.Native.Nat.{_-_}
 use native.Mathlib.Omega.{arith}
 use borrow.Author.Needs.{needs}
-use Rattle.tree.proofs.kruskal.Labels.{labels-none}
+use Rattle.kruskal.proofs.Labels.{labels-none}
 use Rattle.bottleneck.proofs.TablePass.{TablePass, pass-none, pass-skip, pass-merge, pass-end, next-short}
 use Rattle.bottleneck.proofs.fill.Statement.{statement}
 use Rattle.bottleneck.proofs.fill.Tie as tie

@@ -3,7 +3,7 @@ use mathlib.Core.Path.{ap, _∙_}
 use Prim.Native.Nat.{_+_, _-_}
 use native.Mathlib.Omega.{arith}
 use lib.ListN.{getD}
-use Rattle.tree.proofs.kruskal.Fill.{Filled, fill-none, fill-more}
+use Rattle.kruskal.proofs.Fill.{Filled, fill-none, fill-more}
 use Rattle.bottleneck.specs.Table.{chosen}
 use Rattle.bottleneck.proofs.fill_row.Statement.{statement}
 use Rattle.bottleneck.proofs.fill_row.Tie as tie

@@ -10,8 +10,8 @@ use Rattle.spanning.specs.Graph.{total}
 use Rattle.spanning.specs.Kruskal.{kruskal}
 use Rattle.arrays.specs.Set.{put, union}
 use Rattle.model.specs.Tree.{pairs, edges, mst, treeLength}
-use Rattle.tree.specs.Held.{held}
-use Rattle.tree.specs.Keys.{weight, treeKeys}
+use Rattle.keys.specs.Held.{held}
+use Rattle.keys.specs.Keys.{weight, treeKeys}
 use Rattle.arrays.specs.Tab.{tab}
 use Rattle.tree.specs.Build.{lengthWith}
 use Rattle.arrays.specs.Paste.{Pasted}

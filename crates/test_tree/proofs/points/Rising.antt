@@ -9,7 +9,7 @@ use lib.Dec.{T}
 use lib.ListN.{length}
 use Rattle.plane.specs.Point.{Point, lower, Lower}
 use Rattle.plane.proofs.Order.{lower-order}
-use Rattle.tree.specs.Held.{held}
+use Rattle.keys.specs.Held.{held}
 use Rattle.tree.specs.Build.{Rises}
 use Rattle.test_tree.specs.Answers.{Says, Points}
 

@@ -29,8 +29,9 @@ use Rattle.model.specs.File.{numberOf}
 use Rattle.model.proofs.Tree.{mst-run-tree}
 use Rattle.model.proofs.Prune.{points-rise}
 use Rattle.model.proofs.FileSize.{listed-count, number-below}
-use Rattle.tree.specs.Held.{held}
-use Rattle.tree.specs.Keys.{edgeOf as edgeOfKey, weight, treeKeys, endsOf, endsAt}
+use Rattle.keys.specs.Held.{held}
+use Rattle.keys.specs.Keys.{edgeOf as edgeOfKey, weight, treeKeys, endsOf}
+use Rattle.tree.specs.Ends.{endsAt}
 use Rattle.tree.proofs.Lengths.{rising-total}
 use Rattle.tree.proofs.Numbers.{ends-listed}
 use Rattle.tree.proofs.Sorted.{tree-keys-mst}

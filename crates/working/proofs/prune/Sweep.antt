@@ -25,8 +25,8 @@ use Rattle.model.specs.Tree.{mst, edgesAt}
 use Rattle.model.specs.State.{State, points, lowestWeak, without, pruneFrom, prune}
 use Rattle.model.proofs.Candidate.{map-in}
 use Rattle.model.proofs.Prune.{prune-step, prune-stop}
-use Rattle.tree.specs.Held.{held}
-use Rattle.tree.specs.Keys.{keyGraph}
+use Rattle.keys.specs.Held.{held}
+use Rattle.keys.specs.Keys.{keyGraph}
 use Rattle.tree.proofs.Sorted.{tree-keys-degree}
 use Rattle.arrays.proofs.Tab.{tab-get}
 use Rattle.points.specs.declared.Points.{Points}

@@ -9,7 +9,7 @@ use lib.ListN.{length, take, drop, getD, drop-of-length-le}
 use lib.Seq.{drop-cons, getD-take, length-take-le}
 use Rattle.spanning.specs.Graph.{degree}
 use Rattle.arrays.proofs.Test.{by-test}
-use Rattle.tree.specs.Keys.{keyGraph}
+use Rattle.keys.specs.Keys.{keyGraph}
 use Rattle.arrays.specs.Array.{indexOf}
 use Rattle.working.specs.Weak.{firstWeak}
 

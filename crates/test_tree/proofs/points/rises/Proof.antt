@@ -5,7 +5,7 @@ use native.Mathlib.Omega.{arith}
 use borrow.Author.Needs.{needs}
 use borrow.Author.Tests.{not-true, not-false}
 use lib.Dec.{T}
-use Rattle.tree.specs.Held.{held}
+use Rattle.keys.specs.Held.{held}
 use Rattle.tree.specs.Build.{Rises}
 use Rattle.test_tree.proofs.points.Rising.{says-yes, says-no, rises-one, rises-fewer, rises-more, rises-not}
 use Rattle.test_tree.proofs.points.rises.Statement.{statement}
