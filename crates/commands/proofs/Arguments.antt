@@ -9,7 +9,7 @@ use lib.IntN.{ℤ, pos, negsuc}
 use lib.Signed.{leZ}
 use mir.Syntax.{w16}
 use mir.Val.{SFits}
-use Rattle.words.specs.declared.arguments.Arguments.{Arguments}
+use Rattle.arguments.specs.declared.Arguments.{Arguments}
 use Rattle.arrays.proofs.Test.{and-parts, of-true}
 use Rattle.commands.specs.Commands.{isShort, areShort, ofNumbers}
 

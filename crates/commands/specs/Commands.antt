@@ -11,8 +11,8 @@ use Rattle.commands.specs.declared.Change.the-variants.{Add, Withdraw, R
 use Rattle.commands.specs.declared.Query.the-variants.{Length, Counts, Run, Degree, Kinds}
 use Rattle.commands.specs.declared.Direction.the-variants.{Octant, Arrow, Glyph}
 use Rattle.commands.specs.declared.Command.the-variants as command
-use Rattle.words.specs.declared.arguments.Arguments.{Arguments}
-use Rattle.words.specs.declared.arguments.Arguments.the-variants.{Zero, One, Two, Three, Four, Five, Invalid}
+use Rattle.arguments.specs.declared.Arguments.{Arguments}
+use Rattle.arguments.specs.declared.Arguments.the-variants.{Zero, One, Two, Three, Four, Five, Invalid}
 use Rattle.arrays.specs.Text.{bytes}
 use Rattle.arrays.specs.Same.{sameList}
 

@@ -1,6 +1,6 @@
 // The commands of a script: a name and the numbers behind it.
+use arguments::Arguments;
 use arrays::same::same_bytes;
-use words::arguments::Arguments;
 ghost use mathlib.Core.Path.{_≡_};
 ghost use Rattle.commands.specs.Commands.{ofNumbers, ofOneWord, withNumber, withSize, withPair, withThree};
 ghost use Rattle.commands.specs.Commands.{questionWord, withKind, isShort, areShort, withFive};

@@ -13,8 +13,8 @@ use Rattle.arrays.specs.Same.{sameList}
 use Rattle.arrays.proofs.Test.{true-of, of-true, false-of}
 use Rattle.arrays.proofs.same.Alike.{same-eq, same-refl, same-not}
 use Rattle.words.specs.Hex.{isHex}
-use Rattle.words.specs.Arguments.{argumentsOf}
-use Rattle.words.specs.declared.arguments.Arguments.the-variants.{Zero, One, Two, Three, Five}
+use Rattle.arguments.specs.Arguments.{argumentsOf}
+use Rattle.arguments.specs.declared.Arguments.the-variants.{Zero, One, Two, Three, Five}
 use Rattle.commands.specs.declared.Command.the-variants.{Error, Read}
 use Rattle.commands.specs.Commands.{questionWord, ofOneWord, withSize, withNumber, withPair, withKind, withThree, areShort, withFive, ofNumbers}
 use Rattle.script.specs.Line.{ofFile, withFile, ofWords}

@@ -19,8 +19,8 @@ use Rattle.commands.specs.Commands.{ofNumbers}
 use Rattle.script.specs.Line.{ofFile, withFile, ofWords, isBlank, commandOf, second, fileInLine}
 use Rattle.arrays.specs.Text.{bytes}
 use Rattle.arrays.specs.Same.{sameList}
-use Rattle.words.specs.declared.arguments.Arguments.{Arguments}
-use Rattle.words.specs.Arguments.{argumentsOf}
+use Rattle.arguments.specs.declared.Arguments.{Arguments}
+use Rattle.arguments.specs.Arguments.{argumentsOf}
 
 -- The bytes from place a up to place b.
 abbrev part : ℕ → ℕ → List ℕ → List ℕ

@@ -7,10 +7,10 @@ use Prim.Native.Nat.{ℕ}
 use lib.Dec.{T}
 use lib.IntN.{ℤ, pos, negsuc}
 use Rattle.arrays.specs.Text.{bytes}
-use Rattle.words.specs.declared.arguments.Arguments.{Arguments}
-use Rattle.words.specs.declared.arguments.Arguments.the-variants.{Zero, One, Two, Three, Four, Five, Invalid}
+use Rattle.arguments.specs.declared.Arguments.{Arguments}
+use Rattle.arguments.specs.declared.Arguments.the-variants.{Zero, One, Two, Three, Four, Five, Invalid}
 use Rattle.words.specs.Hex.{isHex}
-use Rattle.words.specs.Arguments.{argumentsOf}
+use Rattle.arguments.specs.Arguments.{argumentsOf}
 use Rattle.commands.specs.declared.Command.the-variants.{Error, Read, Write, Call, Ask, Direct}
 use Rattle.commands.specs.declared.Command.the-variants as command
 use Rattle.commands.specs.declared.Change.the-variants.{Add, Withdraw, Round, Finish}

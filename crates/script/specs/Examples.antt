@@ -13,8 +13,8 @@ use Rattle.commands.specs.declared.Direction.the-variants.{Octant, Arrow, Glyph
 use Rattle.arrays.specs.Text.{bytes}
 use Rattle.arrays.specs.Same.{sameList}
 use Rattle.words.specs.Words.{isSpace, split}
-use Rattle.words.specs.Numbers.{areDigits, valueFrom, numberOf}
-use Rattle.words.specs.Arguments.{numbersOf, argumentsOf}
+use Rattle.numbers.specs.Numbers.{areDigits, valueFrom, numberOf}
+use Rattle.arguments.specs.Arguments.{numbersOf, argumentsOf}
 use Rattle.words.specs.Hex.{digitOf, isHex, pairs}
 use Rattle.commands.specs.Commands.{questionWord, ofOneWord, withSize, withNumber, withPair, withKind, withThree, isShort, areShort, withFive}
 use Rattle.commands.specs.Commands.{ofNumbers}

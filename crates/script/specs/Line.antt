@@ -11,7 +11,7 @@ use Rattle.commands.specs.Commands.{ofNumbers}
 use Rattle.arrays.specs.Text.{bytes, byte}
 use Rattle.arrays.specs.Same.{sameList}
 use Rattle.words.specs.Words.{wordsOf}
-use Rattle.words.specs.Arguments.{argumentsOf}
+use Rattle.arguments.specs.Arguments.{argumentsOf}
 use Rattle.words.specs.Hex.{isHex, pairs}
 
 -- The most bytes of a line.

@@ -1,9 +1,9 @@
 // One line of a script of calls: the command that it asks for, and the bytes of a file in it. A line that asks for nothing and a
 // line that is no command have their own variants, so every line has an answer.
+use arguments::arguments_of;
 use arrays::same::same_bytes;
 use commands::Command;
 use commands::of_numbers;
-use words::arguments::arguments_of;
 use words::hex::decode;
 use words::hex::is_hex;
 use words::next;

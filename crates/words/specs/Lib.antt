@@ -1,4 +1,2 @@
-pub mod Arguments
 pub mod Hex
-pub mod Numbers
 pub mod Words

@@ -1,7 +1,5 @@
-// The words of a line, one after the other; numbers in base ten, up to five as arguments, and bytes in hexadecimal.
-pub mod arguments;
+// The words of a line, one after the other, and bytes in hexadecimal.
 pub mod hex;
-pub mod numbers;
 
 ghost use mathlib.Core.Path.{_≡_};
 ghost use Prim.Native.Nat.{_+_, _≤_};

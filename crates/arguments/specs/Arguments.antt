@@ -3,11 +3,11 @@ use mathlib.Core.Option.{Option, none, some}
 use mathlib.Core.List.{List, [], _∷_}
 use Prim.Native.Nat.{ℕ}
 use lib.IntN.{ℤ}
-use Rattle.words.specs.declared.arguments.Arguments.{Arguments}
-use Rattle.words.specs.declared.arguments.Arguments.the-variants.{Zero, One, Two, Three, Four, Five, Invalid}
-use Rattle.words.specs.declared.numbers.Number.{Number}
-use Rattle.words.specs.declared.numbers.Number.the-variants.{NoNumber, Is}
-use Rattle.words.specs.Numbers.{numberOf}
+use Rattle.arguments.specs.declared.Arguments.{Arguments}
+use Rattle.arguments.specs.declared.Arguments.the-variants.{Zero, One, Two, Three, Four, Five, Invalid}
+use Rattle.numbers.specs.declared.Number.{Number}
+use Rattle.numbers.specs.declared.Number.the-variants.{NoNumber, Is}
+use Rattle.numbers.specs.Numbers.{numberOf}
 
 -- A number in front of others; none where one is missing.
 abbrev pub before : Number → Option (List ℤ) → Option (List ℤ)

@@ -2,7 +2,7 @@
 ghost use mathlib.Core.Path.{_≡_};
 ghost use Prim.Native.Nat.{_≤_};
 ghost use lib.IntN.{pos, negℤ};
-ghost use Rattle.words.specs.Numbers.{largest, smallest, magnitudeOf, numberOf};
+ghost use Rattle.numbers.specs.Numbers.{largest, smallest, magnitudeOf, numberOf};
 
 // The largest number of 32 bits with a sign, and the smallest without its sign.
 const LARGEST: u64 = 2147483647;

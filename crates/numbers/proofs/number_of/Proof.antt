@@ -1,11 +1,11 @@
--- `words::numbers::number_of` meets its contract: by the first byte, and by the magnitude of what follows or of the whole word.
+-- `numbers::number_of` meets its contract: by the first byte, and by the magnitude of what follows or of the whole word.
 use mathlib.Core.Path.{ap, _∙_}
 use borrow.Author.Needs.{needs}
 use Rattle.arrays.proofs.Signed.{read-is}
-use Rattle.words.specs.declared.numbers.Number.the-variants.{Is}
-use Rattle.words.proofs.numbers.Digits.{number-empty, minus-none, minus-some, plus-none, plus-some}
-use Rattle.words.proofs.numbers.number_of.Statement.{statement}
-use Rattle.words.proofs.numbers.number_of.Tie as tie
+use Rattle.numbers.specs.declared.Number.the-variants.{Is}
+use Rattle.numbers.proofs.Digits.{number-empty, minus-none, minus-some, plus-none, plus-some}
+use Rattle.numbers.proofs.number_of.Statement.{statement}
+use Rattle.numbers.proofs.number_of.Tie as tie
 
 returns : tie.Need-returns
 returns c = number-empty _ (c .if1 .taken)

@@ -1,4 +1,4 @@
--- `words::numbers::negated` meets its contract: 64 bits hold the value and its negative, and 32 bits hold the negative.
+-- `numbers::negated` meets its contract: 64 bits hold the value and its negative, and 32 bits hold the negative.
 use mathlib.Core.Path.{_≡_, sym, ap, _∙_, subst}
 use native.Mathlib.Omega.{arith}
 use borrow.Author.Needs.{needs}
@@ -6,9 +6,9 @@ use lib.IntN.{ℤ, pos, negℤ, _-ℤ_}
 use mir.Syntax.{w32, w64}
 use mir.Val.{SFits, toZ, ofZ}
 use mir.ValLaws.{toZ-pos, toZ-ofZ}
-use Rattle.words.proofs.numbers.Digits.{minus-is, minus-fits}
-use Rattle.words.proofs.numbers.negated.Statement.{statement}
-use Rattle.words.proofs.numbers.negated.Tie as tie
+use Rattle.numbers.proofs.Digits.{minus-is, minus-fits}
+use Rattle.numbers.proofs.negated.Statement.{statement}
+use Rattle.numbers.proofs.negated.Tie as tie
 
 -- The difference as it is computed.
 read : (c : tie.Start) → pos 0 -ℤ toZ w64 (c .args .m) ≡ negℤ (pos (c .args .m))

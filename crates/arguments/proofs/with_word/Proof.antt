@@ -1,10 +1,10 @@
--- `words::arguments::with_word` meets its contract: by what number the word stands for, which is read back from its bits.
+-- `arguments::with_word` meets its contract: by what number the word stands for, which is read back from its bits.
 use mathlib.Core.Path.{sym, ap, _∙_}
 use borrow.Author.Needs.{needs}
 use Rattle.arrays.proofs.Signed.{read-one}
-use Rattle.words.specs.Arguments.{appended, numberAppended, withWord}
-use Rattle.words.proofs.arguments.with_word.Statement.{statement}
-use Rattle.words.proofs.arguments.with_word.Tie as tie
+use Rattle.arguments.specs.Arguments.{appended, numberAppended, withWord}
+use Rattle.arguments.proofs.with_word.Statement.{statement}
+use Rattle.arguments.proofs.with_word.Tie as tie
 
 returns : tie.Need-returns
 unfolding withWord

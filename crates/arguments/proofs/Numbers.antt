@@ -4,13 +4,13 @@ use mathlib.Core.Option.{Option, none, some}
 use mathlib.Core.List.{List, [], _∷_, _++_, append-nil, append-assoc}
 use Prim.Native.Nat.{ℕ, _-_, _≤_}
 use lib.ListN.{length, take, drop, drop-of-length-le}
-use Rattle.words.specs.declared.arguments.Arguments.{Arguments}
+use Rattle.arguments.specs.declared.Arguments.{Arguments}
 use Rattle.words.specs.Words.{split, wordsOf, Next}
-use Rattle.words.specs.declared.arguments.Arguments.the-variants.{Zero, Invalid}
-use Rattle.words.specs.declared.numbers.Number.{Number}
-use Rattle.words.specs.declared.numbers.Number.the-variants.{NoNumber, Is}
-use Rattle.words.specs.Numbers.{numberOf}
-use Rattle.words.specs.Arguments.{before, numbersOf, upToFive, ifNumbers, argumentsOf, appended, numberAppended, withWord, argumentsFrom}
+use Rattle.arguments.specs.declared.Arguments.the-variants.{Zero, Invalid}
+use Rattle.numbers.specs.declared.Number.{Number}
+use Rattle.numbers.specs.declared.Number.the-variants.{NoNumber, Is}
+use Rattle.numbers.specs.Numbers.{numberOf}
+use Rattle.arguments.specs.Arguments.{before, numbersOf, upToFive, ifNumbers, argumentsOf, appended, numberAppended, withWord, argumentsFrom}
 use lib.IntN.{ℤ}
 
 -- One more number behind up to five.

@@ -1,11 +1,11 @@
 // The numbers of a line behind a place, up to five: the arguments of a call.
-use super::next;
-use super::numbers::Number;
-use super::numbers::number_of;
+use numbers::Number;
+use numbers::number_of;
+use words::next;
 ghost use mathlib.Core.Path.{_≡_};
 ghost use lib.ListN.{drop};
 ghost use Rattle.words.specs.Words.{wordsOf};
-ghost use Rattle.words.specs.Arguments.{appended, withWord, argumentsOf};
+ghost use Rattle.arguments.specs.Arguments.{appended, withWord, argumentsOf};
 
 // The numbers that words stand for, none to five of them; or others: a word that stands for no number, or a sixth word.
 pub enum Arguments {

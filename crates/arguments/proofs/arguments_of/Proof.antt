@@ -1,15 +1,15 @@
--- `words::arguments::arguments_of` meets its contract. The invariant: the numbers asked for are those so far and those of the words from `at`
+-- `arguments::arguments_of` meets its contract. The invariant: the numbers asked for are those so far and those of the words from `at`
 -- on. The measure: how many bytes are left.
 use mathlib.Core.Path.{_≡_, sym}
 use Prim.Native.Nat.{_-_}
 use native.Mathlib.Omega.{arith}
 use borrow.Author.Needs.{needs}
 use lib.ListN.{length, drop}
 use Rattle.words.specs.Words.{wordsOf}
-use Rattle.words.specs.Arguments.{argumentsFrom, argumentsOf}
-use Rattle.words.proofs.arguments.Numbers.{arguments-are, numbers-none, numbers-more, numbers-end}
-use Rattle.words.proofs.arguments.arguments_of.Statement.{statement}
-use Rattle.words.proofs.arguments.arguments_of.Tie as tie
+use Rattle.arguments.specs.Arguments.{argumentsFrom, argumentsOf}
+use Rattle.arguments.proofs.Numbers.{arguments-are, numbers-none, numbers-more, numbers-end}
+use Rattle.arguments.proofs.arguments_of.Statement.{statement}
+use Rattle.arguments.proofs.arguments_of.Tie as tie
 
 abbrev Inv-loop : tie.InvT-loop
 Inv-loop line from a₀ at₀ a at = argumentsOf (wordsOf (drop from line)) ≡ argumentsFrom a (wordsOf (drop at line))

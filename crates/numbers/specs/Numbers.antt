@@ -6,8 +6,8 @@ use lib.Dec.{leb, eqb}
 use lib.IntN.{pos, negℤ}
 use Rattle.arrays.specs.Test.{if}
 use Rattle.arrays.specs.Text.{byte}
-use Rattle.words.specs.declared.numbers.Number.{Number}
-use Rattle.words.specs.declared.numbers.Number.the-variants.{NoNumber, Is}
+use Rattle.numbers.specs.declared.Number.{Number}
+use Rattle.numbers.specs.declared.Number.the-variants.{NoNumber, Is}
 
 -- Whether every byte is a digit, 0 to 9.
 unfoldable pub areDigits : List ℕ → Bool

@@ -1,14 +1,14 @@
--- `words::numbers::magnitude` meets its contract. The invariant: the answer is the one for the digits left, after digits of the
+-- `numbers::magnitude` meets its contract. The invariant: the answer is the one for the digits left, after digits of the
 -- value v, which is at most `most`. The measure: how many digits are left.
 use mathlib.Core.Path.{_≡_}
 use Prim.Native.Nat.{_-_, _≤_}
 use native.Mathlib.Omega.{arith}
 use borrow.Author.Needs.{needs}
 use lib.ListN.{length, drop}
-use Rattle.words.specs.Numbers.{magnitudeOf}
-use Rattle.words.proofs.numbers.Digits.{read, read-all, read-none, read-low, read-high, read-large, read-on, read-end}
-use Rattle.words.proofs.numbers.magnitude.Statement.{statement}
-use Rattle.words.proofs.numbers.magnitude.Tie as tie
+use Rattle.numbers.specs.Numbers.{magnitudeOf}
+use Rattle.numbers.proofs.Digits.{read, read-all, read-none, read-low, read-high, read-large, read-on, read-end}
+use Rattle.numbers.proofs.magnitude.Statement.{statement}
+use Rattle.numbers.proofs.magnitude.Tie as tie
 
 abbrev Inv-loop : tie.InvT-loop
 Inv-loop digits most none v₀ i₀ v i = (v ≤ most) × (magnitudeOf most digits ≡ read most v (drop i digits))

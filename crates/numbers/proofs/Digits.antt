@@ -14,9 +14,9 @@ use mir.Syntax.{w32, w64}
 use mir.Val.{SFits}
 use borrow.Author.Tests.{le-leb, lt-leb, leb-true, eq-eqb, ne-eqb}
 use Rattle.arrays.specs.Test.{if}
-use Rattle.words.specs.declared.numbers.Number.the-variants.{NoNumber, Is}
-use Rattle.words.specs.Numbers.{areDigits, valueFrom, isMagnitude, magnitudeOf, numberOf}
+use Rattle.numbers.specs.declared.Number.the-variants.{NoNumber, Is}
+use Rattle.numbers.specs.Numbers.{areDigits, valueFrom, isMagnitude, magnitudeOf, numberOf}
 use Rattle.words.proofs.Words.{here}
 
 -- What the loop answers for the digits l that follow digits of the value v.
 unfoldable pub read : ℕ → ℕ → List ℕ → ℕ

@@ -1,13 +1,13 @@
--- `words::arguments::append` meets its contract: in each arm the numbers so far are known, and each number is read back from its bits.
+-- `arguments::append` meets its contract: in each arm the numbers so far are known, and each number is read back from its bits.
 use mathlib.Core.Path.{_≡_, sym, ap, _∙_}
 use lib.IntN.{ℤ}
 use borrow.Author.Needs.{needs}
 use Rattle.arrays.proofs.Signed.{read-one, read-two, read-three, read-four, read-five}
-use Rattle.words.specs.declared.arguments.Arguments.{Arguments}
-use Rattle.words.specs.declared.arguments.Arguments.the-variants.{One, Two, Three, Four, Five}
-use Rattle.words.specs.Arguments.{appended}
-use Rattle.words.proofs.arguments.append.Statement.{statement}
-use Rattle.words.proofs.arguments.append.Tie as tie
+use Rattle.arguments.specs.declared.Arguments.{Arguments}
+use Rattle.arguments.specs.declared.Arguments.the-variants.{One, Two, Three, Four, Five}
+use Rattle.arguments.specs.Arguments.{appended}
+use Rattle.arguments.proofs.append.Statement.{statement}
+use Rattle.arguments.proofs.append.Tie as tie
 
 -- What is appended to equal numbers is equal.
 same-appended : {a b : Arguments} (z : ℤ) → a ≡ b → appended b z ≡ appended a z
