@@ -87,7 +87,7 @@ fn add_at(d: WorkingDeck, k: u64, kind: u32) -> Changed
         return refuse(d, 10);
     }
     let given = kind as u8;
-    let next = working::change::insert(d.form, k);
+    let next = prune::change::insert(d.form, k);
     Changed {
         working: follow(d, next, given),
         reply: Reply::Done,
@@ -104,7 +104,7 @@ fn withdraw_at(d: WorkingDeck, k: u64) -> Changed
     if !sorted::has(&pins, d.form.points.npins, k) {
         return refuse(d, 9);
     }
-    let next = working::change::remove(d.form, k);
+    let next = prune::change::remove(d.form, k);
     Changed {
         working: follow(d, next, SENSOR),
         reply: Reply::Done,

@@ -20,10 +20,10 @@ use Rattle.keys.specs.Held.{held}
 use Rattle.arrays.specs.Tab.{tab}
 use Rattle.tree.proofs.Sorted.{ps-sorted}
 use Rattle.regions.specs.Rays.{far}
-use Rattle.crossing.specs.declared.found.Greatest.{Greatest}
-use Rattle.crossing.specs.declared.found.Best.the-variants.{Nothing}
-use Rattle.crossing.specs.Search.{TreeGiven, Lines, pointsOf, answerOf, tryAll}
-use Rattle.crossing.proofs.search.Scan.{try-crossings}
+use Rattle.search.specs.declared.found.Greatest.{Greatest}
+use Rattle.search.specs.declared.found.Best.the-variants.{Nothing}
+use Rattle.search.specs.Search.{TreeGiven, Lines, pointsOf, answerOf, tryAll}
+use Rattle.search.proofs.Scan.{try-crossings}
 
 -- One coordinate of the first n points, f, which is stored in the list l.
 module _ (at : ℕ → Point) (f : Point → ℤ) (l : List ℕ) (e : (i : ℕ) → f (at i) ≡ coordinate (getD l i 0)) where

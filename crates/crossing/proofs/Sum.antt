@@ -9,7 +9,7 @@ use Rattle.model.specs.Tree.{treeLength}
 use Rattle.keys.specs.Held.{held}
 use Rattle.keys.specs.Keys.{weight}
 use Rattle.tree.proofs.Lengths.{rising-total}
-use Rattle.crossing.specs.Search.{TreeGiven, pointsOf}
+use Rattle.search.specs.Search.{TreeGiven, pointsOf}
 
 pub keys-length : {xs ys : List ℕ} {n : ℕ} {keys : List ℕ} {m : ℕ} → TreeGiven xs ys n keys m → total weight (take m keys) ≡ treeLength (pointsOf xs ys n)
 keys-length {xs} {ys} {n} p = ap (total weight) (p .tree) ∙ rising-total (held xs ys) n (omega arith) (p .rises)

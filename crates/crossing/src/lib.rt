@@ -1,22 +1,20 @@
 // The best crossing of a round: of the candidates (SPEC 4.4) the lowest that makes the tree shortest, if it makes it shorter at all.
 //
 // The points are the first n of two slices of stored coordinates, lower first, and the keys of their tree the first m of `keys`.
-pub mod found;
 pub mod prepare;
-pub mod search;
 
-use found::Best;
-use found::Greatest;
 use plane::PLACES;
 use prepare::lines;
 use prepare::prepare;
 use regions::rows::blank;
 use score::gain::FAR;
 use search::all_columns;
+use search::found::Best;
+use search::found::Greatest;
 ghost use mathlib.Core.Path.{_≡_};
 ghost use Prim.Native.Nat.{_<_};
 ghost use Rattle.model.specs.Round as round;
-ghost use Rattle.crossing.specs.Search.{TreeGiven, pointsOf, answerOf};
+ghost use Rattle.search.specs.Search.{TreeGiven, pointsOf, answerOf};
 
 // The best crossing of a tree of at least one point, by the search over all crossings.
 fn search_all(xs: &[u16], ys: &[u16], n: usize, keys: &[u64], m: usize) -> Best

@@ -16,7 +16,7 @@ use Rattle.points.proofs.Codes.{padded-take}
 use Rattle.points.proofs.Coded.{state-coded, valid-arranged}
 use Rattle.working.specs.declared.deck.WorkingDeck.{WorkingDeck}
 use Rattle.working.specs.WorkingDeck as workingDeck
-use Rattle.working.specs.Edges.{edgeRow}
+use Rattle.edges.specs.Edges.{edgeRow}
 use Rattle.deck.specs.declared.Deck.{Deck}
 use Rattle.deck.specs.Form.{deckOf, contentsOf, stateOf, Sound, samePoints, sameDeck, sound}
 

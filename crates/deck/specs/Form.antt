@@ -8,7 +8,7 @@ use Rattle.model.specs.State.{State, maxPins}
 use Rattle.model.specs.Contents.{Contents, withKinds, ValidContents, validContents}
 use Rattle.points.specs.declared.Points.{Points}
 use Rattle.points.specs.Coded as coded
-use Rattle.working.specs.Edges.{edgeRow}
+use Rattle.edges.specs.Edges.{edgeRow}
 use Rattle.deck.specs.declared.Deck.{Deck}
 
 -- The deck of contents.

@@ -1,12 +1,12 @@
 // Check 11: whether a deck is sound, with the deck in working form where it is.
 use super::Deck;
+use edges::edge_numbers;
 use points::Points;
 use points::kinds::LARGEST_KIND;
 use points::kinds::all_within;
 use points::kinds::in_front;
 use working::Working;
 use working::deck::WorkingDeck;
-use working::edges::edge_numbers;
 ghost use mathlib.Core.Path.{_≡_};
 ghost use mathlib.Core.Bool.{Bool, _&&_};
 ghost use Prim.Native.Nat.{_≤_};
@@ -86,7 +86,7 @@ pub fn form_of(q: Points) -> Formed
         return no_form();
     }
     let w = working::arrange(q);
-    if working::prune::lowest_weak(w) < w.points.nsteiner {
+    if prune::lowest_weak(w) < w.points.nsteiner {
         return no_form();
     }
     Formed { ok: true, form: w }

@@ -1,4 +1,3 @@
 pub mod Checks
 pub mod RoundTrip
-pub mod Runs
 pub mod Stored

@@ -31,7 +31,7 @@ use Rattle.deckfile.specs.declared.Written.the-variants.{Refused, Length
 use Rattle.deckfile.specs.Reading.{readOutcome, reading, acceptedDeck}
 use Rattle.deckfile.specs.Writing.{written, bufferAfter}
 use Rattle.deckfile.specs.RoundTrip.{ReadSound, SoundFits, WrittenRead, FullWrittenBack, PlainWrittenFull, SectionsWritten, WrittenSections}
-use Rattle.deckfile.proofs.Runs.{edge-count}
+use Rattle.writer.proofs.Runs.{edge-count}
 use Rattle.deckfile.proofs.Stored.{write-fits}
 
 pub read-sound : ReadSound

@@ -2,7 +2,6 @@
 // goes on with a file reads and writes its deck in working form, and `read` and `write` do the same for decks.
 pub mod answer;
 mod reader;
-mod writer;
 
 use calls::Changed;
 use deck::Deck;

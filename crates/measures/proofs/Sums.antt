@@ -19,11 +19,11 @@ use Rattle.model.specs.KindLength.{runKind, lengthIn, kindLengths}
 use Rattle.model.proofs.KindLength.{share, length-none, length-behind, run-kind-known}
 use Rattle.tree.proofs.Size.{near-words}
 use Rattle.working.specs.declared.deck.WorkingDeck.{WorkingDeck}
-use Rattle.working.specs.declared.edges.CodedEdge.{CodedEdge}
+use Rattle.edges.specs.declared.CodedEdge.{CodedEdge}
 use Rattle.working.specs.InOrder.{InOrder, stateOf}
 use Rattle.working.specs.WorkingDeck.{contentsOf}
-use Rattle.working.specs.Edges.{edgeOf, EdgeAt}
-use Rattle.working.proofs.edges.Numbers.{edges-more, listed-length}
+use Rattle.edges.specs.Edges.{edgeOf, EdgeAt}
+use Rattle.edges.proofs.Numbers.{edges-more, listed-length}
 use Rattle.measures.specs.Measures.{codedKind}
 
 -- The sums over some edges.

@@ -7,7 +7,7 @@ use Rattle.arrays.specs.Beside.{beside}
 use Rattle.model.specs.DeviceKinds.{sensor}
 use Rattle.model.specs.Contents.{Contents}
 use Rattle.model.specs.Question as question
-use Rattle.working.specs.declared.edges.CodedEdge.{CodedEdge}
+use Rattle.edges.specs.declared.CodedEdge.{CodedEdge}
 use Rattle.measures.specs.declared.Measures.{Measures}
 
 -- The counts of pins, taps and runs, and the length.

@@ -1,12 +1,12 @@
 // What is counted and measured of a deck in working form. The listing and the questions both ask here.
+use edges::CodedEdge;
+use edges::edge_at;
+use edges::edge_numbers;
+use edges::length_of;
 use plane::numbers::larger;
 use points::kinds::SENSOR;
 use points::kinds::kind_or;
 use working::deck::WorkingDeck;
-use working::edges::CodedEdge;
-use working::edges::edge_at;
-use working::edges::edge_numbers;
-use working::edges::length_of;
 ghost use mathlib.Core.Path.{_≡_};
 ghost use Prim.Native.Nat.{_≤_};
 ghost use lib.ListN.{length};

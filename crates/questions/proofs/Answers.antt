@@ -31,10 +31,10 @@ use Rattle.working.specs.declared.Working.{Working}
 use Rattle.working.specs.InOrder.{InOrder, stateOf}
 use Rattle.plane.proofs.codes.Sets.{points-has}
 use Rattle.working.proofs.InOrder.{all-codes, all-points, arranged-placed}
-use Rattle.working.proofs.prune.Sweep.{held-degree}
-use Rattle.working.proofs.edges.Numbers.{listed-length}
-use Rattle.working.specs.declared.edges.CodedEdge.{CodedEdge}
-use Rattle.working.specs.Edges.{edgeOf, EdgeAt}
+use Rattle.prune.proofs.Sweep.{held-degree}
+use Rattle.edges.proofs.Numbers.{listed-length}
+use Rattle.edges.specs.declared.CodedEdge.{CodedEdge}
+use Rattle.edges.specs.Edges.{edgeOf, EdgeAt}
 use Rattle.questions.specs.declared.Answer.the-variants.{Counts, Edge, NoEdge, Degree}
 use Rattle.questions.specs.Answers.{countsAnswer, codedAnswer, edgeAnswer, edgeOrNone, edgeAtAnswer, degreeAnswer}
 

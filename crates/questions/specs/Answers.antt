@@ -6,8 +6,8 @@ use Rattle.plane.specs.Edge.{Edge as PlaneEdge, edgeLength}
 use Rattle.model.specs.Contents.{Contents}
 use Rattle.model.specs.Question as question
 use Rattle.model.specs.KindLength.{kindLength}
-use Rattle.working.specs.declared.edges.CodedEdge.{CodedEdge}
-use Rattle.working.specs.Edges.{edgeOf}
+use Rattle.edges.specs.declared.CodedEdge.{CodedEdge}
+use Rattle.edges.specs.Edges.{edgeOf}
 use Rattle.questions.specs.declared.Answer.{Answer}
 use Rattle.questions.specs.declared.Answer.the-variants.{Length, Counts, Edge, NoEdge, Degree, Kinds}
 

@@ -1,4 +1,6 @@
 // The questions on a deck in working form.
+use edges::CodedEdge;
+use edges::edge_numbers;
 use measures::measure;
 use plane::codes::Located;
 use plane::codes::locate;
@@ -6,8 +8,6 @@ use plane::codes::x_of;
 use plane::codes::y_of;
 use working::Working;
 use working::deck::WorkingDeck;
-use working::edges::CodedEdge;
-use working::edges::edge_numbers;
 ghost use mathlib.Core.Path.{_≡_};
 ghost use lib.Dec.{T};
 ghost use Rattle.model.specs.Contents.{ValidContents};
@@ -90,7 +90,7 @@ pub fn edge_at(d: WorkingDeck, i: usize) -> Answer
         return Answer::NoEdge;
     }
     let ends = edge_numbers(d.form);
-    answer_of(working::edges::edge_at(d.form, &ends, i))
+    answer_of(edges::edge_at(d.form, &ends, i))
 }
 
 // Returns how many edges a point has, 0 where it is not held.

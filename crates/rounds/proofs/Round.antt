@@ -26,8 +26,8 @@ use Rattle.working.specs.InOrder as work
 use Rattle.points.specs.Coded.{maxPoints}
 use Rattle.points.proofs.Coded.{valid-few, pins-count, steiner-count}
 use Rattle.plane.proofs.codes.Points.{point-code, code-is}
-use Rattle.crossing.specs.declared.found.Best.the-variants.{Nothing, At}
-use Rattle.crossing.specs.Search.{answerOf}
+use Rattle.search.specs.declared.found.Best.the-variants.{Nothing, At}
+use Rattle.search.specs.Search.{answerOf}
 use Rattle.rounds.specs.declared.Step.the-variants.{Finished, Tap}
 use Rattle.rounds.specs.Rounds.{adds, stepOf}
 

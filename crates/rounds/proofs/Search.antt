@@ -6,7 +6,7 @@ use Rattle.model.specs.State.{points}
 use Rattle.model.specs.Round.{best}
 use Rattle.working.specs.declared.Working.{Working}
 use Rattle.working.specs.InOrder.{InOrder, stateOf}
-use Rattle.crossing.specs.Search.{TreeGiven, pointsOf, answerOf}
+use Rattle.search.specs.Search.{TreeGiven, pointsOf, answerOf}
 
 module _ (w : Working) (p : InOrder w) (hx : length (w .xs) ≡ 128) (hy : length (w .ys) ≡ 128) (hk : length (w .keys) ≡ 136) where
   pub given : TreeGiven (w .xs) (w .ys) (w .npoints) (w .keys) (w .nkeys)

@@ -1,13 +1,13 @@
 // The round and the run to the end on a working form. Each function asks for a working form in order; whoever hands one in has to
 // show that it is, as the check of a deck does.
-use crossing::found::Best;
+use edges::length_of;
+use search::found::Best;
 use working::Working;
-use working::edges::length_of;
 ghost use mathlib.Core.Path.{_≡_};
 ghost use Rattle.model.specs.State.{Valid, points};
 ghost use Rattle.model.specs.Round as round;
 ghost use Rattle.working.specs.InOrder as work;
-ghost use Rattle.crossing.specs.Search.{answerOf};
+ghost use Rattle.search.specs.Search.{answerOf};
 ghost use Rattle.rounds.specs.Rounds.{RoundOf, FinishOf};
 
 // What a round does: it is finished, or adds a Steiner point, with its x, its y and the whole fall in length.
@@ -53,7 +53,7 @@ pub fn round_of(w: Working) -> Rounded
             step: Step::Finished,
         },
         Best::At(u, v) => {
-            let next = working::change::with_steiner(w, plane::codes::pack(u, v));
+            let next = prune::change::with_steiner(w, plane::codes::pack(u, v));
             let fall = length_of(w) - length_of(next);
             let x = plane::to_signed(u);
             let y = plane::to_signed(v);

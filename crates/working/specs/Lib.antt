@@ -1,4 +1,2 @@
-pub mod Edges
 pub mod InOrder
-pub mod Weak
 pub mod WorkingDeck

@@ -1,8 +1,5 @@
 // The working form of a deck: its points, all of them in one array with their coordinates, and the keys of their tree.
-pub mod change;
 pub mod deck;
-pub mod edges;
-pub mod prune;
 
 use octants::OCTANTS;
 use points::PLACES;

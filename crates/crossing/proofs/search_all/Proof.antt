@@ -3,7 +3,7 @@
 use native.Mathlib.Omega.{arith}
 use borrow.Author.Needs.{needs}
 use Rattle.score.proofs.Geometry.{column-given}
-use Rattle.crossing.specs.Search.{Lines}
+use Rattle.search.specs.Search.{Lines}
 use Rattle.crossing.proofs.prepare.Values.{lines-written}
 use Rattle.crossing.proofs.Candidates.{best-found}
 use Rattle.crossing.proofs.search_all.Statement.{statement}

@@ -26,13 +26,13 @@ use Rattle.points.specs.Coded as coded
 use Rattle.points.proofs.Codes.{codes-full}
 use Rattle.points.proofs.Coded.{pins-count, arranged-coded}
 use Rattle.points.proofs.check.Tests.{arranged-passes}
-use Rattle.working.specs.Weak.{weakAt}
+use Rattle.prune.specs.Weak.{weakAt}
 use Rattle.working.specs.declared.Working.{Working}
 use Rattle.working.specs.declared.deck.WorkingDeck.{WorkingDeck}
 use Rattle.working.specs.WorkingDeck as workingDeck
 use Rattle.working.specs.InOrder as work
 use Rattle.working.proofs.InOrder.{arranged-placed}
-use Rattle.working.proofs.prune.Sweep.{Found, none-weak, at, found, order-degree}
+use Rattle.prune.proofs.Sweep.{Found, none-weak, at, found, order-degree}
 use Rattle.deck.specs.declared.Deck.{Deck}
 use Rattle.deck.specs.declared.check.Formed.{Formed}
 use Rattle.deck.specs.declared.check.Checked.{Checked}

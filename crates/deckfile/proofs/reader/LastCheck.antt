@@ -34,7 +34,7 @@ use Rattle.working.specs.declared.Working.{Working}
 use Rattle.working.specs.declared.deck.WorkingDeck.{WorkingDeck}
 use Rattle.working.specs.InOrder.{InOrder, stateOf}
 use Rattle.working.specs.WorkingDeck.{contentsOf}
-use Rattle.working.specs.Edges.{edgeRow}
+use Rattle.edges.specs.Edges.{edgeRow}
 use Rattle.arrays.specs.Paste.{Pasted}
 use Rattle.arrays.proofs.paste.Parts.{front-is}
 use Rattle.sections.specs.declared.codes.FilePoints.{FilePoints}
@@ -45,7 +45,7 @@ use Rattle.deckfile.specs.Reading.{readOutcome}
 use Rattle.deckfile.specs.ReadWorking.{contentsRead, replyRead, ReadTo, WorkingFor, kindsAnswer, lastAnswer}
 use Rattle.model.proofs.Sections.{part-length}
 use Rattle.sections.proofs.codes.Placed.{inside, pins-count, steiner-count}
-use Rattle.deckfile.proofs.Runs.{edges-are, edges-long}
+use Rattle.writer.proofs.Runs.{edges-are, edges-long}
 
 -- What was read, by an equation of what reading gives.
 pub read-as : {r t : Read} {x : Changed} → r ≡ t → ReadTo r x → ReadTo t x

@@ -11,9 +11,9 @@ use Rattle.model.specs.Listing.{tapLines, runLines, tapWord, runWord, pointFiel
 use Rattle.plane.specs.Code.{pointOf}
 use Rattle.model.specs.State.{State}
 use Rattle.model.specs.Question.{listed}
-use Rattle.working.specs.declared.edges.CodedEdge.{CodedEdge}
-use Rattle.working.specs.Edges.{edgeOf, EdgeAt}
-use Rattle.working.proofs.edges.Numbers.{edges-more}
+use Rattle.edges.specs.declared.CodedEdge.{CodedEdge}
+use Rattle.edges.specs.Edges.{edgeOf, EdgeAt}
+use Rattle.edges.proofs.Numbers.{edges-more}
 use Rattle.listing.specs.Line.{tapLine, runLine}
 
 -- The text of one item more.

@@ -6,7 +6,7 @@ use lib.ListN.{length}
 use borrow.Author.Needs.{needs}
 use Rattle.model.specs.KindLength.{runKind}
 use Rattle.working.specs.WorkingDeck.{contentsOf}
-use Rattle.working.specs.Edges.{edgeOf}
+use Rattle.edges.specs.Edges.{edgeOf}
 use Rattle.measures.proofs.Sums.{SumsTo, sums-none, kind-is, sum-fits, sums-more, sums-all}
 use Rattle.measures.proofs.kind_lengths.Statement.{statement}
 use Rattle.measures.proofs.kind_lengths.Tie as tie

@@ -1,7 +1,7 @@
 -- `measures::measure` meets its contract: an arranged state's counts are the lengths of its lists, and its keys are as many as its edges.
 use mathlib.Core.Path.{sym}
 use Rattle.points.proofs.Coded.{pins-count, steiner-count}
-use Rattle.working.proofs.edges.Numbers.{edge-count}
+use Rattle.edges.proofs.Numbers.{edge-count}
 use borrow.Author.Needs.{needs}
 use Rattle.measures.proofs.measure.Statement.{statement}
 use Rattle.measures.proofs.measure.Tie as tie

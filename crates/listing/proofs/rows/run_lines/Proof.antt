@@ -7,7 +7,7 @@ use Rattle.model.proofs.FileSize.{edges-few}
 use Rattle.arrays.proofs.paste.Lines.{PutFirst, first-none, first-more, first-end}
 use Rattle.arrays.proofs.paste.Parts.{pasted-same}
 use Rattle.working.specs.InOrder.{stateOf}
-use Rattle.working.proofs.edges.Numbers.{edge-count, listed-length}
+use Rattle.edges.proofs.Numbers.{edge-count, listed-length}
 use Rattle.listing.proofs.rows.Lines.{runText, run-none, run-more, run-all}
 use Rattle.listing.proofs.rows.run_lines.Statement.{statement}
 use Rattle.listing.proofs.rows.run_lines.Tie as tie

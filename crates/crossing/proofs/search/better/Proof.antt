@@ -1,7 +1,0 @@
--- `crossing::search::better` meets its contract, by the two outcomes of its test.
-use borrow.Author.Tests.{lt-ltb, le-ltb}
-use Rattle.crossing.proofs.search.better.Statement.{statement}
-use Rattle.crossing.proofs.search.better.Tie as tie
-
-pub better-spec : {M : Type 1} → statement M
-better-spec = tie.close (tie.spec (λ c. rw (lt-ltb _ _ (c .if1 .taken))) (λ c. rw (le-ltb _ _ (c .if1 .left))))

@@ -1,2 +1,0 @@
--- The file of a deck in working form.
-pub mod Parts

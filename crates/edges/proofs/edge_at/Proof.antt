@@ -1,0 +1,35 @@
+-- `edges::edge_at` meets its contract: the codes at the two numbers are those of the edge's ends.
+use mathlib.Core.Path.{refl}
+use native.Mathlib.Omega.{arith}
+use borrow.Author.Needs.{needs}
+use Rattle.edges.proofs.Numbers.{both-within, edge-found}
+use Rattle.edges.proofs.edge_at.Statement.{statement}
+use Rattle.edges.proofs.edge_at.Tie as tie
+
+mul-low : tie.Need-mul-low
+mul-low c =
+    let entry = c .before .before in
+    omega (arith, both-within _ (entry .pre .0) _ (entry .pre .1 .0) _ (entry .pre .1 .1) .0, entry .pre .0 .few)
+
+array-read-low : tie.Need-array-read-low
+array-read-low c =
+    let entry = c .before .before in
+    omega (arith, both-within _ (entry .pre .0) _ (entry .pre .1 .0) _ (entry .pre .1 .1) .0, entry .pre .0 .few)
+
+returns : tie.Need-returns
+returns c =
+    let entry = c .before .before .before in
+    edge-found _ (entry .pre .0) _ (entry .pre .1 .0) _ (entry .pre .1 .1) _ _ refl (c .distance-of .ensures)
+
+pub edge-at-spec : {M : Type 1} → statement M
+edge-at-spec =
+    tie.close
+    (tie.spec
+    (λ c. search needs)
+    (λ c. search needs)
+    mul-low
+    array-read-low
+    (λ c. search needs)
+    (λ c. search needs)
+    (λ c κs. search needs)
+    returns)

@@ -1,0 +1,3 @@
+-- The file of a deck in working form.
+pub mod Parts
+pub mod Runs
