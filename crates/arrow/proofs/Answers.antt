@@ -11,7 +11,7 @@ use Rattle.arrays.proofs.Signed.{read, short}
 use Rattle.plane.specs.Point.{Point, point}
 use Rattle.model.specs.Refusal.{firstFailed}
 use Rattle.arrow.specs.declared.Indication.the-variants as indication
-use Rattle.arrow.specs.Table.{inTable, entry}
+use Rattle.table.specs.Table.{inTable, entry}
 use Rattle.arrow.specs.Arrow.{isPitch, pitches, arrowChecks, arrow}
 
 -- An arrow is no refusal, and each has one number.

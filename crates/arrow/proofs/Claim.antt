@@ -22,11 +22,11 @@ use Rattle.octants.proofs.Between.{octant-most, octant-none}
 use Rattle.plane.proofs.Stored.{moved}
 use Rattle.arrow.specs.declared.Indication.{Indication}
 use Rattle.arrow.specs.declared.Indication.the-variants as indication
-use Rattle.arrow.specs.Table.{tableLimit, inTable, differenceAt, entryAt, arrowTable, offset, entry}
+use Rattle.table.specs.Table.{tableLimit, inTable, differenceAt, entryAt, arrowTable, offset, entry}
 use Rattle.arrow.specs.Arrow.{isPitch, arrowChecks, unless, arrow, glyphs, glyph}
 use Rattle.arrow.specs.Claim.{TableOfOctants, TowardZero, ArrowFor, Arrows}
 use Rattle.arrow.proofs.Quotient.{toward-zero, only-quotient}
-use Rattle.arrow.proofs.Entries.{offset-small}
+use Rattle.table.proofs.Entries.{offset-small}
 use Rattle.arrow.proofs.Answers.{same-arrow, arrow-no-refusal, x-pitches, y-pitches, bad-pitch, far, near}
 
 -- The entry at row j and place i.

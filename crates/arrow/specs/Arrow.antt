@@ -11,7 +11,7 @@ use Rattle.plane.specs.Point.{Point}
 use Rattle.model.specs.Refusal.{Check, check, firstFailed}
 use Rattle.arrow.specs.declared.Indication.{Indication}
 use Rattle.arrow.specs.declared.Indication.the-variants as indication
-use Rattle.arrow.specs.Table.{inTable, entry}
+use Rattle.table.specs.Table.{inTable, entry}
 
 -- A pitch that is taken: 1 to 1,000.
 abbrev pub isPitch : ℤ → Bool

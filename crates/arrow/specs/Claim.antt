@@ -12,7 +12,7 @@ use Rattle.arrays.specs.Text.{byte}
 use Rattle.plane.specs.Point.{Point}
 use Rattle.octants.specs.Octant.{inOctant, octant}
 use Rattle.arrow.specs.declared.Indication.the-variants as indication
-use Rattle.arrow.specs.Table.{arrowTable}
+use Rattle.table.specs.Table.{arrowTable}
 use Rattle.arrow.specs.Arrow.{arrow, glyph}
 
 -- No difference.

@@ -1,3 +1,2 @@
 pub mod Arrow
 pub mod Claim
-pub mod Table

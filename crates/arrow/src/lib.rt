@@ -1,8 +1,5 @@
 // What a display shows for a bay: an arrow, by the octant that the bay is in, and the glyph of an arrow. Every public function takes all values
 // of its parameters.
-pub mod constant;
-pub mod table;
-
 use table::LIMIT;
 use table::LOWEST;
 use table::ROW;
@@ -11,7 +8,7 @@ ghost use mathlib.Core.Path.{_≡_};
 ghost use Prim.Native.Nat.{_<_};
 ghost use lib.Dec.{T};
 ghost use Rattle.plane.specs.Point.{point};
-ghost use Rattle.arrow.specs.Table as table;
+ghost use Rattle.table.specs.Table as table;
 ghost use Rattle.arrow.specs.Arrow as arrow;
 
 // The largest pitch; the smallest is 1.

@@ -1,13 +1,13 @@
 // What the program prints: the numbers of the table of arrows, worked out by the octants.
 use arrays::paste::put_byte;
-use arrow::table::ARROW_COUNT;
-use arrow::table::worked_out;
 use ascii::decimal;
+use table::ARROW_COUNT;
+use table::worked_out;
 ghost use Prim.Native.Nat.{_+_, _*_, _≤_};
 ghost use lib.ListN.{length};
 ghost use Rattle.io.specs.Counts.{Counts};
 ghost use Rattle.arrays.specs.Paste.{Pasted, each};
-ghost use Rattle.arrow.specs.Table.{arrowTable};
+ghost use Rattle.table.specs.Table.{arrowTable};
 ghost use Rattle.ascii.specs.Text.{fitting};
 ghost use Rattle.arrows.specs.Text.{lineRoom, textRoom, numberLine};
 

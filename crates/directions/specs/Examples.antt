@@ -9,7 +9,7 @@ use Rattle.arrays.specs.Text.{bytes}
 use Rattle.octants.specs.Octant.{conditions, firstTrue, octant}
 use Rattle.model.specs.Refusal.{firstFailed}
 use Rattle.model.specs.Listing.{digitsFrom}
-use Rattle.arrow.specs.Table.{entryAt, arrowTable, entry}
+use Rattle.table.specs.Table.{entryAt, arrowTable, entry}
 use Rattle.arrow.specs.Arrow.{arrowChecks, arrow, glyph}
 use Rattle.replies.specs.Replies.{indicationText}
 use Rattle.commands.specs.declared.Direction.{Direction}

@@ -10,7 +10,7 @@ use Rattle.arrays.proofs.Signed.{read, read-is, read-one}
 use Rattle.arrays.proofs.Test.{and-parts, of-true}
 use Rattle.plane.specs.Point.{Point, point}
 use Rattle.arrow.specs.declared.Indication.the-variants as indication
-use Rattle.arrow.specs.Table.{inTable, entry}
+use Rattle.table.specs.Table.{inTable, entry}
 use Rattle.arrow.specs.Arrow.{isPitch}
 use Rattle.arrow.proofs.Answers.{x-pitches, y-pitches, bad-pitch, far, near, read-pitches}
 use Rattle.arrow.proofs.arrow.Statement.{statement}

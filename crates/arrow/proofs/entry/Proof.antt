@@ -2,8 +2,8 @@
 use mathlib.Core.Path.{_∙_}
 use borrow.Author.Needs.{needs}
 use Rattle.arrays.proofs.Signed.{read-one}
-use Rattle.arrow.specs.Table.{offset}
-use Rattle.arrow.proofs.Entries.{entry-is}
+use Rattle.table.specs.Table.{offset}
+use Rattle.table.proofs.Entries.{entry-is}
 use Rattle.arrow.proofs.entry.Statement.{statement}
 use Rattle.arrow.proofs.entry.Tie as tie
 

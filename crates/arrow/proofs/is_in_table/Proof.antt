@@ -2,7 +2,7 @@
 use mathlib.Core.Path.{_∙_}
 use Rattle.arrays.proofs.Signed.{read, read-one}
 use Rattle.plane.proofs.Signed.{between}
-use Rattle.arrow.specs.Table.{inTable}
+use Rattle.table.specs.Table.{inTable}
 use Rattle.arrow.proofs.is_in_table.Statement.{statement}
 use Rattle.arrow.proofs.is_in_table.Tie as tie
 

@@ -4,7 +4,7 @@ use native.Mathlib.Omega.{arith}
 use lib.IntN.{natAbs}
 use mir.Syntax.{w64}
 use Rattle.plane.proofs.Signed.{raised-most, raised-fits, raised-read, raised-cast}
-use Rattle.arrow.specs.Table.{tableLimit}
+use Rattle.table.specs.Table.{tableLimit}
 use Rattle.arrow.proofs.offset.Statement.{statement}
 use Rattle.arrow.proofs.offset.Tie as tie
 

@@ -1,4 +1,4 @@
--- `arrow::table::worked_out` meets its contract. The invariant: the first i places hold the first i entries of the table. The measure: how many
+-- `table::worked_out` meets its contract. The invariant: the first i places hold the first i entries of the table. The measure: how many
 -- places are left.
 use mathlib.Core.Path.{_≡_, refl, subst, _∙_}
 use Prim.Native.Nat.{ℕ, _-_, _/_, _%_, _≤_}
@@ -7,10 +7,10 @@ use borrow.Author.Needs.{needs}
 use lib.ListN.{length, take, length-set}
 use Rattle.arrays.specs.Tab.{tab}
 use Rattle.arrays.proofs.Tab.{tab-more, tab-whole}
-use Rattle.arrow.specs.Table.{entryAt, arrowCount, arrowTable}
-use Rattle.arrow.proofs.Entries.{difference-fits, entry-worked}
-use Rattle.arrow.proofs.table.worked_out.Statement.{statement}
-use Rattle.arrow.proofs.table.worked_out.Tie as tie
+use Rattle.table.specs.Table.{entryAt, arrowCount, arrowTable}
+use Rattle.table.proofs.Entries.{difference-fits, entry-worked}
+use Rattle.table.proofs.worked_out.Statement.{statement}
+use Rattle.table.proofs.worked_out.Tie as tie
 
 abbrev Inv-loop : tie.InvT-loop
 Inv-loop numbers₀ i₀ numbers i = (i ≤ arrowCount) × (length numbers ≡ arrowCount) × (take i numbers ≡ tab entryAt i)

@@ -1,8 +1,10 @@
 // The table of arrows: the constant, and the same numbers worked out by the octants.
-use super::constant::ARROWS;
+pub mod arrows;
+
+use arrows::ARROWS;
 use octants::octant;
 ghost use mathlib.Core.Path.{_≡_};
-ghost use Rattle.arrow.specs.Table.{arrowTable};
+ghost use Rattle.table.specs.Table.{arrowTable};
 
 // The largest difference in the table, and the smallest.
 pub const LIMIT: i32 = 15;

@@ -1,5 +1,5 @@
 // The table of arrows (SPEC 3.3) as a constant, and nothing else: dy rises from −15, and within it dx from −15.
-use super::table::ARROW_COUNT;
+use super::ARROW_COUNT;
 
 pub const ARROWS: [u8; ARROW_COUNT] = [
     5,

@@ -1,11 +1,11 @@
--- `arrow::table::constant` meets its contract: the constant passes the test over the whole table, which is worked out here.
+-- `table::constant` meets its contract: the constant passes the test over the whole table, which is worked out here.
 use Rattle.arrays.specs.Same.{sameList}
 use Rattle.arrays.specs.Tab.{tab}
 use Rattle.arrays.proofs.same.Alike.{same-eq}
 use Rattle.octants.specs.Octant.{conditions, firstTrue, octant}
-use Rattle.arrow.specs.Table.{entryAt, arrowTable}
-use Rattle.arrow.proofs.table.constant.Statement.{statement}
-use Rattle.arrow.proofs.table.constant.Tie as tie
+use Rattle.table.specs.Table.{entryAt, arrowTable}
+use Rattle.table.proofs.constant.Statement.{statement}
+use Rattle.table.proofs.constant.Tie as tie
 
 returns : tie.Need-returns
 unfolding sameList tab conditions firstTrue octant entryAt arrowTable

@@ -11,7 +11,7 @@ use mir.Val.{SFits}
 use Rattle.arrays.proofs.Signed.{read, read-is, read-one}
 use Rattle.octants.specs.Octant.{octant}
 use Rattle.plane.proofs.Signed.{raised, lowered, lowered-fits}
-use Rattle.arrow.specs.Table.{tableLimit, rowLength, inTable, differenceAt, offset, entryAt, arrowTable, entry}
+use Rattle.table.specs.Table.{tableLimit, rowLength, inTable, differenceAt, offset, entryAt, arrowTable, entry}
 
 -- Where a difference in the table stands is in its row.
 pub offset-small : (d : ℤ) → T (inTable d) → offset d < rowLength
