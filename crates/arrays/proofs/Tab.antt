@@ -2,8 +2,8 @@
 use mathlib.Core.Path.{_≡_, refl, sym, ap, ap₂, _∙_}
 use mathlib.Core.Logic.{⊎-elim, _↔_}
 use mathlib.Core.List.{List, [], _∷_, _++_, List·Memᴰ, List·Memᴰ·head as head, List·Memᴰ·cases-cons as cases, List·Memᴰ·not-nil as not-nil}
-use mathlib.Core.List.{Memᴰ·append-left, Memᴰ·append-right, List·Memᴰ·append-cases}
-use Prim.Native.Nat.{ℕ, zero, suc, _+_, _<_}
+use mathlib.Core.List.{map, map-append, Memᴰ·append-left, Memᴰ·append-right, List·Memᴰ·append-cases}
+use Prim.Native.Nat.{ℕ, zero, suc, _+_, _≤_, _<_}
 use native.Mathlib.Decide.{ℕ-discrete}
 use native.Mathlib.Omega.{arith}
 use lib.ListN.{length, getD, set, take, length-set, length-append, List·getD-append}
@@ -66,3 +66,12 @@ tab-in f (suc n) a = (
     go : (i : ℕ) → i < suc n → a ≡ f i → Dec (i ≡ n) → ((i : ℕ) → i < n → a ≡ f i → List·Memᴰ a (tab f n)) → List·Memᴰ a (tab f n ++ (f n ∷ []))
     go i h e (yes q) rec = Memᴰ·append-right (tab f n) (head (e ∙ ap f q))
     go i h e (no q) rec = Memᴰ·append-left (f n ∷ []) (rec i (omega arith) e)
+
+-- What f makes of the values of a function is what g makes of a list's numbers, where it is so of each.
+pub tab-map : {A B : Type 0} (at : ℕ → A) (f : A → B) (g : ℕ → B) (l : List ℕ) → ((i : ℕ) → f (at i) ≡ g (getD l i 0)) → (n : ℕ) → n ≤ length l
+    → map f (tab at n) ≡ map g (take n l)
+unfolding tab
+tab-map at f g l e zero h = refl
+tab-map at f g l e (suc n) h =
+    map-append f (tab at n) (at n ∷ []) ∙ (λ i. tab-map at f g l e n (omega arith) i ++ (e n i ∷ []))
+    ∙ sym (map-append g (take n l) (getD l n 0 ∷ [])) ∙ ap (map g) (sym (take-suc l n 0 h))

@@ -12,6 +12,6 @@ pub record Pasted (items before after : List ℕ) (at r : ℕ) : Type 0 where
   pub is : after ≡ paste before at items (length items)
 
 -- What f makes of each item, one behind the other.
-unfoldable pub each : (ℕ → List ℕ) → List ℕ → List ℕ
+unfoldable pub each : {A : Type 0} → (A → List ℕ) → List A → List ℕ
 each f [] = []
 each f (k ∷ l) = f k ++ each f l

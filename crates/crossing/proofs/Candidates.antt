@@ -16,6 +16,7 @@ use Rattle.plane.proofs.Stored.{coordinate-less}
 use Rattle.arrays.specs.Set.{union, setOf}
 use Rattle.model.specs.Round.{crossings, notHeld, candidates, bestAbove, best}
 use Rattle.arrays.proofs.SetMap.{union-map}
+use Rattle.arrays.proofs.Tab.{tab-map}
 use Rattle.keys.specs.Held.{held}
 use Rattle.arrays.specs.Tab.{tab}
 use Rattle.tree.proofs.Sorted.{ps-sorted}
@@ -27,18 +28,11 @@ use Rattle.search.proofs.Scan.{try-crossings}
 
 -- One coordinate of the first n points, f, which is stored in the list l.
 module _ (at : ℕ → Point) (f : Point → ℤ) (l : List ℕ) (e : (i : ℕ) → f (at i) ≡ coordinate (getD l i 0)) where
-  coordinates : (n : ℕ) → n ≤ length l → map f (tab at n) ≡ map coordinate (take n l)
-  unfolding tab
-  coordinates zero h = refl
-  coordinates (suc n) h =
-      map-append f (tab at n) (at n ∷ []) ∙ (λ i. coordinates n (omega arith) i ++ (e n i ∷ []))
-      ∙ sym (map-append coordinate (take n l) (getD l n 0 ∷ [])) ∙ ap (map coordinate) (sym (take-suc l n 0 h))
-
   lines-are : (n : ℕ) → n ≤ length l → {to : List ℕ} {count : ℕ} → Lines l n to count → map coordinate (take count to) ≡ setOf ltZ (map f (tab at n))
   lines-are n h p =
       ap (map coordinate) (p .same)
       ∙ union-map coordinate ltb ltZ (λ _. Unit {0}) (λ a b _ _. sym (coordinate-less a b)) nat-order (take n l) [] (λ a i. tt) (λ a i. tt)
-      ∙ ap (setOf ltZ) (sym (coordinates n h))
+      ∙ ap (setOf ltZ) (sym (tab-map at f coordinate l e n h))
 
 -- From the tree itself, over all crossings, the best candidate is found.
 pub best-found : {xs ys : List ℕ} {n : ℕ} {keys : List ℕ} {m : ℕ} {columns : List ℕ} {width : ℕ} {rows : List ℕ} {count : ℕ} → TreeGiven xs ys n keys m

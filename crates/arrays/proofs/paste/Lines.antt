@@ -44,16 +44,16 @@ first-end text w n l m at next i p h =
     let e : i ≡ n = omega (arith, p .within) in
     (pasted-same (ap text e) (p .put), omega (arith, p .most, ap (λ (k : ℕ). w * k) e))
 
--- What f makes of each of the first i numbers of a list.
-abbrev pub eachTo : (ℕ → List ℕ) → List ℕ → ℕ → List ℕ
+-- What f makes of each of the first i items of a list.
+abbrev pub eachTo : {A : Type 0} → (A → List ℕ) → List A → ℕ → List ℕ
 eachTo f l i = each f (take i l)
 
-each-snoc : (f : ℕ → List ℕ) (l : List ℕ) (k : ℕ) → each f (l ++ (k ∷ [])) ≡ each f l ++ f k
+pub each-snoc : {A : Type 0} (f : A → List ℕ) (l : List A) (k : A) → each f (l ++ (k ∷ [])) ≡ each f l ++ f k
 unfolding each
 each-snoc f [] k = append-nil (f k)
 each-snoc f (a ∷ l) k = ap (λ (t : List ℕ). f a ++ t) (each-snoc f l k) ∙ sym (append-assoc (f a) (each f l) (f k))
 
-pub each-none : (f : ℕ → List ℕ) (l : List ℕ) → eachTo f l 0 ≡ []
+pub each-none : {A : Type 0} (f : A → List ℕ) (l : List A) → eachTo f l 0 ≡ []
 unfolding each
 each-none f l = refl
 

@@ -1,0 +1,3 @@
+pub mod Box
+pub mod Drawn
+pub mod Extremes
