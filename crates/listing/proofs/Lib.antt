@@ -1,1 +1,2 @@
+pub mod ForFile
 pub mod Text

@@ -31,6 +31,12 @@ pub const LISTING_ROOM: usize = 8704;
 // Room for the line of a refusal.
 const LINE_ROOM: usize = 128;
 
+// What a program prints for a deck file: so many bytes, on standard error where the file was refused, else on standard output.
+pub struct Printed {
+    pub refused: bool,
+    pub size: usize,
+}
+
 // A refusal by its number, as a line.
 fn refused_line(out: &mut [u8], n: u64) -> usize
     requires { ⌜ 29 ≤ length (now out) ⌝ }

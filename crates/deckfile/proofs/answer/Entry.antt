@@ -74,6 +74,11 @@ unfolding readAndWritten refusalNumber replyRead
 read-refused (deck c) calls l n e f h = absurd (h (rw (e .reply) at f))
 read-refused (refusal k) calls l n e f h = (rw (e .reply) at f, refl)
 
+pub read-turned-down : (r : Read) {c : Changed} (n : ℕ) → ReadTo r c → n ≡ refusalNumber (c .reply) → ¬ (n ≡ 0) → r ≡ refusal n
+unfolding refusalNumber replyRead
+read-turned-down (deck c) n e f h = absurd (h (rw (e .reply) at f))
+read-turned-down (refusal k) n e f h = ap refusal (sym (rw (e .reply) at f))
+
 pub read-taken : (r : Read) → Possible r → {c : Changed} {n : ℕ} → ReadTo r c → n ≡ refusalNumber (c .reply) → n ≡ 0
     → (r ≡ deck (contentsOf (c .working))) × InOrder (c .working .form) × ValidContents (contentsOf (c .working))
 unfolding refusalNumber replyRead contentsRead
