@@ -179,7 +179,7 @@ fn refused(number: u8) -> String {
 
 /// A whole number of 32 bits, signed: digits, a minus sign before them if it
 /// is negative.
-fn number(word: &str) -> Option<i64> {
+pub fn number(word: &str) -> Option<i64> {
     if word.starts_with('+') {
         return None;
     }
