@@ -36,12 +36,12 @@ fn whole_files() {
     assert_eq!((0..lines).filter(differ).collect::<Vec<_>>(), [1]);
 }
 
-/// Each sample is listed as the text beside it.
+/// Each sample is listed as the listing beside it.
 #[test]
 fn the_samples() {
     for name in ["devices", "example", "lane", "sixty_four"] {
         let file = fs::read(at(&format!("samples/{name}.deck"))).expect("a sample");
-        let text = fs::read_to_string(at(&format!("samples/{name}.txt"))).expect("its text");
+        let text = fs::read_to_string(at(&format!("samples/{name}.listing"))).expect("its listing");
         assert_eq!(decklist(&file), text, "{name}");
     }
 }

@@ -1,4 +1,5 @@
-//! The files in samples/: each .deck is listed as the .txt of the same name.
+//! The files in samples/: of each name the .txt has coordinates that are packed to the
+//! .deck, and the .deck is listed as the .listing.
 //!
 //! `example` is that of SPEC 7.7. `lane` has bays 250 cm apart on both sides of a
 //! lane, and a display at each end. `sixty_four` has two lanes of 28 bays each,
@@ -9,6 +10,7 @@
 
 use reference::file::read;
 use reference::listing::list_program;
+use reference::packing::pack;
 use reference::pins::{CONTROLLER, DISPLAY, SENSOR};
 use std::collections::BTreeSet;
 use std::fs;
@@ -27,17 +29,39 @@ fn names(ending: &str) -> BTreeSet<String> {
         .collect()
 }
 
+/// The bytes of a sample.
+fn sample(name: &str, ending: &str) -> Vec<u8> {
+    fs::read(folder().join(format!("{name}{ending}"))).expect("a sample")
+}
+
 #[test]
-fn each_sample_is_listed_as_its_text() {
+fn each_sample_is_whole() {
     let decks = names(".deck");
+    assert_eq!(decks, names(".listing"));
     assert_eq!(decks, names(".txt"));
     for needed in ["devices", "example", "lane", "sixty_four"] {
         assert!(decks.contains(needed), "{needed}");
     }
     for name in &decks {
-        let bytes = fs::read(folder().join(format!("{name}.deck"))).unwrap();
-        let text = fs::read_to_string(folder().join(format!("{name}.txt"))).unwrap();
-        assert_eq!(list_program(&bytes), text, "{name}");
+        let deck = sample(name, ".deck");
+        let listing = String::from_utf8(sample(name, ".listing")).expect("text");
+        assert_eq!(list_program(&deck), listing, "{name}");
+        assert_eq!(pack(&sample(name, ".txt")), Ok(deck), "{name}");
+    }
+}
+
+/// Each text begins with two comments in plain words, and other lines are devices, one
+/// for each pin, or short comments.
+#[test]
+fn the_texts_say_what_they_are() {
+    for name in names(".txt") {
+        let text = String::from_utf8(sample(&name, ".txt")).expect("text");
+        let first: Vec<&str> = text.lines().take(2).collect();
+        assert!(first.iter().all(|line| line.starts_with("# ")), "{name}");
+        assert!(first[1].contains("x and its y in centimetres"), "{name}");
+        let is_device = |line: &&str| !line.is_empty() && !line.starts_with('#');
+        let pins = read(&sample(&name, ".deck")).expect("a deck").pins.len();
+        assert_eq!(text.lines().filter(is_device).count(), pins, "{name}");
     }
 }
 
@@ -48,7 +72,7 @@ fn the_sizes_of_the_samples() {
         ("lane", 18, "deck 18 1 4750\nkinds 4750 0 0\n"),
         ("sixty_four", 64, "deck 64 4 19600\nkinds 19600 0 0\n"),
     ] {
-        let bytes = fs::read(folder().join(format!("{name}.deck"))).unwrap();
+        let bytes = sample(name, ".deck");
         assert_eq!(read(&bytes).unwrap().pins.len(), pins, "{name}");
         assert_eq!(bytes.len(), 30 + 4 * pins, "{name} is not plain");
         assert!(list_program(&bytes).starts_with(header), "{name}");
@@ -57,7 +81,7 @@ fn the_sizes_of_the_samples() {
 
 #[test]
 fn the_kinds_of_the_devices() {
-    let bytes = fs::read(folder().join("devices.deck")).unwrap();
+    let bytes = sample("devices", ".deck");
     let state = read(&bytes).unwrap();
     let count = |kind: u32| state.kinds().iter().filter(|&&other| other == kind).count();
     assert_eq!([SENSOR, DISPLAY, CONTROLLER].map(count), [9, 1, 1]);
