@@ -222,7 +222,7 @@ pub fn two_orders(random: &mut Random) -> [Vec<u8>; 2] {
 /// front of one, and so many pins behind.
 pub fn with_feed_at(random: &mut Random, place: usize, behind: i64) -> Vec<u8> {
     let mut text = Vec::new();
-    while place - text.len() > 3_900 {
+    while place - text.len() > 4_001 {
         text.extend(vec![
             random.pick(b"# ");
             random.range(1_000, 3_000) as usize

@@ -4,6 +4,7 @@
 
 pub mod arrows;
 pub mod entries;
+pub mod pictures;
 pub mod programs;
 pub mod questions;
 pub mod replays;
@@ -11,3 +12,4 @@ pub mod replies;
 pub mod runs;
 pub mod sessions;
 pub mod tree;
+pub mod xml;

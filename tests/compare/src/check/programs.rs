@@ -1,8 +1,13 @@
 //! The proved programs beside the reference. Each function here panics where
 //! they print something else.
 
-use crate::binding::programs::{decklist, deckplay};
+use crate::binding::entries::plan;
+use crate::binding::programs::{deckdraw, decklist, deckpack, deckplan, deckplay, Said};
+use reference::file::{LONGEST, SHORTEST};
 use reference::listing::list_program;
+use reference::packing::pack;
+use reference::picture::draw;
+use reference::script::hex_of;
 use reference::script::play;
 
 /// Lists a file by both. Returns what they print.
@@ -16,6 +21,58 @@ pub fn same_listing(file: &[u8]) -> String {
 pub fn same_script(script: &[u8]) -> String {
     let expected = play(script);
     assert_eq!(deckplay(script), expected);
+    expected
+}
+
+/// What a program writes, or the line by which it says why not.
+pub type Answer = Result<Vec<u8>, String>;
+
+/// The answer to standard output, or the line to standard error; nothing to the other.
+pub fn said(answer: &Answer) -> Said {
+    let (out, err) = match answer {
+        Ok(bytes) => (bytes.clone(), String::new()),
+        Err(line) => (Vec::new(), line.clone()),
+    };
+    Said { out, err }
+}
+
+/// Packs a text, which gives what is expected.
+pub fn packs_to(text: &[u8], expected: &Answer) {
+    let start = String::from_utf8_lossy(&text[..text.len().min(300)]);
+    let length = text.len();
+    assert_eq!(deckpack(text), said(expected), "{length} bytes: {start:?}");
+}
+
+/// Packs a text by both. Returns the file or the line on the first fault.
+pub fn same_packing(text: &[u8]) -> Answer {
+    let expected = pack(text);
+    packs_to(text, &expected);
+    expected
+}
+
+/// Plans a file by the program and by the entry for C. Returns the file or the
+/// line that names the refusal.
+pub fn same_plan(file: &[u8]) -> Answer {
+    let mut buffer = [0; LONGEST];
+    let expected = match plan(file, &mut buffer) {
+        length @ SHORTEST.. => Ok(buffer[..length].to_vec()),
+        number => Err(format!("refused {number}\n")),
+    };
+    assert_eq!(deckplan(file), said(&expected), "{}", hex_of(file));
+    expected
+}
+
+/// Draws a file by both. Returns the picture or the line that names the refusal.
+pub fn same_picture(file: &[u8]) -> Result<String, String> {
+    let expected = draw(file);
+    let answer = expected.clone().map(String::into_bytes);
+    let found = deckdraw(file);
+    same_lines(
+        &String::from_utf8_lossy(&found.out),
+        expected.as_deref().unwrap_or(""),
+        |i| format!("line {} of the picture of {}", i + 1, hex_of(file)),
+    );
+    assert_eq!(found, said(&answer), "{}", hex_of(file));
     expected
 }
 
