@@ -1,11 +1,11 @@
 //! The drawing program prints the picture that the reference draws, and each picture
 //! holds what a picture has to by itself, read as XML.
 
-use compare::binding::programs::{deckplay, in_repository as at};
+use compare::binding::programs::{deckplay, in_pieces, in_repository as at};
 use compare::check::pictures::{faults, Picture};
-use compare::check::programs::{refusal_of, same_picture};
+use compare::check::programs::{refusal_of, said, same_picture};
 use compare::check::xml::read as read_xml;
-use compare::input::files::{any_bytes, damaged_twice};
+use compare::input::files::{any_bytes, damaged_twice, pieces};
 use compare::input::points::on_grid;
 use compare::input::states::{grid, with_devices};
 use reference::devices::{any_devices, decks_of_devices, refused_files};
@@ -182,6 +182,18 @@ fn refused_files_have_no_picture() {
         seen.see(number);
     }
     seen.are_exactly(&OF_FILE, 5);
+}
+
+/// Files that come in pieces.
+#[test]
+fn files_in_pieces() {
+    let mut random = Random::new(176);
+    for kind in KINDS {
+        let file = good_file(&mut random, kind, 12);
+        let parts = pieces(&mut random, &file, 5);
+        let text = same_picture(&file).expect("a file that is taken");
+        assert_eq!(in_pieces("deckdraw", &parts), said(&Ok(text.into_bytes())));
+    }
 }
 
 #[test]

@@ -2,10 +2,12 @@
 //! the first fault: texts worked out by hand, texts of every sort drawn at random,
 //! every byte, long texts, and lines that end at every place of a piece of reading.
 
-use compare::binding::programs::{decklist, deckpack, in_repository as at};
-use compare::check::programs::{packs_to, refusal_of, same_packing};
+use compare::binding::programs::{decklist, deckpack, in_pieces, in_repository as at};
+use compare::check::programs::{packs_to, refusal_of, said, same_packing};
+use compare::input::files::pieces;
 use reference::file::{write_plain, COUNT};
 use reference::generate::Random;
+use reference::packing::pack;
 use reference::refusals::Refusals;
 use reference::text_rows::rows;
 use reference::texts::{text, two_orders, with_feed_at};
@@ -86,7 +88,7 @@ fn every_byte() {
 fn lines_that_end_at_every_place() {
     let mut random = Random::new(152);
     let mut seen = Seen::default();
-    for around in [4_000, 4_096, 8_192, 12_288] {
+    for around in [4_000, 4_096, 8_192, 12_288, 1 << 14, 1 << 16] {
         for place in around - 8..=around + 8 {
             let text = with_feed_at(&mut random, place, 5);
             seen.pack(&text);
@@ -97,10 +99,25 @@ fn lines_that_end_at_every_place() {
             seen.pack(&with_feed_at(&mut random, place, 66));
         }
     }
-    assert_eq!(seen.texts, 4 * 4 * 17);
+    assert_eq!(seen.texts, 6 * 4 * 17);
     // The texts of 66 pins behind a first one, but for those of a line too long.
-    seen.refused.are_exactly(&[10], 4 * 16);
-    assert!(seen.taken > 190 && seen.errors >= 4, "{seen:?}");
+    seen.refused.are_exactly(&[10], 6 * 16);
+    assert!(seen.taken > 290 && seen.errors >= 4, "{seen:?}");
+}
+
+/// Texts that come in pieces, which break lines anywhere.
+#[test]
+fn texts_in_pieces() {
+    let mut random = Random::new(155);
+    let mut taken = 0;
+    for _ in 0..60 {
+        let text = text(&mut random);
+        let expected = pack(&text);
+        let pieces = pieces(&mut random, &text, 6);
+        assert_eq!(in_pieces("deckpack", &pieces), said(&expected));
+        taken += usize::from(expected.is_ok());
+    }
+    assert!(taken > 20 && taken < 50, "{taken} taken");
 }
 
 /// Many lines, and lines that are much too long.

@@ -1,10 +1,10 @@
 //! The planning program writes what the entry for C writes, or names the refusal:
 //! whole files, damaged ones, and files of every length.
 
-use compare::binding::programs::{deckplan, in_repository as at};
+use compare::binding::programs::{deckplan, in_pieces, in_repository as at};
 use compare::check::entries::{has_kinds, steiner_of};
 use compare::check::programs::{refusal_of, said, same_plan};
-use compare::input::files::{any_bytes, damaged_twice, of_points, resized};
+use compare::input::files::{any_bytes, damaged_twice, of_points, pieces, resized};
 use compare::input::states::grid;
 use reference::devices::{refused_files, taken_files};
 use reference::entry::plan;
@@ -78,6 +78,17 @@ fn damaged_files() {
         seen.see(number);
     }
     seen.are_exactly(&OF_FILE, 10);
+}
+
+/// Files that come in pieces.
+#[test]
+fn files_in_pieces() {
+    let mut random = Random::new(165);
+    for kind in KINDS {
+        let file = good_file(&mut random, kind, 12);
+        let parts = pieces(&mut random, &file, 5);
+        assert_eq!(in_pieces("deckplan", &parts), said(&same_plan(&file)));
+    }
 }
 
 /// No byte, every length to beyond the longest file, and many bytes.

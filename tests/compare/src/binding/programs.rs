@@ -5,6 +5,7 @@ use std::io::{self, Write};
 use std::path::{Path, PathBuf};
 use std::process::{Child, Command, Stdio};
 use std::thread::{self, JoinHandle};
+use std::time::Duration;
 
 /// A path in the repository.
 pub fn in_repository(path: &str) -> PathBuf {
@@ -93,6 +94,20 @@ pub fn deckplan(file: &[u8]) -> Said {
 /// What the program says that draws a file, likewise.
 pub fn deckdraw(file: &[u8]) -> Said {
     run("deckdraw", file).0
+}
+
+/// What a program says for an input that comes in pieces, with a pause behind each, so
+/// that it reads less at a time than it asks for.
+pub fn in_pieces(name: &str, pieces: &[&[u8]]) -> Said {
+    let mut child = start(name, Stdio::piped());
+    let mut pipe = child.stdin.take().expect("its input");
+    for piece in pieces {
+        // It may stop reading at a fault.
+        let _ = pipe.write_all(piece);
+        thread::sleep(Duration::from_millis(1));
+    }
+    drop(pipe);
+    said(child)
 }
 
 /// What programs say, in their order, of which each reads what the one before prints.

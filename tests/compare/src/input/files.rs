@@ -17,6 +17,18 @@ pub fn any_bytes(random: &mut Random, length: usize) -> Vec<u8> {
     (0..length).map(|_| random.draw() as u8).collect()
 }
 
+/// Bytes cut at random places, into so many pieces.
+pub fn pieces<'a>(random: &mut Random, mut bytes: &'a [u8], count: usize) -> Vec<&'a [u8]> {
+    let mut pieces = Vec::new();
+    for _ in 1..count {
+        let (piece, rest) = bytes.split_at(random.range(0, bytes.len() as i64) as usize);
+        pieces.push(piece);
+        bytes = rest;
+    }
+    pieces.push(bytes);
+    pieces
+}
+
 /// Files with one damage or two, `count` for each pair of checks, and the number
 /// of the check that comes first, which refuses them.
 pub fn damaged_twice(random: &mut Random, count: usize) -> Vec<(Vec<u8>, u8)> {
