@@ -23,6 +23,8 @@ pub struct Rules {
     pub unit: fn(i64, i64) -> i64,
     pub across: fn(&Frame, Point) -> i64,
     pub down: fn(&Frame, Point) -> i64,
+    /// How thick a run is.
+    pub stroke: fn(&Frame) -> i64,
     /// Width and height of the whole, and where its foot begins.
     pub size: fn(&Frame) -> (i64, i64),
     pub foot: fn(&Frame) -> i64,
@@ -45,6 +47,7 @@ pub const RIGHT: Rules = Rules {
     unit: |width, height| 1.max(width).max(height),
     across: |f, point| 220 * f.unit + 200 * (2 * (point.x - f.least_x) - f.width),
     down: |f, point| 20 * (f.unit + 20 * (f.greatest_y - point.y)),
+    stroke: |f| f.unit,
     size: |f| (440 * f.unit, 40 * (10 * f.height + 3 * f.unit)),
     foot: |f| 400 * f.height,
     runs: |state| {
@@ -134,7 +137,10 @@ pub fn draw_by(rules: &Rules, state: &State) -> String {
         "<circle id='tap' r='2'/>".to_string(),
         "</defs>".to_string(),
         format!("<rect width='{width}' height='{height}' fill='white'/>"),
-        format!("<g fill='none' stroke='gray' stroke-width='{unit}'>"),
+        format!(
+            "<g fill='none' stroke='gray' stroke-width='{}'>",
+            (rules.stroke)(&frame)
+        ),
     ];
     lines.extend(drawn_by(rules, &state, &frame));
     let moved = format!("translate(0 {})scale({unit})", (rules.foot)(&frame));

@@ -65,7 +65,7 @@ pub const WRONG_PLACES: [(&str, Change); 18] = [
 ];
 
 /// Each mistake in what is drawn and said.
-pub const WRONG_MARKS: [(&str, Change); 24] = [
+pub const WRONG_MARKS: [(&str, Change); 27] = [
     ("the run from its higher end", |r| {
         r.path = |here, there| (RIGHT.path)(there, here)
     }),
@@ -169,6 +169,13 @@ pub const WRONG_MARKS: [(&str, Change); 24] = [
             let alone = State::new(state.pins.clone(), Vec::new());
             [pins, taps, (RIGHT.numbers)(&alone)[2]]
         }
+    }),
+    ("runs of one thickness", |r| r.stroke = |_| 1),
+    ("a mark that is not there", |r| {
+        r.text = |text| text.replace("id='tap'", "id='taps'")
+    }),
+    ("a tag left open", |r| {
+        r.text = |text| text.replacen("</title>", "", 1)
     }),
     ("other quotes", |r| r.text = |text| text.replace('\'', "\"")),
     ("no line feed at the end", |r| {

@@ -40,7 +40,8 @@ pub struct Picture {
     pub runs: Vec<([Place; 3], i64)>,
     /// Each mark: its name, its place, and the point that is written on it.
     pub marks: Vec<(String, Place, Point)>,
-    /// How large each mark is and at last the foot, and how far down the foot begins.
+    /// How thick the runs are and how large each mark is and the foot, in this order,
+    /// and how far down the foot begins.
     pub scales: Vec<i64>,
     pub foot: i64,
     /// The numbers of pins and taps and the length as written.
@@ -71,16 +72,40 @@ fn between<const COUNT: usize>(text: &str, parts: &[&str]) -> Result<[i64; COUNT
     }
 }
 
-/// Whether every number of an element's attributes is whole.
-fn is_whole(element: &Element) -> bool {
+/// Whether an element is one of those that there are, with every number whole.
+fn is_known(element: &Element) -> bool {
+    let names = element.names();
     let words = ["xmlns", "id", "href", "fill", "stroke", "font-family"];
-    let mut numbers = element.attributes.iter();
-    numbers.all(|(name, value)| {
+    let mut attributes = element.attributes.iter();
+    let whole = attributes.all(|(name, value)| {
         let moves = |c: char| " MHVLZ()".contains(c);
         let tokens = value.split(moves).filter(|token| !token.is_empty());
         let mut tokens = tokens.filter(|token| !["translate", "scale"].contains(token));
         words.contains(&name.as_str()) || tokens.all(|token| token.parse::<i64>().is_ok())
-    })
+    });
+    whole && KNOWN.contains(&(element.name.as_str(), &names))
+}
+
+/// That each mark that is used is among those defined.
+fn all_defined(root: &Element, defs: &Element) -> Result<(), String> {
+    let ids: Vec<&str> = defs
+        .children
+        .iter()
+        .flat_map(|mark| mark.get("id"))
+        .collect();
+    let uses = root
+        .all()
+        .into_iter()
+        .filter(|element| element.name == "use");
+    for href in uses.flat_map(|element| element.get("href")) {
+        if !href
+            .strip_prefix('#')
+            .is_some_and(|name| ids.contains(&name))
+        {
+            return Err(format!("{href} is not among {ids:?}"));
+        }
+    }
+    Ok(())
 }
 
 /// The text of the only element in this one.
@@ -95,11 +120,8 @@ impl Picture {
     /// The picture of a text.
     pub fn of(text: &str) -> Result<Picture, String> {
         let root = read(text)?;
-        for element in root.all() {
-            let names = element.names();
-            if !KNOWN.contains(&(element.name.as_str(), &names)) || !is_whole(element) {
-                return Err(format!("{} with {:?}", element.name, element.attributes));
-            }
+        if let Some(other) = root.all().into_iter().find(|element| !is_known(element)) {
+            return Err(format!("{} with {:?}", other.name, other.attributes));
         }
         let [defs, ground, runs, marks @ .., foot] = &root.children[..] else {
             return Err("too few elements".to_string());
@@ -116,6 +138,10 @@ impl Picture {
         if sides != picture.frame.map(|side| side.to_string()) {
             return Err(format!("a ground of {sides:?}"));
         }
+        all_defined(&root, defs)?;
+        picture
+            .scales
+            .extend(between::<1>(runs.get("stroke-width")?, &["", ""])?);
         for run in &runs.children {
             picture.add_run(run)?;
         }
