@@ -1,0 +1,3 @@
+-- Laws of lines.
+pub mod Bytes
+pub mod Input
