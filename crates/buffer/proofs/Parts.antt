@@ -1,7 +1,7 @@
 -- The header and the sections of a file, put one behind the other, are the file: by the length of each part.
 use mathlib.Core.Path.{_≡_, refl, sym, ap, _∙_}
 use mathlib.Core.Bool.{Bool, true, false}
-use mathlib.Core.List.{List, [], _++_, append-assoc, append-nil, flatten}
+use mathlib.Core.List.{List, [], _∷_, _++_, append-assoc, append-nil, map, flatten}
 use Prim.Native.Nat.{ℕ, _+_, _-_, _*_, _≤_}
 use native.Mathlib.Omega.{arith}
 use lib.ListN.{length, take, length-append}
@@ -10,10 +10,17 @@ use Rattle.arrays.specs.Paste.{Pasted, each}
 use Rattle.arrays.proofs.paste.Lines.{each-length, each-next}
 use Rattle.arrays.proofs.paste.Parts.{pasted-same, pasted-then}
 use Rattle.model.specs.Sections.{headerSize, header, fileSize}
-use Rattle.model.specs.File.{kindSections, sizesOf}
+use Rattle.plane.specs.Code.{pointOf}
+use Rattle.model.specs.File.{sectionOf, kindSections, sizesOf}
 use Rattle.model.proofs.Sections.{header-length}
 use Rattle.sections.specs.Bytes.{endsBytes, codeBytes}
 use Rattle.buffer.specs.Parts.{treeParts, PartsFit}
+
+-- The points of codes, in bytes.
+pub section-is : (l : List ℕ) → each codeBytes l ≡ sectionOf (map pointOf l)
+unfolding each sectionOf
+section-is [] = refl
+section-is (k ∷ l) = ap (λ (bs : List ℕ). codeBytes k ++ bs) (section-is l)
 
 -- The length of the file of n pins, m Steiner points and e edges, part by part; that of the kinds is 0 or n.
 pub kinds-long : (kinds : List ℕ) (n : ℕ) → n ≤ length kinds → (bare : Bool) (m e : ℕ)

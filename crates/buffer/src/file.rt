@@ -32,7 +32,7 @@ pub fn length_for(n: usize, m: usize, bare: bool) -> usize
 }
 
 // Puts the header of the file of n pins, m Steiner points and e edges. Returns the place behind it.
-fn put_file_header(n: usize, m: usize, e: usize, bare: bool, out: &mut [u8]) -> usize
+pub fn put_file_header(n: usize, m: usize, e: usize, bare: bool, out: &mut [u8]) -> usize
     requires { ⌜ headerSize (length (sizesOf n m e bare)) ≤ length (now out) ⌝ }
     requires { ⌜ (n ≤ maxPins) × (m ≤ maxSteiner) × (e ≤ maxPins + maxSteiner) ⌝ }
     ensures { λ r. ⌜ Pasted (header (sizesOf n m e bare)) (now (out .entry)) (now (out .exit)) 0 r ⌝ }
@@ -49,7 +49,7 @@ fn put_file_header(n: usize, m: usize, e: usize, bare: bool, out: &mut [u8]) -> 
 }
 
 // Puts the first n kinds from place `at` on, or nothing where all pins are sensors. Returns the place behind them.
-fn put_kinds(kinds: &[u8], n: usize, bare: bool, out: &mut [u8], at: usize) -> usize
+pub fn put_kinds(kinds: &[u8], n: usize, bare: bool, out: &mut [u8], at: usize) -> usize
     requires { ⌜ n ≤ length (now kinds) ⌝ }
     requires { ⌜ at + length (flatten (kindSections bare (take n (now kinds)))) ≤ length (now out) ⌝ }
     ensures { λ r. ⌜ Pasted (flatten (kindSections bare (take n (now (kinds .entry))))) (now (out .entry)) (now (out .exit)) at r ⌝ }

@@ -1,7 +1,7 @@
 -- Written out and read in is the same deck; a full file read in and written out is the same file. The file of valid contents is accepted, since
 -- its sections are read back (Sections); an accepted file is made of its sections, which are those of its contents.
 use mathlib.Core.Path.{_≡_, refl, sym, ap, _∙_, subst⁻¹}
-use mathlib.Core.Logic.{_⊎_, inr, ⊎-elim}
+use mathlib.Core.Logic.{_⊎_, inl, inr, ⊎-elim}
 use mathlib.Core.Bool.{not}
 use mathlib.Core.List.{List, [], _∷_, List·Memᴰ}
 use Prim.Native.Nat.{ℕ, _%_, _≤_, _<_}
@@ -16,7 +16,7 @@ use Rattle.model.specs.Contents.{Contents, withKinds, ValidContents}
 use Rattle.model.specs.Question.{listed}
 use Rattle.arrays.specs.Same.{sameList}
 use Rattle.model.specs.Sections.{headerSize, sectionFile, sectionCount, offset, size, section, Follow}
-use Rattle.model.specs.File.{fewestSections, plain, sectionOf, pointsOf, runSection, kindSections, sectionsOf, fileOf}
+use Rattle.model.specs.File.{fewestSections, plain, sectionOf, pointsOf, runSection, kindSections, sectionsWith, sectionsOf, fileOf}
 use Rattle.model.specs.File.{fileState, fileKinds, deck, readFile}
 use Rattle.model.proofs.Prune.{points-rise}
 use Rattle.model.proofs.Bounds.{points-count, edges-fewer}
@@ -28,15 +28,17 @@ use Rattle.model.proofs.Sections.{sectionsFrom, file-made}
 use Rattle.model.proofs.FileValid.{Headed, headed-is, Accepted, accepted, accept, file-valid}
 use Rattle.model.proofs.FileKinds.{sections-few, three-or-four, kinds-laid, three-made, four-made}
 
--- A file of the sections of valid contents shows them.
-laid-accepted : (b : List ℕ) (c : Contents) → ValidContents c → 30 ≤ length b → length b ≤ 856 → Laid b (sectionsOf c) → Accepted b c
-laid-accepted b c v long short h =
+-- A file of the sections of valid contents, with any bytes for runs that pass check 6, shows the contents.
+pub laid-accepted : (b : List ℕ) (c : Contents) → ValidContents c → (runs : List ℕ) → length runs % 2 ≡ 0
+    → T (plain b) ⊎ (section b 2 ≡ runs → T (sameList (section b 2) (runSection (c .state))))
+    → 30 ≤ length b → length b ≤ 856 → Laid b (sectionsWith runs c) → Accepted b c
+laid-accepted b c v runs even shown long short h =
     let pins = h .parts in
     let taps = pins .3 in
-    let runs = taps .3 in
+    let last = taps .3 in
     let few = sections-few c in
     let count = h .count in
-    let follow = shows-follow b (sectionsOf c) 0 (headerSize (length (sectionsOf c))) (h .parts) in
+    let follow = shows-follow b (sectionsWith runs c) 0 (headerSize (length (sectionsWith runs c))) (h .parts) in
     record {
       header =
           headed-is b .1
@@ -50,16 +52,16 @@ laid-accepted b c v long short h =
       layout =
           laid-out-is b .1
           (subst⁻¹ (λ (n : ℕ). (headerSize n ≤ length b) × Follow b (headerSize n) 0 n) count
-          (follow-within b (length (sectionsOf c)) (headerSize (length (sectionsOf c))) 0 follow, follow));
+          (follow-within b (length (sectionsWith runs c)) (headerSize (length (sectionsWith runs c))) 0 follow, follow));
       wholes =
           and-both (eqb (size b 0 % 4) 0) _ (eq→eqb {a = size b 0 % 4} {b = 0} (omega (arith, pins .1, section-length (c .state .pins))))
           (and-both (eqb (size b 1 % 4) 0) _ (eq→eqb {a = size b 1 % 4} {b = 0} (omega (arith, taps .1, section-length (c .state .steiner))))
-          (eq→eqb {a = size b 2 % 2} {b = 0} (omega (arith, runs .1, runs-length (points (c .state)) (listed (c .state))))));
+          (eq→eqb {a = size b 2 % 2} {b = 0} (omega (arith, last .1, even))));
       few = v .state .few;
       points = v .state .placed;
-      shows = inr (v .state, subst⁻¹ (λ (l : List ℕ). T (sameList l (runSection (c .state)))) (runs .2) (same-refl (runSection (c .state))));
-      kinds = kinds-laid b c v pins-are count _ (runs .3) .0;
-      same = λ i. withKinds (record { pins = pins-are i; steiner = steiner-are i }) (kinds-laid b c v pins-are count _ (runs .3) .1 i);
+      shows = ⊎-elim inl (λ s. inr (v .state, s (last .2))) shown;
+      kinds = kinds-laid b c v pins-are count _ (last .3) .0;
+      same = λ i. withKinds (record { pins = pins-are i; steiner = steiner-are i }) (kinds-laid b c v pins-are count _ (last .3) .1 i);
     }
   where
     pins-are : fileState b .pins ≡ c .state .pins
@@ -74,7 +76,9 @@ unfolding fileOf
 written-read c v =
     let size = file-size c v in
     accept (fileOf c) c
-    (laid-accepted (fileOf c) c v (size .0) (size .1) (file-laid (sectionsOf c) (omega (arith, sections-few c .1)) (omega (arith, size .1))))
+    (laid-accepted (fileOf c) c v (runSection (c .state)) (omega (arith, runs-length (points (c .state)) (listed (c .state))))
+    (inr (λ e. subst⁻¹ (λ (l : List ℕ). T (sameList l (runSection (c .state)))) e (same-refl (runSection (c .state)))))
+    (size .0) (size .1) (file-laid (sectionsOf c) (omega (arith, sections-few c .1)) (omega (arith, size .1))))
 
 no-byte : (l : List ℕ) → length l ≡ 0 → l ≡ []
 no-byte [] e = refl

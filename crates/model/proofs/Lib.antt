@@ -19,6 +19,7 @@ pub mod KindRows
 pub mod KindsFollow
 pub mod OctantClaim
 pub mod PinsAdded
+pub mod PlainFile
 pub mod Prune
 pub mod Refusal
 pub mod Removal

@@ -18,7 +18,7 @@ use Rattle.arrays.specs.Set.{tie, all}
 use Rattle.model.specs.Refusal.{Check, check, firstFailed}
 use Rattle.model.specs.State.{State, points, placed, valid, maxPins}
 use Rattle.model.specs.DeviceKinds.{isKind, sensors, sensorsOnly}
-use Rattle.model.specs.Contents.{Contents, withKinds}
+use Rattle.model.specs.Contents.{Contents, withKinds, keeping}
 use Rattle.model.specs.Question.{listed}
 use Rattle.model.specs.Sections.{magic, countPlace, headerSize, sectionFile, sectionCount, size, section, laidOut}
 
@@ -67,11 +67,15 @@ runSection s = runBytes (points s) (listed s)
 abbrev pub kindSections : {A : Type 0} → Bool → A → List A
 kindSections bare kinds = if bare (λ _. []) (λ _. kinds ∷ [])
 
--- The sections of a file, in their order (SPEC 7.1).
-abbrev pub sectionsOf : Contents → List (List ℕ)
-sectionsOf c =
+-- The sections of a file with these bytes for its runs, in their order (SPEC 7.1).
+abbrev pub sectionsWith : List ℕ → Contents → List (List ℕ)
+sectionsWith runs c =
     let s = c .state in
-    sectionOf (s .pins) ∷ sectionOf (s .steiner) ∷ runSection s ∷ kindSections (sensorsOnly (c .kinds)) (c .kinds)
+    sectionOf (s .pins) ∷ sectionOf (s .steiner) ∷ runs ∷ kindSections (sensorsOnly (c .kinds)) (c .kinds)
+
+-- Those of a full file, with every run.
+abbrev pub sectionsOf : Contents → List (List ℕ)
+sectionsOf c = sectionsWith (runSection (c .state)) c
 
 -- The lengths of the sections of n pins, m taps and e runs; `bare` says that all pins are sensors.
 abbrev pub sizesOf : ℕ → ℕ → ℕ → Bool → List ℕ
@@ -80,6 +84,14 @@ sizesOf n m e bare = 4 * n ∷ 4 * m ∷ 2 * e ∷ kindSections bare n
 -- The file of contents: a full file, with every run (SPEC 7.4, 7.5).
 unfoldable pub fileOf : Contents → List ℕ
 fileOf c = sectionFile (sectionsOf c)
+
+-- Contents without their taps: the pins and their kinds alone.
+abbrev pub pinsOnly : Contents → Contents
+pinsOnly c = keeping c (record { pins = c .state .pins; steiner = [] })
+
+-- The plain file of contents: their pins, no tap and no run, and their kinds if one is not a sensor (SPEC 7.4, 7.8).
+unfoldable pub plainFileOf : Contents → List ℕ
+plainFileOf c = sectionFile (sectionsWith [] (pinsOnly c))
 
 -- What reading gives: the contents of the deck, or the number of a refusal.
 pub data Read : Type 0 where

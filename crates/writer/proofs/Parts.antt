@@ -23,13 +23,8 @@ use Rattle.edges.proofs.Numbers.{edge-count}
 use Rattle.arrays.specs.Paste.{each}
 use Rattle.sections.specs.Bytes.{codeBytes, edgeBytes}
 use Rattle.buffer.specs.Parts.{fileParts, PartsFit}
+use Rattle.buffer.proofs.Parts.{section-is}
 use Rattle.writer.proofs.Runs.{count-is, edges-are}
-
--- The points of codes, in bytes.
-section-is : (l : List ℕ) → each codeBytes l ≡ sectionOf (map pointOf l)
-unfolding each sectionOf
-section-is [] = refl
-section-is (k ∷ l) = ap (λ (bs : List ℕ). codeBytes k ++ bs) (section-is l)
 
 module _ (d : WorkingDeck) (p : InOrder (d .form)) (v : ValidContents (contentsOf d)) where
   abbrev c : Contents

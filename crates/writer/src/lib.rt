@@ -2,27 +2,16 @@
 use buffer::file::length_for;
 use buffer::file::put_parts;
 use edges::edge_numbers;
-use points::kinds::SENSOR;
-use points::kinds::all_within;
+use plain_file::is_bare;
 use working::deck::WorkingDeck;
 ghost use mathlib.Core.Path.{_≡_};
 ghost use Prim.Native.Nat.{_≤_};
 ghost use lib.ListN.{length};
-ghost use Rattle.model.specs.DeviceKinds.{sensorsOnly};
 ghost use Rattle.model.specs.Contents.{ValidContents};
 ghost use Rattle.model.specs.File.{fileOf};
 ghost use Rattle.working.specs.InOrder.{InOrder};
 ghost use Rattle.working.specs.WorkingDeck.{contentsOf};
 ghost use Rattle.arrays.specs.Paste.{Pasted};
-
-// Whether all pins are sensors.
-fn is_bare(w: WorkingDeck) -> bool
-    requires { ⌜ InOrder (w .form) ⌝ }
-    ensures { λ r. ⌜ r ≡ sensorsOnly (contentsOf w .kinds) ⌝ }
-{
-    let kinds = w.kinds;
-    all_within(&kinds[..w.form.points.npins], SENSOR)
-}
 
 // Returns how many bytes the file has.
 pub fn file_length(w: WorkingDeck) -> usize

@@ -1,12 +1,12 @@
--- `writer::is_bare` meets its contract: there are places for the kinds.
+-- `plain_file::is_bare` meets its contract: there are places for the kinds.
 use mathlib.Core.Path.{_≡_, sym}
 use Prim.Native.Nat.{_≤_}
 use native.Mathlib.Omega.{arith}
 use lib.ListN.{length}
 use lib.Seq.{length-take-le}
 use borrow.Author.Needs.{needs}
-use Rattle.writer.proofs.is_bare.Statement.{statement}
-use Rattle.writer.proofs.is_bare.Tie as tie
+use Rattle.plain_file.proofs.is_bare.Statement.{statement}
+use Rattle.plain_file.proofs.is_bare.Tie as tie
 
 few : (entry : tie.Start) → entry .args .w .form .points .npins ≤ length (entry .args .w .kinds)
 few entry =

@@ -1,0 +1,2 @@
+-- Laws of plain files.
+pub mod Parts
