@@ -1,0 +1,3 @@
+-- Laws of a text of coordinates.
+pub mod Claim
+pub mod Steps

@@ -1,0 +1,2 @@
+-- What the proofs of the texts use.
+pub mod Texts

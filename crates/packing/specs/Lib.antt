@@ -1,0 +1,4 @@
+pub mod Claim
+pub mod Held
+pub mod Packing
+pub mod Printed

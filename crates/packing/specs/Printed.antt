@@ -1,0 +1,48 @@
+-- What is printed for a text of coordinates (SPEC 9.7).
+use mathlib.Core.List.{List, [], _∷_, _++_}
+use Prim.Native.Nat.{ℕ}
+use Rattle.arrays.specs.Text.{bytes}
+use Rattle.model.specs.File.{plainFileOf}
+use Rattle.model.specs.Listing.{field, decimal, lineFeed}
+use Rattle.packing.specs.declared.Fault.{Fault}
+use Rattle.packing.specs.declared.Fault.the-variants.{None, Error, Refused}
+use Rattle.packing.specs.Packing.{Packed, packInput}
+
+-- Room for the line of a fault.
+abbrev pub faultRoom : ℕ
+faultRoom = 64
+
+-- The line of a fault: `line N: error`, `line N: refused M`.
+abbrev pub lineHead : ℕ → List ℕ
+lineHead n = bytes "line" ++ field (decimal n)
+
+abbrev pub errorLine : ℕ → List ℕ
+errorLine n = lineHead n ++ bytes ": error\n"
+
+abbrev pub refusalText : ℕ → List ℕ
+refusalText m = bytes ": refused" ++ (field (decimal m) ++ (lineFeed ∷ []))
+
+abbrev pub refusedLine : ℕ → ℕ → List ℕ
+refusedLine n m = lineHead n ++ refusalText m
+
+abbrev pub faultText : Fault → List ℕ
+faultText None = []
+faultText (Error n) = errorLine n
+faultText (Refused n m) = refusedLine n m
+
+-- The plain file of the deck where there is no fault, else nothing.
+abbrev pub fileUnless : Fault → List ℕ → List ℕ
+fileUnless None file = file
+fileUnless (Error n) file = []
+fileUnless (Refused n m) file = []
+
+abbrev pub packedFile : Packed → List ℕ
+packedFile p = fileUnless (p .fault) (plainFileOf (p .contents))
+
+-- Both outputs for an input: standard output and standard error.
+pub record Printed : Type 0 where
+  pub out : List ℕ
+  pub err : List ℕ
+
+unfoldable pub packed : List ℕ → Printed
+packed input = let p = packInput input in record { out = packedFile p; err = faultText (p .fault) }
