@@ -1,2 +1,2 @@
--- Laws of the input as a whole.
-pub mod Input
+-- Laws of the script as a whole.
+pub mod Script

@@ -1,33 +1,33 @@
 // Plays a script of calls: on standard input one call a line, on standard output one answer line for each.
-mod lines;
+mod bytes;
 
-use lines::Reader;
-use lines::end;
-use lines::start;
-use lines::take;
-ghost use Rattle.deckplay.specs.Lines.{Reads, TakesAll};
+use bytes::Reader;
+use bytes::end;
+use bytes::take_all;
+use deck::Deck;
+use lines::LINE_ROOM;
+ghost use mathlib.Core.Path.{_≡_};
+ghost use Rattle.model.specs.Contents.{emptyContents};
+ghost use Rattle.deck.specs.Form.{deckOf};
 
 // How many bytes are read at a time.
 const CHUNK: usize = 4096;
 
-// Takes the bytes that were read.
-fn take_all(r: Reader, bytes: &[u8]) -> Reader
-    requires { ⌜ Reads r ⌝ }
-    ensures { λ s. ⌜ TakesAll r (now (bytes .entry)) s ⌝ }
+// Returns a script of which nothing was read: an empty deck, and an empty line.
+fn start() -> Reader
+    ensures { λ r. ⌜ r ≡ record { deck = deckOf emptyContents; size = 0 } ⌝ }
 {
-    let mut s = r;
-    let mut i = 0;
-    while i < bytes.len() {
-        s = take(s, bytes[i]);
-        i += 1;
+    Reader {
+        deck: Deck::empty(),
+        size: 0,
     }
-    s
 }
 
 // A proved loop has to end, and nothing says that the input does: the loop counts its reads down, from a number that no input uses up.
 fn main() {
-    let mut s = start();
+    let mut line = [0u8; LINE_ROOM];
     let mut chunk = [0u8; CHUNK];
+    let mut r = start();
     let mut reads = u64::MAX;
     while 0 < reads {
         let got = libc::read(0, &mut chunk);
@@ -35,10 +35,10 @@ fn main() {
         if n == 0 {
             break;
         }
-        s = take_all(s, &chunk[..n]);
+        r = take_all(r, &mut line, &chunk[..n]);
         reads -= 1;
     }
-    if 0 < s.size {
-        end(s);
+    if 0 < r.size {
+        end(r.deck, &line[..r.size]);
     }
 }

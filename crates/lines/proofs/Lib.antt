@@ -1,3 +1,4 @@
 -- Laws of lines.
 pub mod Bytes
 pub mod Input
+pub mod Taking

@@ -2,6 +2,7 @@
 -- is added goes on; any other is the first fault, and nothing changes behind it.
 use mathlib.Core.Path.{_≡_, refl, sym, ap, _∙_, subst, subst⁻¹}
 use mathlib.Core.Logic.{_⊎_, inl, inr, ⊎-elim}
+use mathlib.Core.Bool.{Bool, true}
 use mathlib.Core.Option.{Option, none, some}
 use mathlib.Core.List.{List, [], _∷_, _++_}
 use Prim.Native.Nat.{ℕ, zero, suc, _+_, _≤_, _<_}
@@ -26,8 +27,8 @@ use Rattle.pin_line.specs.declared.PinLine.the-variants as pin_line
 use Rattle.pin_line.specs.PinLines.{pinLineOf}
 use Rattle.packing.specs.declared.Fault.{Fault}
 use Rattle.packing.specs.declared.Fault.the-variants.{None, Error, Refused}
-use Rattle.packing.specs.Packing.{Packed, nothingPacked, nextNumber, faultOf, byCall, byPin, byLine, unlessFault, packLine, packInput}
-use Rattle.packing.specs.Printed.{Printed, faultText, fileUnless, packedFile, packed}
+use Rattle.packing.specs.Packing.{Packed, nothingPacked, nextNumber, faultOf, byCall, byPin, byLine, hasFault, packLine, packInput}
+use Rattle.packing.specs.Printed.{Printed, faultText, packedFile, packed}
 use Rattle.packing.specs.Claim.{callOf, callsOf, AllDone, Faultless, numberBehind, IsRefused, FirstFault, Whole, Stopped, InputPacked, InputTaken}
 use Rattle.packing.proofs.Steps.{number-more, number-stops}
 
@@ -84,13 +85,9 @@ unfolding stateAfter
 stays r h [] = refl
 stays r h (l ∷ ls) = ap (λ (s : Packed). stateAfter packLine s ls) (h l) ∙ stays r h ls
 
-error-stays : (r : Packed) (n : ℕ) → r .fault ≡ Error n → (l : List ℕ) → packLine r l ≡ r
+fault-stays : (r : Packed) → hasFault (r .fault) ≡ true → (l : List ℕ) → packLine r l ≡ r
 unfolding packLine
-error-stays r n e l = ap (λ (f : Fault). unlessFault f r (λ _. byLine (nextNumber (r .lines)) (r .contents) l)) e
-
-refusal-stays : (r : Packed) (n m : ℕ) → r .fault ≡ Refused n m → (l : List ℕ) → packLine r l ≡ r
-unfolding packLine
-refusal-stays r n m e l = ap (λ (f : Fault). unlessFault f r (λ _. byLine (nextNumber (r .lines)) (r .contents) l)) e
+fault-stays r e l = ap (λ (t : Bool). if t (λ _. r) (λ _. byLine (nextNumber (r .lines)) (r .contents) l)) e
 
 -- Where lines lead to without a fault.
 record Taken (c : Contents) (lines : List (List ℕ)) (r : Packed) : Type 0 where
@@ -193,7 +190,7 @@ module _ (c : Contents) (k : ℕ) (l : List ℕ) (ls : List (List ℕ)) (rest : 
       (f ∙ (λ i. record { contents = step c (add p kind) .next; lines = numberBehind k; fault = faultOf (numberBehind k) (e i) })))
       (λ w. let r : Packed = record { contents = step c (add p kind) .next; lines = numberBehind k; fault = Refused (numberBehind k) (w .0) } in
       stops r (f ∙ (λ i. record { contents = step c (add p kind) .next; lines = numberBehind k; fault = faultOf (numberBehind k) (w .1 i) }))
-      (refusal-stays r (numberBehind k) (w .0) refl) (inr (w .0, (add p kind, calls, w .1), refl)))
+      (fault-stays r refl) (inr (w .0, (add p kind, calls, w .1), refl)))
       (add-replies c p kind)
 
   one-line : Result c k (l ∷ ls) (stateAfter packLine (at c k) (l ∷ ls))
@@ -206,7 +203,7 @@ module _ (c : Contents) (k : ℕ) (l : List ℕ) (ls : List (List ℕ)) (rest : 
           (subst⁻¹ (λ (q : PinLine). AllDone c (callOf q)) e tt) (first pin_line.Passed e)
       go pin_line.Error e =
           let r : Packed = record { contents = c; lines = numberBehind k; fault = Error (numberBehind k) } in
-          stops r (first pin_line.Error e) (error-stays r (numberBehind k) refl) (inl (e, refl))
+          stops r (first pin_line.Error e) (fault-stays r refl) (inl (e, refl))
       go (pin_line.Pin x y kind) e =
           pin-line (record { x = x; y = y }) kind (λ f. let z : _≡_ {A = ℕ} 2 1 = ap variant (sym e ∙ f) in omega arith) (ap callOf e)
           (first (pin_line.Pin x y kind) e)
@@ -253,7 +250,7 @@ input-packed input = ⊎-elim (λ t. inl (whole t)) (λ f. inr (stopped f)) (all
 
     whole : Taken emptyContents (allLines input) p → Whole input
     whole t =
-        let out : packedFile p ≡ plainFileOf c = λ i. fileUnless (t .fault i) (plainFileOf (t .contents i)) in
+        let out : packedFile p ≡ plainFileOf c = λ i. if (hasFault (t .fault i)) (λ _. []) (λ _. plainFileOf (t .contents i)) in
         record {
           good = t .good;
           out = out;
@@ -268,8 +265,8 @@ input-packed input = ⊎-elim (λ t. inl (whole t)) (λ f. inr (stopped f)) (all
         record {
           fault = p .fault;
           first = f;
-          out = ⊎-elim (λ w. ap (λ (g : Fault). fileUnless g (plainFileOf (p .contents))) (w .1))
-              (λ w. ap (λ (g : Fault). fileUnless g (plainFileOf (p .contents))) (w .2)) (f .why);
+          out = ⊎-elim (λ w. ap (λ (g : Fault). if (hasFault g) (λ _. []) (λ _. plainFileOf (p .contents))) (w .1))
+              (λ w. ap (λ (g : Fault). if (hasFault g) (λ _. []) (λ _. plainFileOf (p .contents))) (w .2)) (f .why);
           err = refl;
         }
 

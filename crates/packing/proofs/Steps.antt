@@ -1,6 +1,6 @@
 -- One line of a text of coordinates, from what the functions below hand back: a pin that was added, a line that asks for none, a fault from before.
 use mathlib.Core.Path.{_≡_, refl, sym, ap, _∙_, subst, subst⁻¹}
-use mathlib.Core.Bool.{Bool}
+use mathlib.Core.Bool.{Bool, true, false}
 use mathlib.Core.List.{List}
 use Prim.Native.Nat.{ℕ, _+_, _≤_, _<_}
 use lib.IntN.{ℤ}
@@ -24,7 +24,7 @@ use Rattle.pin_line.specs.PinLines.{pinLineOf}
 use Rattle.packing.specs.declared.Fault.{Fault}
 use Rattle.packing.specs.declared.Fault.the-variants.{None, Error, Refused}
 use Rattle.packing.specs.declared.Packing.{Packing}
-use Rattle.packing.specs.Packing.{Packed, nothingPacked, nextNumber, faultOf, byCall, byPin, byLine, unlessFault, packLine}
+use Rattle.packing.specs.Packing.{Packed, nothingPacked, nextNumber, faultOf, byCall, byPin, byLine, hasFault, packLine}
 use Rattle.packing.specs.Held.{faultBy, packOf, Packs, PacksAs}
 
 -- Before the first line.
@@ -59,18 +59,19 @@ fault-same n (rounds m) = refl
 module _ (d : WorkingDeck) (n : ℕ) where
   -- A pin, whose place was read back from its bits.
   pub pin-added : ValidContents (contentsOf d) → (x y : ℤ) (kind : ℕ) → SFits w32 x → SFits w32 y
-      → {r : Changed} {f : Fault} → ChangedBy d (add (record { x = read x; y = read y }) kind) r → f ≡ faultBy n (r .reply)
-      → PacksAs (record { deck = r .working; lines = n; fault = f }) (byCall n (contentsOf d) (add (record { x = x; y = y }) kind))
+      → {r : Changed} {f : Fault} {p : Packing} → ChangedBy d (add (record { x = read x; y = read y }) kind) r → f ≡ faultBy n (r .reply)
+      → p ≡ record { deck = r .working; lines = n; fault = f } → PacksAs p (byCall n (contentsOf d) (add (record { x = x; y = y }) kind))
   unfolding byCall
-  pin-added v x y kind fx fy {r} {f} h e =
-      record {
+  pin-added v x y kind fx fy {r} {f} h e q =
+      subst⁻¹ (λ (p : Packing). PacksAs p (byCall n (contentsOf d) k)) q
+      (record {
         packs = record { inOrder = by .inOrder; valid = subst⁻¹ ValidContents (by .next) (step-valid (contentsOf d) k v) };
         is = λ i. record {
           contents = by .next i;
           lines = n;
           fault = (e ∙ ap (faultBy n) (by .reply) ∙ fault-same n (step (contentsOf d) k .reply)) i;
         };
-      }
+      })
     where
       k : Call
       k = add (record { x = x; y = y }) kind
@@ -80,14 +81,18 @@ module _ (d : WorkingDeck) (n : ℕ) where
 
   -- What a line asks for.
   module _ (line : List ℕ) where
-    module _ (in-order : InOrder (d .form)) (v : ValidContents (contentsOf d)) where
-      pub line-passed : pinLineOf line ≡ pin_line.Passed → PacksAs (record { deck = d; lines = n; fault = None }) (byLine n (contentsOf d) line)
+    module _ (in-order : InOrder (d .form)) (v : ValidContents (contentsOf d)) {r : Packing} where
+      pub line-passed : pinLineOf line ≡ pin_line.Passed → r ≡ record { deck = d; lines = n; fault = None } → PacksAs r (byLine n (contentsOf d) line)
       unfolding byPin
-      line-passed e = record { packs = record { inOrder = in-order; valid = v }; is = sym (ap (byPin n (contentsOf d)) e) }
+      line-passed e f =
+          subst⁻¹ (λ (r : Packing). PacksAs r (byLine n (contentsOf d) line)) f
+          (record { packs = record { inOrder = in-order; valid = v }; is = sym (ap (byPin n (contentsOf d)) e) })
 
-      pub line-error : pinLineOf line ≡ pin_line.Error → PacksAs (record { deck = d; lines = n; fault = Error n }) (byLine n (contentsOf d) line)
+      pub line-error : pinLineOf line ≡ pin_line.Error → r ≡ record { deck = d; lines = n; fault = Error n } → PacksAs r (byLine n (contentsOf d) line)
       unfolding byPin
-      line-error e = record { packs = record { inOrder = in-order; valid = v }; is = sym (ap (byPin n (contentsOf d)) e) }
+      line-error e f =
+          subst⁻¹ (λ (r : Packing). PacksAs r (byLine n (contentsOf d) line)) f
+          (record { packs = record { inOrder = in-order; valid = v }; is = sym (ap (byPin n (contentsOf d)) e) })
 
     pub line-pin : (x y : ℤ) (kind : ℕ) → SFits w32 x → SFits w32 y → pinLineOf line ≡ pin_line.Pin x y kind
         → {r : Packing} → PacksAs r (byCall n (contentsOf d) (add (record { x = read x; y = read y }) kind)) → PacksAs r (byLine n (contentsOf d) line)
@@ -100,22 +105,21 @@ module _ (d : WorkingDeck) (n : ℕ) where
               ∙ sym (ap (byPin n (contentsOf d)) e);
         }
 
--- One more line, by the fault so far.
-module _ (p : Packing) (line : List ℕ) where
-  by : Fault → Packed
-  by f = unlessFault f (packOf p) (λ _. byLine (nextNumber (p .lines)) (contentsOf (p .deck)) line)
+-- The number of the line by another name.
+pub line-number : (d : WorkingDeck) {n m : ℕ} (line : List ℕ) {r : Packing} → n ≡ m → PacksAs r (byLine n (contentsOf d) line)
+    → PacksAs r (byLine m (contentsOf d) line)
+line-number d line {r} e h = subst (λ (n : ℕ). PacksAs r (byLine n (contentsOf d) line)) e h
 
-  pub line-next : p .fault ≡ None → (n : ℕ) → n ≡ nextNumber (p .lines) → {r : Packing} → PacksAs r (byLine n (contentsOf (p .deck)) line)
+-- One more line, by whether there is a fault so far.
+module _ (p : Packing) (line : List ℕ) where
+  by : Bool → Packed
+  by t = if t (λ _. packOf p) (λ _. byLine (nextNumber (p .lines)) (contentsOf (p .deck)) line)
+
+  pub line-next : hasFault (p .fault) ≡ false → {r : Packing} → PacksAs r (byLine (nextNumber (p .lines)) (contentsOf (p .deck)) line)
       → PacksAs r (packLine (packOf p) line)
   unfolding packLine by
-  line-next e n k h =
-      record { packs = h .packs; is = h .is ∙ ap (λ (n : ℕ). byLine n (contentsOf (p .deck)) line) k ∙ sym (ap by e) }
+  line-next e h = record { packs = h .packs; is = h .is ∙ sym (ap by e) }
 
-  module _ (h : Packs p) where
-    pub line-after-error : (n : ℕ) → p .fault ≡ Error n → PacksAs p (packLine (packOf p) line)
-    unfolding packLine by
-    line-after-error n e = record { packs = h; is = sym (ap by e) }
-
-    pub line-after-refusal : (n m : ℕ) → p .fault ≡ Refused n m → PacksAs p (packLine (packOf p) line)
-    unfolding packLine by
-    line-after-refusal n m e = record { packs = h; is = sym (ap by e) }
+  pub line-after-fault : Packs p → hasFault (p .fault) ≡ true → PacksAs p (packLine (packOf p) line)
+  unfolding packLine by
+  line-after-fault h e = record { packs = h; is = sym (ap by e) }

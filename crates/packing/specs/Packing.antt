@@ -1,4 +1,5 @@
 -- A text of coordinates line by line (SPEC 9.7): the contents of the deck of its pins, how many lines there were, and the first fault.
+use mathlib.Core.Bool.{Bool, true, false}
 use mathlib.Core.List.{List}
 use Prim.Native.Nat.{ℕ, _+_}
 use lib.Dec.{ltb}
@@ -50,14 +51,15 @@ byPin n c (pin_line.Pin x y kind) = byCall n c (add (record { x = x; y = y }) ki
 abbrev pub byLine : ℕ → Contents → List ℕ → Packed
 byLine n c line = byPin n c (pinLineOf line)
 
--- One more line. After a fault nothing changes any more.
-abbrev pub unlessFault : Fault → Packed → (Unit {0} → Packed) → Packed
-unlessFault None p next = next tt
-unlessFault (Error n) p next = p
-unlessFault (Refused n m) p next = p
+-- Whether there is a fault.
+abbrev pub hasFault : Fault → Bool
+hasFault None = false
+hasFault (Error n) = true
+hasFault (Refused n m) = true
 
+-- One more line. After a fault nothing changes any more.
 unfoldable pub packLine : Packed → List ℕ → Packed
-packLine p line = unlessFault (p .fault) p (λ _. byLine (nextNumber (p .lines)) (p .contents) line)
+packLine p line = if (hasFault (p .fault)) (λ _. p) (λ _. byLine (nextNumber (p .lines)) (p .contents) line)
 
 -- The lines of an input, from the first on.
 unfoldable pub packInput : List ℕ → Packed

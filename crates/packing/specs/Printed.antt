@@ -1,12 +1,13 @@
 -- What is printed for a text of coordinates (SPEC 9.7).
 use mathlib.Core.List.{List, [], _∷_, _++_}
 use Prim.Native.Nat.{ℕ}
+use Rattle.arrays.specs.Test.{if}
 use Rattle.arrays.specs.Text.{bytes}
 use Rattle.model.specs.File.{plainFileOf}
 use Rattle.model.specs.Listing.{field, decimal, lineFeed}
 use Rattle.packing.specs.declared.Fault.{Fault}
 use Rattle.packing.specs.declared.Fault.the-variants.{None, Error, Refused}
-use Rattle.packing.specs.Packing.{Packed, packInput}
+use Rattle.packing.specs.Packing.{Packed, hasFault, packInput}
 
 -- Room for the line of a fault.
 abbrev pub faultRoom : ℕ
@@ -31,13 +32,8 @@ faultText (Error n) = errorLine n
 faultText (Refused n m) = refusedLine n m
 
 -- The plain file of the deck where there is no fault, else nothing.
-abbrev pub fileUnless : Fault → List ℕ → List ℕ
-fileUnless None file = file
-fileUnless (Error n) file = []
-fileUnless (Refused n m) file = []
-
 abbrev pub packedFile : Packed → List ℕ
-packedFile p = fileUnless (p .fault) (plainFileOf (p .contents))
+packedFile p = if (hasFault (p .fault)) (λ _. []) (λ _. plainFileOf (p .contents))
 
 -- Both outputs for an input: standard output and standard error.
 pub record Printed : Type 0 where

@@ -10,7 +10,7 @@ ghost use Rattle.model.specs.Contents.{ValidContents};
 ghost use Rattle.model.specs.Call as call;
 ghost use Rattle.working.specs.InOrder.{InOrder};
 ghost use Rattle.working.specs.WorkingDeck.{contentsOf};
-ghost use Rattle.packing.specs.Packing.{Packed, nothingPacked, packLine, nextNumber, byLine, byCall};
+ghost use Rattle.packing.specs.Packing.{nothingPacked, packLine, hasFault, nextNumber, byLine, byCall};
 ghost use Rattle.packing.specs.Held.{packOf, faultBy, Packs, PacksAs};
 
 // The first fault: none so far, a line that is none of these lines, or a pin that is refused; with the number of the line.
@@ -61,6 +61,13 @@ fn fault_by(n: u64, r: Reply) -> Fault
     }
 }
 
+// The text after `lines` lines.
+fn after(deck: WorkingDeck, lines: u64, fault: Fault) -> Packing
+    ensures { λ r. ⌜ r ≡ record { deck = deck; lines = lines; fault = fault } ⌝ }
+{
+    Packing { deck, lines, fault }
+}
+
 // Line n asks for a pin: it is added, or the refusal is the fault.
 fn add_pin(d: WorkingDeck, n: u64, x: i32, y: i32, kind: u32) -> Packing
     requires { ⌜ InOrder (d .form) ⌝ }
@@ -68,33 +75,31 @@ fn add_pin(d: WorkingDeck, n: u64, x: i32, y: i32, kind: u32) -> Packing
     ensures { λ r. ⌜ PacksAs r (byCall n (contentsOf d) (call.add (record { x = x; y = y }) kind)) ⌝ }
 {
     let c = calls::add(d, x, y, kind);
-    let deck = c.working;
     let reply = c.reply;
-    Packing {
-        deck,
-        lines: n,
-        fault: fault_by(n, reply),
+    after(c.working, n, fault_by(n, reply))
+}
+
+// One more line, where no line before has a fault.
+fn next_line(p: Packing, bytes: &[u8]) -> Packing
+    requires { ⌜ Packs p ⌝ }
+    ensures { λ r. ⌜ PacksAs r (byLine (nextNumber (p .lines)) (contentsOf (p .deck)) (now (bytes .entry))) ⌝ }
+{
+    let n = next_number(p.lines);
+    match parse(bytes) {
+        PinLine::Passed => after(p.deck, n, Fault::None),
+        PinLine::Error => after(p.deck, n, Fault::Error(n)),
+        PinLine::Pin(x, y, kind) => add_pin(p.deck, n, x, y, kind),
     }
 }
 
-// Line n, where no line before has a fault.
-fn next_line(d: WorkingDeck, n: u64, bytes: &[u8]) -> Packing
-    requires { ⌜ InOrder (d .form) ⌝ }
-    requires { ⌜ ValidContents (contentsOf d) ⌝ }
-    ensures { λ r. ⌜ PacksAs r (byLine n (contentsOf d) (now (bytes .entry))) ⌝ }
+// Returns whether there is a fault.
+pub fn has_fault(f: Fault) -> bool
+    ensures { λ r. ⌜ r ≡ hasFault f ⌝ }
 {
-    match parse(bytes) {
-        PinLine::Passed => Packing {
-            deck: d,
-            lines: n,
-            fault: Fault::None,
-        },
-        PinLine::Error => Packing {
-            deck: d,
-            lines: n,
-            fault: Fault::Error(n),
-        },
-        PinLine::Pin(x, y, kind) => add_pin(d, n, x, y, kind),
+    match f {
+        Fault::None => false,
+        Fault::Error(n) => true,
+        Fault::Refused(n, m) => true,
     }
 }
 
@@ -104,9 +109,8 @@ pub fn line(p: Packing, bytes: &[u8]) -> Packing
     ensures { λ r. ⌜ PacksAs r (packLine (packOf p) (now (bytes .entry))) ⌝ }
 {
     let fault = p.fault;
-    match fault {
-        Fault::None => next_line(p.deck, next_number(p.lines), bytes),
-        Fault::Error(n) => p,
-        Fault::Refused(n, m) => p,
+    if has_fault(fault) {
+        return p;
     }
+    next_line(p, bytes)
 }

@@ -1,6 +1,7 @@
 // What is printed for a text of coordinates: the plain file of its deck, or the line of its first fault.
 use super::Fault;
 use super::Packing;
+use super::has_fault;
 use arrays::paste::put_byte;
 use arrays::paste::put_bytes;
 use ascii::decimal_field;
@@ -76,9 +77,8 @@ pub fn packed_file(p: Packing, out: &mut [u8]) -> usize
     ensures { λ r. ⌜ Pasted (fitting plainRoom (now (out .entry)) (packedFile (packOf p))) (now (out .entry)) (now (out .exit)) 0 r ⌝ }
 {
     let fault = p.fault;
-    match fault {
-        Fault::None => write_plain(p.deck, out),
-        Fault::Error(n) => 0,
-        Fault::Refused(n, m) => 0,
+    if has_fault(fault) {
+        return 0;
     }
+    write_plain(p.deck, out)
 }

@@ -12,9 +12,9 @@ use borrow.Author.Tests.{lt-ltb, le-ltb, eq-eqb, ne-eqb}
 use Rattle.arrays.specs.Set.{all}
 use Rattle.arrays.specs.Test.{if}
 use Rattle.arrays.proofs.Signed.{if-negative, if-natural}
-use Rattle.words.specs.declared.arguments.Arguments.{Arguments}
+use Rattle.arguments.specs.declared.Arguments.{Arguments}
 use Rattle.words.specs.Words.{wordsOf}
-use Rattle.words.specs.Arguments.{argumentsOf}
+use Rattle.arguments.specs.Arguments.{argumentsOf}
 use Rattle.pin_line.specs.declared.PinLine.{PinLine}
 use Rattle.pin_line.specs.declared.PinLine.the-variants.{Passed, Error, Pin}
 use Rattle.pin_line.specs.PinLines.{isComment, textLength, isPlain, withKind, ofNumbers, ofText, pinLineOf}

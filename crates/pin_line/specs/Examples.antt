@@ -7,8 +7,8 @@ use lib.IntN.{pos, negsuc}
 use Rattle.arrays.specs.Set.{all}
 use Rattle.arrays.specs.Text.{bytes}
 use Rattle.words.specs.Words.{isSpace, split}
-use Rattle.words.specs.Numbers.{areDigits, valueFrom, numberOf}
-use Rattle.words.specs.Arguments.{numbersOf, argumentsOf}
+use Rattle.numbers.specs.Numbers.{areDigits, valueFrom, numberOf}
+use Rattle.arguments.specs.Arguments.{numbersOf, argumentsOf}
 use Rattle.pin_line.specs.declared.PinLine.{PinLine}
 use Rattle.pin_line.specs.declared.PinLine.the-variants.{Passed, Error, Pin}
 use Rattle.pin_line.specs.PinLines.{isPlain, withKind, ofNumbers, ofText, pinLineOf}

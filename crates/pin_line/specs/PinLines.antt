@@ -9,10 +9,10 @@ use Rattle.arrays.specs.Set.{all}
 use Rattle.arrays.specs.Test.{if, ifNatural}
 use Rattle.arrays.specs.Text.{byte}
 use Rattle.lines.specs.Lines.{lineLimit}
-use Rattle.words.specs.declared.arguments.Arguments.{Arguments}
-use Rattle.words.specs.declared.arguments.Arguments.the-variants.{Zero, One, Two, Three, Four, Five, Invalid}
+use Rattle.arguments.specs.declared.Arguments.{Arguments}
+use Rattle.arguments.specs.declared.Arguments.the-variants.{Zero, One, Two, Three, Four, Five, Invalid}
 use Rattle.words.specs.Words.{wordsOf}
-use Rattle.words.specs.Arguments.{argumentsOf}
+use Rattle.arguments.specs.Arguments.{argumentsOf}
 use Rattle.pin_line.specs.declared.PinLine.{PinLine}
 use Rattle.pin_line.specs.declared.PinLine.the-variants.{Passed, Error, Pin}
 

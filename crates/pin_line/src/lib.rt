@@ -1,7 +1,7 @@
 // One line of a text of coordinates (SPEC 9.7): the pin that it asks for.
+use arguments::Arguments;
+use arguments::arguments_of;
 use lines::LINE_LIMIT;
-use words::arguments::Arguments;
-use words::arguments::arguments_of;
 ghost use mathlib.Core.Path.{_≡_};
 ghost use Prim.Native.Nat.{_≤_};
 ghost use lib.ListN.{length};

@@ -10,13 +10,10 @@ use Rattle.commands.specs.declared.Command.the-variants.{Blank, Error, Read}
 use Rattle.commands.specs.Commands.{ofNumbers}
 use Rattle.arrays.specs.Text.{bytes, byte}
 use Rattle.arrays.specs.Same.{sameList}
+use Rattle.lines.specs.Lines.{lineLimit}
 use Rattle.words.specs.Words.{wordsOf}
 use Rattle.arguments.specs.Arguments.{argumentsOf}
 use Rattle.words.specs.Hex.{isHex, pairs}
-
--- The most bytes of a line.
-abbrev pub lineLimit : ℕ
-lineLimit = 4000
 
 -- `read HEX`: one word of hexadecimal digits in pairs, or `-` for no bytes.
 unfoldable pub ofFile : List ℕ → Command

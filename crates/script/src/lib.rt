@@ -4,6 +4,7 @@ use arguments::arguments_of;
 use arrays::same::same_bytes;
 use commands::Command;
 use commands::of_numbers;
+use lines::LINE_LIMIT;
 use words::hex::decode;
 use words::hex::is_hex;
 use words::next;
@@ -13,9 +14,6 @@ ghost use lib.ListN.{length, take, drop};
 ghost use Rattle.script.specs.Line.{commandOf, ofWords, withFile, ofFile, fileInLine};
 ghost use Rattle.arrays.specs.Paste.{Pasted};
 ghost use Rattle.words.specs.Words.{wordsOf};
-
-// The most bytes of a line; a longer one is an error.
-pub const LINE_LIMIT: usize = 4000;
 
 // Returns the command of a line, which is given without its line feed.
 pub fn parse(line: &[u8]) -> Command

@@ -8,7 +8,8 @@ returns : tie.Need-returns
 returns c =
     let at-add = c .before .before in
     let entry = at-add .before in
-    pin-added (entry .args .d) (entry .args .n) (entry .pre .1) _ _ _ (entry .fits .x) (entry .fits .y) (at-add .add .ensures) (c .fault-by .ensures)
+    pin-added (entry .args .d) (entry .args .n) (entry .pre .1) _ _ _ (entry .fits .x) (entry .fits .y)
+    (at-add .add .ensures) (c .before .fault-by .ensures) (c .after .ensures)
 
 pub add-pin-spec : {M : Type 1} → statement M
-add-pin-spec = tie.close (tie.spec (λ c κs. search needs) (λ c κs. search needs) returns)
+add-pin-spec = tie.close (tie.spec (λ c κs. search needs) (λ c κs. search needs) (λ c κs. search needs) returns)

@@ -1,19 +1,21 @@
 -- What is printed, by the fault.
-use mathlib.Core.Path.{_≡_, refl, sym, ap, subst⁻¹}
+use mathlib.Core.Path.{_≡_, sym, ap}
+use mathlib.Core.Bool.{Bool}
 use mathlib.Core.List.{List, []}
-use Prim.Native.Nat.{ℕ, _≤_, _<_}
+use Prim.Native.Nat.{ℕ, _≤_}
 use native.Mathlib.Decide.{decLe}
 use native.Mathlib.Omega.{arith}
 use lib.ListN.{length}
 use Rattle.arrays.specs.Paste.{Pasted}
+use Rattle.arrays.specs.Test.{if}
 use Rattle.arrays.proofs.paste.Parts.{pasted-same, front-same}
 use Rattle.ascii.specs.Text.{fitting}
 use Rattle.ascii.proofs.Room.{front-none, front-put}
 use Rattle.packing.specs.declared.Fault.{Fault}
 use Rattle.packing.specs.declared.Packing.{Packing}
-use Rattle.packing.specs.Packing.{Packed}
+use Rattle.packing.specs.Packing.{hasFault}
 use Rattle.packing.specs.Held.{packOf}
-use Rattle.packing.specs.Printed.{faultText, fileUnless, packedFile}
+use Rattle.packing.specs.Printed.{faultText, packedFile}
 use Rattle.model.specs.File.{plainFileOf}
 
 -- No text, whatever the room.
@@ -33,6 +35,6 @@ text-same room {before = before} e p = pasted-same (ap (fitting room before) (sy
 pub fault-same : {f g : Fault} → f ≡ g → faultText f ≡ faultText g
 fault-same e = ap faultText e
 
--- The file of a text whose fault is told.
-pub file-same : (p : Packing) {f : Fault} → p .fault ≡ f → packedFile (packOf p) ≡ fileUnless f (plainFileOf (packOf p .contents))
-file-same p e = ap (λ (f : Fault). fileUnless f (plainFileOf (packOf p .contents))) e
+-- The file by whether there is a fault.
+pub file-same : (p : Packing) {t : Bool} → hasFault (p .fault) ≡ t → packedFile (packOf p) ≡ if t (λ _. []) (λ _. plainFileOf (packOf p .contents))
+file-same p e = ap (λ (t : Bool). if t (λ _. []) (λ _. plainFileOf (packOf p .contents))) e

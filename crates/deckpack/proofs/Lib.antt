@@ -1,2 +1,0 @@
--- Laws of the bytes of a text.
-pub mod Input
