@@ -4,17 +4,19 @@
 
 .DEFAULT_GOAL := run
 
-SAMPLE = samples/example.deck
+SAMPLE = samples/lane.txt
 
 help: ## this list
 	@grep -E '^[a-z_0-9]+:.* ## ' Makefile | sed 's/:.* ## /\t/' | expand -t 16
 
-run: programs ## the listing of a sample deck
-	@target/bin/decklist < $(SAMPLE)
+run: programs ## a text of coordinates to its listing and to a picture, target/deck.svg
+	@target/bin/deckpack < $(SAMPLE) > target/pins.deck
+	@target/bin/deckplan < target/pins.deck | target/bin/deckdraw > target/deck.svg
+	@target/bin/decklist < target/pins.deck
 
 # The programs, proved and linked to target/bin.
 programs: ## the programs, proved and linked to target/bin
-	@rt check decklist deckplay arrows >&2
+	@rt check deckpack deckplan deckdraw decklist deckplay arrows >&2
 
 reference: ## the independent implementation
 	@cd tests/reference && cargo build --release --offline --quiet

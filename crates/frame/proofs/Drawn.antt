@@ -6,11 +6,12 @@ use native.Mathlib.Omega.{arith}
 use lib.Dec.{T}
 use lib.IntN.{ℤ}
 use lib.Signed.{leZ}
-use Rattle.plane.specs.Point.{Point, gap}
+use Rattle.plane.specs.Point.{Point, gap, dist}
 use Rattle.plane.specs.Box.{spread}
 use Rattle.plane.proofs.Box.{reaches-ends}
-use Rattle.plane.proofs.Metric.{gap-between}
-use Rattle.frame.specs.Frame.{lowest, highest, Box, boxOf, unitOf, acrossAt, downAt, Drawn}
+use Rattle.plane.proofs.Whole.{AtMost, at-most?, value-atmost}
+use Rattle.plane.proofs.Metric.{gap-sym, gap-between}
+use Rattle.frame.specs.Frame.{lowest, highest, Box, boxOf, unitOf, scale, acrossAt, downAt, between, Drawn}
 use Rattle.frame.proofs.Box.{spread-ends}
 
 -- A number of a list is between the least and the greatest of it.
@@ -54,8 +55,32 @@ module _ (ps : List Point) where
       let e = enclosed ys (p .y) (Memᴰ·map yOf i) in
       omega (arith, gap-between (lowest ys) (p .y) (highest ys) (e .0) (e .1), spread-ends ys)
 
+  -- To the right with x, and upward with y.
+  right : (p q : Point) → List·Memᴰ p ps → T (leZ (p .x) (q .x)) → acrossAt b (q .x) ≡ acrossAt b (p .x) + scale * gap (p .x) (q .x)
+  unfolding acrossAt boxOf
+  right p q i t = omega (arith, gap-between (lowest xs) (p .x) (q .x) (enclosed xs (p .x) (Memᴰ·map xOf i) .0) t)
+
+  up : (p q : Point) → List·Memᴰ q ps → T (leZ (p .y) (q .y)) → downAt b (p .y) ≡ downAt b (q .y) + scale * gap (p .y) (q .y)
+  unfolding downAt boxOf
+  up p q j t = omega (arith, gap-between (p .y) (q .y) (highest ys) t (enclosed ys (q .y) (Memᴰ·map yOf j) .1))
+
+  -- Along each axis two points are as far apart as their coordinates, by the scale.
+  along-x : (p q : Point) → List·Memᴰ p ps → List·Memᴰ q ps → between (acrossAt b (p .x)) (acrossAt b (q .x)) ≡ scale * gap (p .x) (q .x)
+  along-x p q i j = go (at-most? (p .x) (q .x))
+    where
+      go : Dec (AtMost (p .x) (q .x)) → between (acrossAt b (p .x)) (acrossAt b (q .x)) ≡ scale * gap (p .x) (q .x)
+      go (yes h) = omega (arith, right p q i (value-atmost (p .x) (q .x) h))
+      go (no n) = omega (arith, right q p j (value-atmost (q .x) (p .x) (omega arith)), gap-sym (p .x) (q .x))
+
+  along-y : (p q : Point) → List·Memᴰ p ps → List·Memᴰ q ps → between (downAt b (p .y)) (downAt b (q .y)) ≡ scale * gap (p .y) (q .y)
+  along-y p q i j = go (at-most? (p .y) (q .y))
+    where
+      go : Dec (AtMost (p .y) (q .y)) → between (downAt b (p .y)) (downAt b (q .y)) ≡ scale * gap (p .y) (q .y)
+      go (yes h) = omega (arith, up p q j (value-atmost (p .y) (q .y) h))
+      go (no n) = omega (arith, up q p i (value-atmost (q .y) (p .y) (omega arith)), gap-sym (p .y) (q .y))
+
   pub drawn : Drawn ps
-  unfolding acrossAt downAt boxOf
+  unfolding acrossAt downAt boxOf dist
   drawn =
       record {
         inside =
@@ -65,6 +90,7 @@ module _ (ps : List Point) where
               omega arith,
               omega (arith, down-parts p i),
             );
-        rightward = λ p q i j t. omega (arith, gap-between (lowest xs) (p .x) (q .x) (enclosed xs (p .x) (Memᴰ·map xOf i) .0) t);
-        upward = λ p q i j t. omega (arith, gap-between (p .y) (q .y) (highest ys) t (enclosed ys (q .y) (Memᴰ·map yOf j) .1));
+        rightward = λ p q i j t. right p q i t;
+        upward = λ p q i j t. up p q j t;
+        lengths = λ p q i j. omega (arith, along-x p q i j, along-y p q i j);
       }

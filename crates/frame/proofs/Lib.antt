@@ -1,3 +1,4 @@
 pub mod Box
 pub mod Drawn
+pub mod Examples
 pub mod Extremes

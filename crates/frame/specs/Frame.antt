@@ -5,7 +5,7 @@ use Prim.Native.Nat.{ℕ, _+_, _*_, _-_, _≤_, max}
 use lib.Dec.{T}
 use lib.IntN.{ℤ, pos}
 use lib.Signed.{leZ}
-use Rattle.plane.specs.Point.{Point, gap}
+use Rattle.plane.specs.Point.{Point, gap, dist}
 use Rattle.plane.specs.Box.{least, greatest, spread}
 
 -- The least and the greatest of whole numbers, 0 where there is none.
@@ -54,8 +54,13 @@ acrossAt b x = 220 * unitOf b - 200 * b .width + scale * gap (b .left) x
 unfoldable pub downAt : Box → ℤ → ℕ
 downAt b y = 20 * unitOf b + scale * gap y (b .top)
 
+-- How far two numbers are apart.
+abbrev pub between : ℕ → ℕ → ℕ
+between m n = (m - n) + (n - m)
+
 -- The claim, of all points that a picture is made for: no point is drawn nearer to a side of the picture than 20 units, nor lower than where the legend
--- stands; of two points the one with the larger x is farther right, and the one with the larger y farther up, both by the scale.
+-- stands; of two points the one with the larger x is farther right, and the one with the larger y farther up, both by the scale; so the path
+-- of a run has the length of the run, by the scale.
 pub record Drawn (ps : List Point) : Type 0 where
   pub inside : (p : Point) → List·Memᴰ p ps → let b = boxOf ps in
       (20 * unitOf b ≤ acrossAt b (p .x)) × (acrossAt b (p .x) + 20 * unitOf b ≤ pictureWidth b) × (20 * unitOf b ≤ downAt b (p .y))
@@ -64,3 +69,5 @@ pub record Drawn (ps : List Point) : Type 0 where
       → acrossAt (boxOf ps) (q .x) ≡ acrossAt (boxOf ps) (p .x) + scale * gap (p .x) (q .x)
   pub upward : (p q : Point) → List·Memᴰ p ps → List·Memᴰ q ps → T (leZ (p .y) (q .y))
       → downAt (boxOf ps) (p .y) ≡ downAt (boxOf ps) (q .y) + scale * gap (p .y) (q .y)
+  pub lengths : (p q : Point) → List·Memᴰ p ps → List·Memᴰ q ps → let b = boxOf ps in
+      between (acrossAt b (p .x)) (acrossAt b (q .x)) + between (downAt b (p .y)) (downAt b (q .y)) ≡ scale * dist p q
