@@ -14,7 +14,7 @@ use Rattle.model.specs.DeviceKinds.{sensorsOnly}
 use Rattle.model.specs.Contents.{Contents, keeping, ValidContents}
 use Rattle.model.specs.Question.{pinCount}
 use Rattle.model.specs.Sections.{sectionFile, size, fileSize}
-use Rattle.model.specs.File.{plain, sectionOf, kindSections, sectionsWith, sizesOf, pinsOnly, plainFileOf, deck, readFile}
+use Rattle.model.specs.File.{plain, kindSections, sectionsWith, sizesOf, pinsOnly, plainFileOf, deck, readFile}
 use Rattle.model.proofs.Bytes.{section-length}
 use Rattle.model.proofs.DeviceKinds.{keeping-valid}
 use Rattle.model.proofs.Sections.{Laid, file-laid, sections-length}

@@ -13,9 +13,9 @@ use borrow.Author.Tests.{lt-ltb, le-ltb}
 use Rattle.arrays.specs.Set.{out}
 use Rattle.arrays.specs.Test.{if}
 use Rattle.plane.specs.Point.{Point, lower}
-use Rattle.model.specs.State.{State, pruneFrom, prune, insert}
-use Rattle.model.specs.Contents.{Contents, emptyContents, following, ValidContents}
-use Rattle.model.specs.Call.{Call, add, Reply, done, refused, insertRefusal, unless, step, contentsAfter}
+use Rattle.model.specs.State.{pruneFrom, prune, insert}
+use Rattle.model.specs.Contents.{Contents, emptyContents, following}
+use Rattle.model.specs.Call.{Call, add, done, refused, insertRefusal, unless, step, contentsAfter}
 use Rattle.model.specs.File.{deck, plainFileOf, readFile}
 use Rattle.model.proofs.PlainFile.{pins-alone, plain-read}
 use Rattle.model.proofs.Session.{empty-contents}
@@ -28,7 +28,7 @@ use Rattle.pin_line.specs.PinLines.{pinLineOf}
 use Rattle.packing.specs.declared.Fault.{Fault}
 use Rattle.packing.specs.declared.Fault.the-variants.{None, Error, Refused}
 use Rattle.packing.specs.Packing.{Packed, nothingPacked, nextNumber, faultOf, byCall, byPin, byLine, hasFault, packLine, packInput}
-use Rattle.packing.specs.Printed.{Printed, faultText, packedFile, packed}
+use Rattle.packing.specs.Printed.{faultText, packedFile, packed}
 use Rattle.packing.specs.Claim.{callOf, callsOf, AllDone, Faultless, numberBehind, IsRefused, FirstFault, Whole, Stopped, InputPacked, InputTaken}
 use Rattle.packing.proofs.Steps.{number-more, number-stops}
 

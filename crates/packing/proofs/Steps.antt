@@ -22,7 +22,7 @@ use Rattle.calls.specs.Changes.{replyOf, ChangedBy}
 use Rattle.pin_line.specs.declared.PinLine.the-variants as pin_line
 use Rattle.pin_line.specs.PinLines.{pinLineOf}
 use Rattle.packing.specs.declared.Fault.{Fault}
-use Rattle.packing.specs.declared.Fault.the-variants.{None, Error, Refused}
+use Rattle.packing.specs.declared.Fault.the-variants.{None, Error}
 use Rattle.packing.specs.declared.Packing.{Packing}
 use Rattle.packing.specs.Packing.{Packed, nothingPacked, nextNumber, faultOf, byCall, byPin, byLine, hasFault, packLine}
 use Rattle.packing.specs.Held.{faultBy, packOf, Packs, PacksAs}

@@ -43,11 +43,12 @@ pub record Faultless (c : Contents) (lines : List (List ℕ)) : Type 0 where
 abbrev pub numberBehind : ℕ → ℕ
 numberBehind k = if (ltb k mostLines) (λ _. suc k) (λ _. mostLines)
 
--- A line with a fault on the contents c: it is none of these lines, or its pin is refused by m.
+-- The pin of a line is refused by m on the contents c.
 abbrev pub IsRefused : Contents → List ℕ → ℕ → Type 0
 IsRefused c line m = (k : Call) × (callOf (pinLineOf line) ≡ k ∷ []) × (step c k .reply ≡ refused m)
 
--- Lines up to the first that has a fault, which is f, where k lines stand before them.
+-- The first of these lines that has a fault, which is f: those before it have none, and it is none of these lines, or its pin is refused on what
+-- those before leave. Its number counts k lines more.
 pub record FirstFault (c : Contents) (k : ℕ) (lines : List (List ℕ)) (f : Fault) : Type 0 where
   pub before : List (List ℕ)
   pub line : List ℕ

@@ -1,5 +1,5 @@
 -- A line by the tests of the code, one after the other.
-use mathlib.Core.Path.{_≡_, refl, sym, ap, _∙_}
+use mathlib.Core.Path.{_≡_, refl, sym, ap}
 use mathlib.Core.Bool.{Bool, true, false, not}
 use mathlib.Core.List.{List, [], _∷_}
 use Prim.Native.Nat.{ℕ, _-_, _≤_, _<_}
@@ -15,7 +15,6 @@ use Rattle.arrays.proofs.Signed.{if-negative, if-natural}
 use Rattle.arguments.specs.declared.Arguments.{Arguments}
 use Rattle.words.specs.Words.{wordsOf}
 use Rattle.arguments.specs.Arguments.{argumentsOf}
-use Rattle.pin_line.specs.declared.PinLine.{PinLine}
 use Rattle.pin_line.specs.declared.PinLine.the-variants.{Passed, Error, Pin}
 use Rattle.pin_line.specs.PinLines.{isComment, textLength, isPlain, withKind, ofNumbers, ofText, pinLineOf}
 

@@ -1,11 +1,10 @@
 -- The parts of a deck in working form, one behind the other, are the file of its contents.
-use mathlib.Core.Path.{_≡_, refl, sym, ap, _∙_}
+use mathlib.Core.Path.{_≡_, sym, ap, _∙_}
 use mathlib.Core.Bool.{Bool}
-use mathlib.Core.List.{List, [], _∷_, _++_, map, flatten, append-assoc}
+use mathlib.Core.List.{List, [], _++_, map, flatten, append-assoc}
 use Prim.Native.Nat.{ℕ, _+_, _-_, _≤_}
 use native.Mathlib.Omega.{arith}
 use lib.ListN.{length, take}
-use Rattle.plane.specs.Code.{pointOf}
 use Rattle.model.specs.State.{State}
 use Rattle.model.specs.DeviceKinds.{sensorsOnly}
 use Rattle.model.specs.Contents.{Contents, ValidContents}
@@ -20,8 +19,7 @@ use Rattle.working.specs.InOrder.{InOrder, stateOf}
 use Rattle.working.specs.WorkingDeck.{contentsOf}
 use Rattle.edges.specs.Edges.{edgeRow}
 use Rattle.edges.proofs.Numbers.{edge-count}
-use Rattle.arrays.specs.Paste.{each}
-use Rattle.sections.specs.Bytes.{codeBytes, edgeBytes}
+use Rattle.sections.specs.Bytes.{edgeBytes}
 use Rattle.buffer.specs.Parts.{fileParts, PartsFit}
 use Rattle.buffer.proofs.Parts.{section-is}
 use Rattle.writer.proofs.Runs.{count-is, edges-are}

@@ -1,5 +1,5 @@
 -- `deckpack::main` is safe and ends: the line so far stays within its array, and the reads are counted down.
-use mathlib.Core.Path.{_≡_, _∙_}
+use mathlib.Core.Path.{_≡_}
 use native.Mathlib.Omega.{arith}
 use lib.ListN.{length}
 use borrow.Author.Needs.{needs}

@@ -1,5 +1,5 @@
 -- `pin_line::all_plain` meets its contract. The invariant: the bytes passed pass the test.
-use mathlib.Core.Path.{refl, sym, ap, _∙_}
+use mathlib.Core.Path.{ap, _∙_}
 use Prim.Native.Nat.{_-_}
 use native.Mathlib.Omega.{arith}
 use lib.ListN.{length}

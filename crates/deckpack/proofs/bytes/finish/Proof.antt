@@ -4,7 +4,6 @@ use Prim.Native.Nat.{_≤_}
 use native.Mathlib.Omega.{arith}
 use lib.ListN.{length}
 use lib.Seq.{length-take-le}
-use borrow.Author.Needs.{needs}
 use Rattle.lines.proofs.Taking.{end-none, end-some}
 use Rattle.packing.specs.Packing.{packLine}
 use Rattle.deckpack.proofs.bytes.finish.Statement.{statement}
