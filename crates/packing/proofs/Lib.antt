@@ -1,3 +1,4 @@
 -- Laws of a text of coordinates.
 pub mod Claim
+pub mod Examples
 pub mod Steps
