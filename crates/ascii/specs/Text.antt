@@ -21,6 +21,10 @@ signedFieldRoom = 22
 abbrev pub fieldsRoom : ℕ
 fieldsRoom = 63
 
+-- Room for the line of a refusal.
+abbrev pub refusedRoom : ℕ
+refusedRoom = 29
+
 -- Room for what stands in front of a file in its line: a word and its length.
 abbrev pub fileHeadRoom : ℕ
 fileHeadRoom = 64

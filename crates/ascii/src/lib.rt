@@ -1,4 +1,4 @@
-// Numbers in base ten, written from a place of a slice on. Each function returns the place behind what it wrote.
+// Numbers in base ten and the line of a refusal, written from a place of a slice on. Each function returns the place behind what it wrote.
 pub mod encode;
 
 use arrays::paste::put_byte;
@@ -9,7 +9,7 @@ ghost use lib.IntN.{natAbs};
 ghost use lib.ListN.{length, drop};
 ghost use Rattle.model.specs.Listing as model;
 ghost use Rattle.arrays.specs.Paste.{Pasted};
-ghost use Rattle.ascii.specs.Text.{mostDigits, signedRoom, fieldRoom, signedFieldRoom, fieldsRoom};
+ghost use Rattle.ascii.specs.Text.{mostDigits, signedRoom, fieldRoom, signedFieldRoom, fieldsRoom, refusedRoom};
 
 // The most digits of a number of 64 bits.
 const DIGITS: usize = 20;
@@ -93,4 +93,14 @@ pub fn signed_field(out: &mut [u8], at: usize, z: i32) -> usize
 {
     let next = put_byte(out, at, b' ');
     signed(out, next, z)
+}
+
+// Puts the line of a refusal by its number from place `at` on. Returns the place behind it.
+pub fn refused_line(out: &mut [u8], at: usize, n: u64) -> usize
+    requires { ⌜ at + refusedRoom ≤ length (now out) ⌝ }
+    ensures { λ r. ⌜ Pasted (model.refusedLine n) (now (out .entry)) (now (out .exit)) at r ⌝ }
+{
+    let a = put_bytes(out, at, b"refused");
+    let b = decimal_field(out, a, n);
+    put_byte(out, b, b'\n')
 }

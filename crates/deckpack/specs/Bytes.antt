@@ -3,7 +3,7 @@ use mathlib.Core.Path.{_≡_}
 use mathlib.Core.List.{List}
 use Prim.Native.Nat.{ℕ, _≤_}
 use lib.ListN.{take}
-use Rattle.lines.specs.Lines.{lineRoom, Reading, takenAll}
+use Rattle.lines.specs.Lines.{inputRoom, Reading, takenAll}
 use Rattle.packing.specs.declared.Packing.{Packing}
 use Rattle.packing.specs.Packing.{Packed, packLine}
 use Rattle.packing.specs.Held.{packOf, Packs}
@@ -16,7 +16,7 @@ readingOf p line size = record { state = packOf p; line = take size line }
 -- The deck is in order, and the line so far is within its array.
 pub record Reads (r : Reader) : Type 0 where
   pub packs : Packs (r .packing)
-  pub within : r .size ≤ lineRoom
+  pub within : r .size ≤ inputRoom
 
 -- It is so for s too, whose array is `after`, and s follows from r, whose array is `before`, by these bytes.
 pub record TakesAll (r : Reader) (before bytes : List ℕ) (s : Reader) (after : List ℕ) : Type 0 where

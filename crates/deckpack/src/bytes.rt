@@ -4,7 +4,7 @@ use lines::push;
 use packing::Packing;
 ghost use mathlib.Core.Path.{_≡_};
 ghost use lib.ListN.{length, take};
-ghost use Rattle.lines.specs.Lines.{lineRoom, lastLine, stateAfter};
+ghost use Rattle.lines.specs.Lines.{inputRoom, lastLine, stateAfter};
 ghost use Rattle.packing.specs.Packing.{packLine};
 ghost use Rattle.packing.specs.Held.{packOf, PacksAs};
 ghost use Rattle.deckpack.specs.Bytes.{Reads, TakesAll};
@@ -17,7 +17,7 @@ pub struct Reader {
 
 // Takes the bytes that were read: a line feed ends a line, any other byte is one more of it.
 pub fn take_all(r: Reader, line: &mut [u8], bytes: &[u8]) -> Reader
-    requires { ⌜ length (now line) ≡ lineRoom ⌝ }
+    requires { ⌜ length (now line) ≡ inputRoom ⌝ }
     requires { ⌜ Reads r ⌝ }
     ensures { λ s. ⌜ TakesAll r (now (line .entry)) (now (bytes .entry)) s (now (line .exit)) ⌝ }
 {
@@ -39,7 +39,7 @@ pub fn take_all(r: Reader, line: &mut [u8], bytes: &[u8]) -> Reader
 
 // The end of a text: bytes behind the last line feed are a line too.
 pub fn finish(r: Reader, line: &[u8]) -> Packing
-    requires { ⌜ length (now line) ≡ lineRoom ⌝ }
+    requires { ⌜ length (now line) ≡ inputRoom ⌝ }
     requires { ⌜ Reads r ⌝ }
     ensures { λ s. ⌜ PacksAs s (stateAfter packLine (packOf (r .packing)) (lastLine (take (r .size) (now (line .entry))))) ⌝ }
 {

@@ -5,7 +5,7 @@ mod bytes;
 use bytes::Reader;
 use bytes::finish;
 use bytes::take_all;
-use lines::LINE_ROOM;
+use lines::INPUT_ROOM;
 use packing::Packing;
 use packing::start;
 use packing::text::FAULT_ROOM;
@@ -32,7 +32,7 @@ fn print(p: Packing)
 
 // A proved loop has to end, and nothing says that the input does: the loop counts its reads down, from a number that no input uses up.
 fn main() {
-    let mut line = [0u8; LINE_ROOM];
+    let mut line = [0u8; INPUT_ROOM];
     let mut chunk = [0u8; CHUNK];
     let mut r = Reader {
         packing: start(),

@@ -3,7 +3,7 @@ use mathlib.Core.Path.{_≡_}
 use mathlib.Core.List.{List, []}
 use Prim.Native.Nat.{ℕ, _≤_}
 use lib.ListN.{take}
-use Rattle.lines.specs.Lines.{lineRoom, linesFrom, Reading, takenAll, stateAfter}
+use Rattle.lines.specs.Lines.{inputRoom, linesFrom, Reading, takenAll, stateAfter}
 use Rattle.deck.specs.declared.Deck.{Deck}
 use Rattle.answer.specs.Play.{played}
 use Rattle.deckplay.specs.declared.bytes.Reader.{Reader}
@@ -18,7 +18,7 @@ readingOf d line size = record { state = d; line = take size line }
 
 -- The line so far is within its array, and s, whose array is `after`, follows from r, whose array is `before`, by these bytes.
 pub record TakesAll (r : Reader) (before bytes : List ℕ) (s : Reader) (after : List ℕ) : Type 0 where
-  pub within : s .size ≤ lineRoom
+  pub within : s .size ≤ inputRoom
   pub is : readingOf (s .deck) after (s .size) ≡ takenAll afterLine (readingOf (r .deck) before (r .size)) bytes
 
 -- The claim: taking the bytes of an input plays its lines, each on the deck of the one before, and leaves what stands behind the last.

@@ -7,7 +7,7 @@ use lines::push;
 ghost use mathlib.Core.Path.{_≡_};
 ghost use Prim.Native.Nat.{_≤_};
 ghost use lib.ListN.{length};
-ghost use Rattle.lines.specs.Lines.{lineRoom};
+ghost use Rattle.lines.specs.Lines.{inputRoom};
 ghost use Rattle.deckplay.specs.Script.{afterLine, TakesAll};
 
 // The deck that the lines so far leave, and how many bytes of the next line are there.
@@ -31,8 +31,8 @@ pub fn end(d: Deck, line: &[u8]) -> Deck
 
 // Takes the bytes that were read: a line feed ends a line, any other byte is one more of it.
 pub fn take_all(r: Reader, line: &mut [u8], bytes: &[u8]) -> Reader
-    requires { ⌜ length (now line) ≡ lineRoom ⌝ }
-    requires { ⌜ r .size ≤ lineRoom ⌝ }
+    requires { ⌜ length (now line) ≡ inputRoom ⌝ }
+    requires { ⌜ r .size ≤ inputRoom ⌝ }
     ensures { λ s. ⌜ TakesAll r (now (line .entry)) (now (bytes .entry)) s (now (line .exit)) ⌝ }
 {
     let mut deck = r.deck;

@@ -5,7 +5,7 @@ use bytes::Reader;
 use bytes::end;
 use bytes::take_all;
 use deck::Deck;
-use lines::LINE_ROOM;
+use lines::INPUT_ROOM;
 ghost use mathlib.Core.Path.{_≡_};
 ghost use Rattle.model.specs.Contents.{emptyContents};
 ghost use Rattle.deck.specs.Form.{deckOf};
@@ -25,7 +25,7 @@ fn start() -> Reader
 
 // A proved loop has to end, and nothing says that the input does: the loop counts its reads down, from a number that no input uses up.
 fn main() {
-    let mut line = [0u8; LINE_ROOM];
+    let mut line = [0u8; INPUT_ROOM];
     let mut chunk = [0u8; CHUNK];
     let mut r = start();
     let mut reads = u64::MAX;

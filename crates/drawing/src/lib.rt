@@ -9,7 +9,8 @@ use frame::unit;
 use plane::codes::x_of;
 use plane::codes::y_of;
 use template::fill;
-ghost use Prim.Native.Nat.{_+_, _*_, _≤_};
+ghost use mathlib.Core.List.{_++_};
+ghost use Prim.Native.Nat.{_+_, _≤_};
 ghost use lib.ListN.{length};
 ghost use Rattle.arrays.specs.Paste.{Pasted};
 ghost use Rattle.plane.specs.Code.{pointOf};
@@ -26,28 +27,31 @@ const PICTURE_REST: u64 = 120;
 // The symbol of a Steiner point; those of pins are numbered by their kinds, 0 to 2.
 pub const TAP_SYMBOL: u8 = 3;
 
+// Four texts one behind the other.
+fn put_four(out: &mut [u8], at: usize, a: &[u8], b: &[u8], c: &[u8], d: &[u8]) -> usize
+    requires { ⌜ at + (length (now a) + (length (now b) + (length (now c) + length (now d)))) ≤ length (now out) ⌝ }
+    ensures { λ r. ⌜ Pasted (now (a .entry) ++ (now (b .entry) ++ (now (c .entry) ++ now (d .entry)))) (now (out .entry)) (now (out .exit)) at r ⌝ }
+{
+    let second = put_bytes(out, at, a);
+    let third = put_bytes(out, second, b);
+    let fourth = put_bytes(out, third, c);
+    put_bytes(out, fourth, d)
+}
+
 // The symbols, to be used by their names.
 fn put_definitions(out: &mut [u8], at: usize) -> usize
     requires { ⌜ at + constantRoom ≤ length (now out) ⌝ }
     ensures { λ r. ⌜ Pasted definitions (now (out .entry)) (now (out .exit)) at r ⌝ }
     ensures { λ r. ⌜ r ≤ at + constantRoom ⌝ }
 {
-    let display = put_bytes(
+    put_four(
         out,
         at,
         b"<circle id='sensor' r='2' fill='white' stroke='black'/>\n",
-    );
-    let controller = put_bytes(
-        out,
-        display,
         b"<rect id='display' x='-3' y='-3' width='6' height='6' fill='blue'/>\n",
-    );
-    let tap = put_bytes(
-        out,
-        controller,
         b"<path id='controller' d='M-4 0L0 -4L4 0L0 4Z' fill='red'/>\n",
-    );
-    put_bytes(out, tap, b"<circle id='tap' r='2'/>\n")
+        b"<circle id='tap' r='2'/>\n",
+    )
 }
 
 // Puts the head at the front: the frame, the symbols, and how runs are drawn.
@@ -148,24 +152,12 @@ fn put_legend(out: &mut [u8], at: usize) -> usize
     ensures { λ r. ⌜ Pasted legend (now (out .entry)) (now (out .exit)) at r ⌝ }
     ensures { λ r. ⌜ r ≤ at + constantRoom ⌝ }
 {
-    let display = put_bytes(
+    put_four(
         out,
         at,
         b"<use href='#sensor' x='30' y='60'/><text x='40' y='65'>sensor</text>\n",
-    );
-    let controller = put_bytes(
-        out,
-        display,
         b"<use href='#display' x='130' y='60'/><text x='140' y='65'>display</text>\n",
-    );
-    let tap = put_bytes(
-        out,
-        controller,
         b"<use href='#controller' x='230' y='60'/><text x='240' y='65'>controller</text>\n",
-    );
-    put_bytes(
-        out,
-        tap,
         b"<use href='#tap' x='350' y='60'/><text x='360' y='65'>tap</text>\n",
     )
 }

@@ -9,18 +9,18 @@ use lib.ListN.{length, take, getD}
 use lib.Seq.{take-all, length-take-le}
 use borrow.Author.Tests.{eq-eqb, ne-eqb}
 use Rattle.arrays.specs.Test.{if}
-use Rattle.lines.specs.Lines.{lineRoom, more, lastLine, Reading, taken, takenAll, stateAfter}
+use Rattle.lines.specs.Lines.{inputRoom, more, lastLine, Reading, taken, takenAll, stateAfter}
 use Rattle.lines.proofs.Input.{all-more, last-none, last-some}
 
 -- The first i bytes are taken, from r on: they lead to the state s and a line of `size` bytes.
 pub record TakenTo {S : Type 0} (f : S → List ℕ → S) (r : Reading S) (bytes : List ℕ) (s : S) (line : List ℕ) (size i : ℕ) : Type 0 where
   pub within : i ≤ length bytes
-  pub full : length line ≡ lineRoom
-  pub fits : size ≤ lineRoom
+  pub full : length line ≡ inputRoom
+  pub fits : size ≤ inputRoom
   pub is : record { state = s; line = take size line } ≡ takenAll f r (take i bytes)
 
 module _ {S : Type 0} (f : S → List ℕ → S) where
-  pub taken-none : (s : S) (line bytes : List ℕ) (size : ℕ) → length line ≡ lineRoom → size ≤ lineRoom
+  pub taken-none : (s : S) (line bytes : List ℕ) (size : ℕ) → length line ≡ inputRoom → size ≤ inputRoom
       → TakenTo f (record { state = s; line = take size line }) bytes s line size 0
   unfolding takenAll
   taken-none s line bytes size full fits = record { within = omega arith; full = full; fits = fits; is = refl }
@@ -53,7 +53,7 @@ module _ {S : Type 0} (f : S → List ℕ → S) where
 
       -- Another byte.
       pub taken-byte : ¬ (getD bytes i 0 ≡ 10) → (line′ : List ℕ) (size′ : ℕ)
-          → (size′ ≤ lineRoom) × (take size′ line′ ≡ more (getD bytes i 0) (take size line)) → length line′ ≡ length line
+          → (size′ ≤ inputRoom) × (take size′ line′ ≡ more (getD bytes i 0) (take size line)) → length line′ ≡ length line
           → TakenTo f r bytes s line′ size′ (i + 1)
       unfolding taken chosen
       taken-byte n line′ size′ k same =

@@ -11,12 +11,12 @@ use Rattle.arrays.specs.Text.{byte}
 abbrev pub lineLimit : ℕ
 lineLimit = 4000
 
-abbrev pub lineRoom : ℕ
-lineRoom = 4001
+abbrev pub inputRoom : ℕ
+inputRoom = 4001
 
 -- One more byte of a line, as far as it is kept.
 abbrev pub more : ℕ → List ℕ → List ℕ
-more b l = if (ltb (length l) lineRoom) (λ _. l ++ (b ∷ [])) (λ _. l)
+more b l = if (ltb (length l) inputRoom) (λ _. l ++ (b ∷ [])) (λ _. l)
 
 -- The lines of an input, each ended by a line feed, and what stands behind the last; of each as much as is kept.
 pub record Lines : Type 0 where

@@ -1,9 +1,7 @@
 // The listing of a deck, in ASCII, written to the caller's slice.
 mod rows;
 
-use arrays::paste::put_byte;
-use arrays::paste::put_bytes;
-use ascii::decimal_field;
+use ascii::refused_line;
 use deck::Deck;
 use deck::check::check;
 use measures::kind_lengths;
@@ -35,16 +33,6 @@ const LINE_ROOM: usize = 128;
 pub struct Printed {
     pub refused: bool,
     pub size: usize,
-}
-
-// A refusal by its number, as a line.
-fn refused_line(out: &mut [u8], n: u64) -> usize
-    requires { ⌜ 29 ≤ length (now out) ⌝ }
-    ensures { λ r. ⌜ Pasted (model.refusedLine n) (now (out .entry)) (now (out .exit)) 0 r ⌝ }
-{
-    let a = put_bytes(out, 0, b"refused");
-    let b = decimal_field(out, a, n);
-    put_byte(out, b, b'\n')
 }
 
 // The tap lines of a working form.
@@ -87,7 +75,7 @@ pub fn list(d: Deck, out: &mut [u8]) -> usize
     }
     let c = check(d);
     if !c.ok {
-        return refused_line(out, 11);
+        return refused_line(out, 0, 11);
     }
     list_working(c.working, out)
 }
@@ -99,5 +87,5 @@ pub fn list_refusal(n: u8, out: &mut [u8]) -> usize
     if out.len() < LINE_ROOM {
         return 0;
     }
-    refused_line(out, n as u64)
+    refused_line(out, 0, n as u64)
 }

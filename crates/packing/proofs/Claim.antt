@@ -29,7 +29,7 @@ use Rattle.packing.specs.declared.Fault.{Fault}
 use Rattle.packing.specs.declared.Fault.the-variants.{None, Error, Refused}
 use Rattle.packing.specs.Packing.{Packed, nothingPacked, nextNumber, faultOf, byCall, byPin, byLine, hasFault, packLine, packInput}
 use Rattle.packing.specs.Printed.{faultText, packedFile, packed}
-use Rattle.packing.specs.Claim.{callOf, callsOf, AllDone, Faultless, numberBehind, IsRefused, FirstFault, Whole, Stopped, InputPacked, InputTaken}
+use Rattle.packing.specs.Claim.{callOf, callsOf, AllDone, Faultless, numberBehind, PinRefused, FirstFault, Whole, Stopped, InputPacked, InputTaken}
 use Rattle.packing.proofs.Steps.{number-more, number-stops}
 
 -- The number of a line, by whether it is the largest.
@@ -128,7 +128,7 @@ module _ (c : Contents) (k : ℕ) (l : List ℕ) (ls : List (List ℕ)) (known :
           why = ⊎-elim (λ w. inl (w .0, w .1 ∙ ap (λ (n : ℕ). Error (numberBehind n)) number))
               (λ w. inr (
                 w .0,
-                subst⁻¹ (λ (d : Contents). IsRefused d (f .line) (w .0)) (after-append c (callOf (pinLineOf l)) (callsOf (f .before))) (w .1),
+                subst⁻¹ (λ (d : Contents). PinRefused d (f .line) (w .0)) (after-append c (callOf (pinLineOf l)) (callsOf (f .before))) (w .1),
                 w .2 ∙ ap (λ (n : ℕ). Refused (numberBehind n) (w .0)) number,
               ))
               (f .why);
@@ -161,7 +161,7 @@ module _ (c : Contents) (k : ℕ) (l : List ℕ) (ls : List (List ℕ)) (rest : 
       (in-front c k l ls known added _ (subst (λ (b : Contents). Result b (suc k) ls (stateAfter packLine (at d (suc k)) ls)) e (rest d)))
 
   stops : (r : Packed) → packLine (at c k) l ≡ r → ((m : List ℕ) → packLine r m ≡ r)
-      → ((pinLineOf l ≡ pin_line.Error) × (r .fault ≡ Error (numberBehind k))) ⊎ ((m : ℕ) × IsRefused c l m × (r .fault ≡ Refused (numberBehind k) m))
+      → ((pinLineOf l ≡ pin_line.Error) × (r .fault ≡ Error (numberBehind k))) ⊎ ((m : ℕ) × PinRefused c l m × (r .fault ≡ Refused (numberBehind k) m))
       → Result c k (l ∷ ls) (stateAfter packLine (at c k) (l ∷ ls))
   unfolding contentsAfter
   stops r e h why =

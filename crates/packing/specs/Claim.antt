@@ -44,8 +44,8 @@ abbrev pub numberBehind : ℕ → ℕ
 numberBehind k = if (ltb k mostLines) (λ _. suc k) (λ _. mostLines)
 
 -- The pin of a line is refused by m on the contents c.
-abbrev pub IsRefused : Contents → List ℕ → ℕ → Type 0
-IsRefused c line m = (k : Call) × (callOf (pinLineOf line) ≡ k ∷ []) × (step c k .reply ≡ refused m)
+abbrev pub PinRefused : Contents → List ℕ → ℕ → Type 0
+PinRefused c line m = (k : Call) × (callOf (pinLineOf line) ≡ k ∷ []) × (step c k .reply ≡ refused m)
 
 -- The first of these lines that has a fault, which is f: those before it have none, and it is none of these lines, or its pin is refused on what
 -- those before leave. Its number counts k lines more.
@@ -56,7 +56,7 @@ pub record FirstFault (c : Contents) (k : ℕ) (lines : List (List ℕ)) (f : Fa
   pub parts : lines ≡ before ++ (line ∷ after)
   pub good : Faultless c before
   pub why : ((pinLineOf line ≡ pin_line.Error) × (f ≡ Error (numberBehind (k + length before))))
-      ⊎ ((m : ℕ) × IsRefused (contentsAfter c (callsOf before)) line m × (f ≡ Refused (numberBehind (k + length before)) m))
+      ⊎ ((m : ℕ) × PinRefused (contentsAfter c (callsOf before)) line m × (f ≡ Refused (numberBehind (k + length before)) m))
 
 -- An input without a fault: on standard output the plain file of the deck of its pins, added in the order of their lines, which is read back as that
 -- deck; nothing on standard error.

@@ -20,10 +20,10 @@ use Rattle.arguments.specs.Arguments.{numbersOf, argumentsOf}
 use Rattle.lines.specs.Lines.{linesFrom, stateAfter}
 use Rattle.pin_line.specs.PinLines.{isPlain, withKind, ofNumbers, ofText, pinLineOf}
 use Rattle.packing.specs.Packing.{byCall, byPin, packLine, packInput}
-use Rattle.packing.specs.Printed.{Printed, packed}
+use Rattle.packing.specs.Printed.{Outputs, packed}
 
 -- What is printed for inputs.
-unfoldable pub printedFor : List String → List Printed
+unfoldable pub printedFor : List String → List Outputs
 unfolding beside put out has all word16 lower firstFailed pruneFrom prune insert insertRefusal step pairsFrom header sectionFile flatten sectionOf
     plainFileOf digitsFrom isSpace split areDigits valueFrom numberOf numbersOf argumentsOf linesFrom stateAfter isPlain withKind ofNumbers ofText
     pinLineOf byCall byPin packLine packInput packed
@@ -47,7 +47,7 @@ Files =
     ∷ []
 
 -- A fault: a pin that is there, lines passed over that count, out of range, no kind, and the first of two.
-abbrev pub fault : String → Printed
+abbrev pub fault : String → Outputs
 fault s = record { out = []; err = bytes s }
 
 abbrev pub Faults : Type 0

@@ -2,57 +2,48 @@
 use super::Fault;
 use super::Packing;
 use super::has_fault;
-use arrays::paste::put_byte;
 use arrays::paste::put_bytes;
 use ascii::decimal_field;
+use ascii::refused_line;
 use plain_file::write_plain;
-ghost use Prim.Native.Nat.{_+_, _≤_};
+ghost use Prim.Native.Nat.{_≤_};
 ghost use lib.ListN.{length};
 ghost use Rattle.arrays.specs.Paste.{Pasted};
 ghost use Rattle.ascii.specs.Text.{fitting};
 ghost use Rattle.plain_file.specs.Plain.{plainRoom};
 ghost use Rattle.packing.specs.Held.{packOf, Packs};
-ghost use Rattle.packing.specs.Printed.{faultRoom, lineHead, errorLine, refusalText, refusedLine, faultText, packedFile};
+ghost use Rattle.packing.specs.Printed.{faultRoom, lineHead, errorAt, refusedAt, faultText, packedFile};
 
 // Room for the line of a fault.
 pub const FAULT_ROOM: usize = 64;
 
-// The number of a line, with the word in front.
+// The number of a line, between the word and a colon.
 fn line_head(out: &mut [u8], n: u64) -> usize
     requires { ⌜ faultRoom ≤ length (now out) ⌝ }
     ensures { λ r. ⌜ Pasted (lineHead n) (now (out .entry)) (now (out .exit)) 0 r ⌝ }
-    ensures { λ r. ⌜ r ≤ 25 ⌝ }
+    ensures { λ r. ⌜ r ≤ 27 ⌝ }
 {
-    let next = put_bytes(out, 0, b"line");
-    decimal_field(out, next, n)
+    let number = put_bytes(out, 0, b"line");
+    let reason = decimal_field(out, number, n);
+    put_bytes(out, reason, b": ")
 }
 
 // A line that is none of these lines.
-fn error_line(out: &mut [u8], n: u64) -> usize
+fn error_at(out: &mut [u8], n: u64) -> usize
     requires { ⌜ faultRoom ≤ length (now out) ⌝ }
-    ensures { λ r. ⌜ Pasted (errorLine n) (now (out .entry)) (now (out .exit)) 0 r ⌝ }
+    ensures { λ r. ⌜ Pasted (errorAt n) (now (out .entry)) (now (out .exit)) 0 r ⌝ }
 {
     let next = line_head(out, n);
-    put_bytes(out, next, b": error\n")
-}
-
-// The refusal by m, behind the number of a line.
-fn refusal(out: &mut [u8], at: usize, m: u64) -> usize
-    requires { ⌜ at + 31 ≤ length (now out) ⌝ }
-    ensures { λ r. ⌜ Pasted (refusalText m) (now (out .entry)) (now (out .exit)) at r ⌝ }
-{
-    let a = put_bytes(out, at, b": refused");
-    let b = decimal_field(out, a, m);
-    put_byte(out, b, b'\n')
+    put_bytes(out, next, b"error\n")
 }
 
 // A line whose pin is refused by m.
-fn refused_line(out: &mut [u8], n: u64, m: u64) -> usize
+fn refused_at(out: &mut [u8], n: u64, m: u64) -> usize
     requires { ⌜ faultRoom ≤ length (now out) ⌝ }
-    ensures { λ r. ⌜ Pasted (refusedLine n m) (now (out .entry)) (now (out .exit)) 0 r ⌝ }
+    ensures { λ r. ⌜ Pasted (refusedAt n m) (now (out .entry)) (now (out .exit)) 0 r ⌝ }
 {
-    let next = line_head(out, n);
-    refusal(out, next, m)
+    let a = line_head(out, n);
+    refused_line(out, a, m)
 }
 
 // The line of a fault at the front of `out`, which has to have room for FAULT_ROOM bytes; nothing for no fault. Returns its length; 0 where
@@ -65,8 +56,8 @@ pub fn fault_line(f: Fault, out: &mut [u8]) -> usize
     }
     match f {
         Fault::None => 0,
-        Fault::Error(n) => error_line(out, n),
-        Fault::Refused(n, m) => refused_line(out, n, m as u64),
+        Fault::Error(n) => error_at(out, n),
+        Fault::Refused(n, m) => refused_at(out, n, m as u64),
     }
 }
 

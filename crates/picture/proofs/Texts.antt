@@ -2,12 +2,11 @@
 use mathlib.Core.Path.{_≡_, refl, sym, ap, ap₂, _∙_}
 use mathlib.Core.List.{List, [], _∷_, _++_, map, map-append, append-assoc, append-nil}
 use Prim.Native.Nat.{ℕ, zero, suc, _+_, _≤_, _<_}
-use native.Mathlib.Numerals.{add-one}
 use native.Mathlib.Omega.{arith}
 use lib.ListN.{length, take, getD, replicate, length-map}
-use lib.Seq.{take-suc, take-all, length-take-le}
+use lib.Seq.{take-all, length-take-le}
 use Rattle.arrays.specs.Paste.{Pasted, each}
-use Rattle.arrays.proofs.paste.Lines.{eachTo, each-snoc}
+use Rattle.arrays.proofs.paste.Lines.{eachTo, one-more, each-snoc}
 use Rattle.arrays.proofs.paste.Parts.{pasted-same}
 use Rattle.arrays.specs.Text.{bytes}
 use Rattle.plane.specs.Point.{Point}
@@ -57,9 +56,6 @@ symbols-snoc b (j ∷ ks) k [] p e = absurd (omega (arith, e))
 symbols-snoc b (j ∷ ks) k (q ∷ ps) p e =
     ap (λ (t : List ℕ). symbolText b j q ++ t) (symbols-snoc b ks k ps p (omega (arith, e)))
     ∙ sym (append-assoc (symbolText b j q) (symbolTexts b ks ps) (symbolText b k p))
-
-one-more : (a : List ℕ) (i : ℕ) → i < length a → take (i + 1) a ≡ take i a ++ (getD a i 0 ∷ [])
-one-more a i h = ap (λ (k : ℕ). take k a) (add-one i) ∙ take-suc a i 0 h
 
 pub symbol-more : (b : Box) (symbols codes : List ℕ) (i : ℕ) → i < length symbols → i < length codes
     → symbolsTo b symbols codes (i + 1) ≡ symbolsTo b symbols codes i ++ symbolText b (getD symbols i 0) (pointOf (getD codes i 0))

@@ -53,13 +53,16 @@ unfolding each
 each-snoc f [] k = append-nil (f k)
 each-snoc f (a ∷ l) k = ap (λ (t : List ℕ). f a ++ t) (each-snoc f l k) ∙ sym (append-assoc (f a) (each f l) (f k))
 
+-- One number more of a list.
+pub one-more : (a : List ℕ) (i : ℕ) → i < length a → take (i + 1) a ≡ take i a ++ (getD a i 0 ∷ [])
+one-more a i h = ap (λ (k : ℕ). take k a) (add-one i) ∙ take-suc a i 0 h
+
 pub each-none : {A : Type 0} (f : A → List ℕ) (l : List A) → eachTo f l 0 ≡ []
 unfolding each
 each-none f l = refl
 
 pub each-more : (f : ℕ → List ℕ) (l : List ℕ) (i : ℕ) → i < length l → eachTo f l (i + 1) ≡ eachTo f l i ++ f (getD l i 0)
-each-more f l i h =
-    ap (λ (k : ℕ). eachTo f l k) (add-one i) ∙ ap (each f) (take-suc l i 0 h) ∙ each-snoc f (take i l) (getD l i 0)
+each-more f l i h = ap (each f) (one-more l i h) ∙ each-snoc f (take i l) (getD l i 0)
 
 pub each-all : (f : ℕ → List ℕ) (l : List ℕ) → eachTo f l (length l) ≡ each f l
 each-all f l = ap (each f) (take-length l)

@@ -1,10 +1,10 @@
 -- The tap lines and the run lines of the first items, then a line more.
 use mathlib.Core.Path.{_≡_, refl, sym, ap, _∙_}
-use mathlib.Core.List.{List, [], _∷_, _++_, map, append-assoc}
+use mathlib.Core.List.{List, [], _∷_, _++_, map, map-append, append-assoc}
 use Prim.Native.Nat.{ℕ, _+_, _≤_, _<_}
-use native.Mathlib.Numerals.{add-one}
 use lib.ListN.{length, take, getD}
-use lib.Seq.{take-suc, take-all}
+use lib.Seq.{take-all}
+use Rattle.arrays.proofs.paste.Lines.{one-more}
 use Rattle.plane.specs.Point.{Point}
 use Rattle.plane.specs.Edge.{Edge, edgeLength}
 use Rattle.model.specs.Listing.{tapLines, runLines, tapWord, runWord, pointFields, field, decimal, lineFeed}
@@ -37,13 +37,6 @@ runs-more (d ∷ l) e =
     ∙ ap (λ (t : List ℕ). runWord ++ t) (sym (append-assoc (pointFields (d .lo)) (pointFields (d .hi) ++ (size ++ (lineFeed ∷ runLines l))) line))
     ∙ sym (append-assoc runWord (pointFields (d .lo) ++ (pointFields (d .hi) ++ (size ++ (lineFeed ∷ runLines l)))) line)
 
-map-more : {A : Type 0} (f : ℕ → A) (l : List ℕ) (k : ℕ) → map f (l ++ (k ∷ [])) ≡ map f l ++ (f k ∷ [])
-map-more f [] k = refl
-map-more f (a ∷ l) k = ap (λ t. f a ∷ t) (map-more f l k)
-
-one-more : (a : List ℕ) (i : ℕ) → i < length a → take (i + 1) a ≡ take i a ++ (getD a i 0 ∷ [])
-one-more a i h = ap (λ (k : ℕ). take k a) (add-one i) ∙ take-suc a i 0 h
-
 -- The lines of the first i Steiner points and of the first i edges.
 abbrev pub tapText : List ℕ → ℕ → List ℕ
 tapText codes i = tapLines (map pointOf (take i codes))
@@ -61,7 +54,7 @@ run-none l = refl
 
 pub tap-more : (codes : List ℕ) (i : ℕ) → i < length codes → tapText codes (i + 1) ≡ tapText codes i ++ tapLine (pointOf (getD codes i 0))
 tap-more codes i h =
-    ap (λ (l : List ℕ). tapLines (map pointOf l)) (one-more codes i h) ∙ ap tapLines (map-more pointOf (take i codes) (getD codes i 0))
+    ap (λ (l : List ℕ). tapLines (map pointOf l)) (one-more codes i h) ∙ ap tapLines (map-append pointOf (take i codes) (getD codes i 0 ∷ []))
     ∙ taps-more (map pointOf (take i codes)) (pointOf (getD codes i 0))
 
 pub run-more : (s : State) (i : ℕ) (e : CodedEdge) → EdgeAt s i e → runText (listed s) (i + 1) ≡ runText (listed s) i ++ runLine (edgeOf e) (e .distance)

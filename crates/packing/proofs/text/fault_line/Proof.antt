@@ -16,14 +16,14 @@ returns-3 c =
     let at-put = c .before .before in
     let at-f = at-put .before .before .before in
     let at-room = at-f .before .before in
-    text-same 64 (fault-same (at-f .f .given .1)) (front-put 64 _ _ _ _ (at-room .if1 .left) (at-put .error-line .ensures))
+    text-same 64 (fault-same (at-f .f .given .1)) (front-put 64 _ _ _ _ (at-room .if1 .left) (at-put .error-at .ensures))
 
 returns-4 : tie.Need-returns-4
 returns-4 c =
     let at-put = c .before .before in
     let at-f = at-put .before .before .before in
     let at-room = at-f .before .before in
-    text-same 64 (fault-same (at-f .f2 .given .1)) (front-put 64 _ _ _ _ (at-room .if1 .left) (at-put .refused-line .ensures))
+    text-same 64 (fault-same (at-f .f2 .given .1)) (front-put 64 _ _ _ _ (at-room .if1 .left) (at-put .refused-at .ensures))
 
 pub fault-line-spec : {M : Type 1} → statement M
 fault-line-spec =

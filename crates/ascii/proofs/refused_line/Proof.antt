@@ -1,9 +1,9 @@
--- `packing::text::refusal` meets its contract: the word, the number and the line feed, each behind the one before.
+-- `ascii::refused_line` meets its contract: the word, the number and the line feed, each behind the one before.
 use native.Mathlib.Omega.{arith}
 use borrow.Author.Needs.{needs}
 use Rattle.arrays.proofs.paste.Parts.{pasted-then}
-use Rattle.packing.proofs.text.refusal.Statement.{statement}
-use Rattle.packing.proofs.text.refusal.Tie as tie
+use Rattle.ascii.proofs.refused_line.Statement.{statement}
+use Rattle.ascii.proofs.refused_line.Tie as tie
 
 returns : tie.Need-returns
 returns c =
@@ -15,7 +15,13 @@ returns c =
     pasted-then (at-put-bytes .put-bytes .ensures) (omega arith)
     (pasted-then (at-decimal-field .decimal-field .ensures .0) (omega arith) (at-put-byte .put-byte .ensures))
 
-pub refusal-spec : {M : Type 1} → statement M
-refusal-spec =
+pub refused-line-spec : {M : Type 1} → statement M
+refused-line-spec =
     tie.close
-    (tie.spec (λ c. search needs) (λ c κs. search needs) (λ c κs. search needs) (λ c κs. search needs) (λ c. search needs) returns)
+    (tie.spec
+    (λ c. search needs)
+    (λ c κs. search needs)
+    (λ c κs. search needs)
+    (λ c κs. search needs)
+    (λ c. search needs)
+    returns)
