@@ -1,4 +1,5 @@
 -- Laws of a text of coordinates.
 pub mod Claim
 pub mod Examples
+pub mod SamePins
 pub mod Steps

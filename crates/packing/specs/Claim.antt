@@ -1,7 +1,7 @@
 -- The claims on a text of coordinates as a whole (SPEC 9.7), on what is printed for it (`packed`).
 use mathlib.Core.Path.{_≡_}
-use mathlib.Core.Logic.{_⊎_}
-use mathlib.Core.List.{List, [], _∷_, _++_}
+use mathlib.Core.Logic.{_↔_, _⊎_}
+use mathlib.Core.List.{List, [], _∷_, _++_, List·Memᴰ}
 use Prim.Native.Nat.{ℕ, suc, _+_}
 use lib.Dec.{ltb}
 use lib.ListN.{length}
@@ -83,3 +83,9 @@ InputTaken =
     (input : List ℕ) → let r = takenAll packLine (record { state = nothingPacked; line = [] }) input in
     let p = stateAfter packLine (r .state) (lastLine (r .line)) in
     packed input ≡ record { out = packedFile p; err = faultText (p .fault) }
+
+-- The order of the lines does not matter: two inputs without a fault whose lines name the same pins, each with the same kind, have the same file.
+abbrev pub SamePins : Type 0
+SamePins =
+    (a b : List ℕ) → Whole a → Whole b → ((k : Call) → List·Memᴰ k (callsOf (allLines a)) ↔ List·Memᴰ k (callsOf (allLines b)))
+    → packed a .out ≡ packed b .out
