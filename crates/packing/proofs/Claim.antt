@@ -59,7 +59,7 @@ next-counted (suc k) = go (decLe 18446744073709551615 k) (decLe 1844674407370955
         ap nextNumber (number-below k (omega arith)) ∙ sym (number-more (suc k) (omega arith)) ∙ e ∙ sym (number-below (suc k) (omega arith))
 
 -- Calls one behind the other.
-after-append : (c : Contents) (l m : List Call) → contentsAfter c (l ++ m) ≡ contentsAfter (contentsAfter c l) m
+pub after-append : (c : Contents) (l m : List Call) → contentsAfter c (l ++ m) ≡ contentsAfter (contentsAfter c l) m
 unfolding contentsAfter
 after-append c [] m = refl
 after-append c (k ∷ l) m = after-append (step c k .next) l m

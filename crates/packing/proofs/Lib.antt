@@ -1,5 +1,8 @@
 -- Laws of a text of coordinates.
+pub mod Addable
+pub mod AnyOrder
 pub mod Claim
 pub mod Examples
+pub mod Permuted
 pub mod SamePins
 pub mod Steps

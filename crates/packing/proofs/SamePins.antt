@@ -1,4 +1,4 @@
--- The order of the lines does not matter. After additions that are all done, the calls among them are exactly those that add each pin with its kind, by
+-- The same pins give the same file. After additions that are all done, the calls among them are exactly those that add each pin with its kind, by
 -- recursion over them. So the same calls give the same pins, which rise, and the same kind at each of them.
 use mathlib.Core.Path.{_≡_, refl, sym, ap, ap₂, _∙_, subst⁻¹}
 use mathlib.Core.Logic.{_↔_, _⊎_, inl, inr, ⊎-elim}
@@ -13,6 +13,7 @@ use Rattle.arrays.proofs.Beside.{beside-all}
 use Rattle.arrays.proofs.Members.{sorted-ext}
 use Rattle.plane.specs.Point.{Point, inRange, lower}
 use Rattle.plane.proofs.Order.{lower-order}
+use Rattle.model.specs.State.{maxPins}
 use Rattle.model.specs.DeviceKinds.{sensor, isKind}
 use Rattle.model.specs.Contents.{Contents, kindAt, emptyContents, ValidContents}
 use Rattle.model.specs.Call.{Call, add, withdraw, oneRound, runToEnd, done, addChecks, step, contentsAfter}
@@ -30,13 +31,13 @@ use Rattle.pin_line.specs.PinLines.{pinLineOf}
 use Rattle.packing.specs.Claim.{callOf, callsOf, AllDone, Whole, SamePins}
 
 -- The calls of lines add pins.
-abbrev IsAdd : Call → Type 0
+abbrev pub IsAdd : Call → Type 0
 IsAdd (add p k) = Unit {0}
 IsAdd (withdraw p) = ⊥
 IsAdd oneRound = ⊥
 IsAdd runToEnd = ⊥
 
-calls-add : (ls : List (List ℕ)) → Each IsAdd (callsOf ls)
+pub calls-add : (ls : List (List ℕ)) → Each IsAdd (callsOf ls)
 calls-add [] = tt
 calls-add (l ∷ ls) = go (pinLineOf l) (calls-add ls)
   where
@@ -46,10 +47,13 @@ calls-add (l ∷ ls) = go (pinLineOf l) (calls-add ls)
     go (pin_line.Pin x y kind) rest = (tt, rest)
 
 -- The pins after an addition that is done.
-now-pins : (c : Contents) → ValidContents c → (p : Point) (k : ℕ) → step c (add p k) .reply ≡ done → (u : Point)
-    → List·Memᴰ u (step c (add p k) .next .state .pins) ↔ (List·Memᴰ u (p ∷ []) ⊎ List·Memᴰ u (c .state .pins))
+pub now-pins : (c : Contents) → ValidContents c → (p : Point) (k : ℕ) → step c (add p k) .reply ≡ done → (q : Point)
+    → List·Memᴰ q (step c (add p k) .next .state .pins) ↔ ((q ≡ p) ⊎ List·Memᴰ q (c .state .pins))
 unfolding contentsAfter
-now-pins c v p k e u = added-pins ((p, k) ∷ []) c v allowed room u
+now-pins c v p k e q = (
+  λ i. ⊎-elim (λ m. ⊎-elim inl (λ n. absurd (not-nil n)) (cases m)) inr (pins .0 i),
+  λ i. pins .1 (⊎-elim (λ f. inl (head f)) inr i),
+)
   where
     passed : Pass (addChecks p k (c .state))
     passed = add-taken c p k .0 e
@@ -58,8 +62,11 @@ now-pins c v p k e u = added-pins ((p, k) ∷ []) c v allowed room u
     allowed a i =
         ⊎-elim (λ f. subst⁻¹ (λ (b : Device). T (inRange (b .0)) × T (isKind (b .1))) f (passed .0, passed .1 .0)) (λ j. absurd (not-nil j)) (cases i)
 
-    room : length (c .state .pins) + 1 ≤ 64
-    room = omega (arith, ltb→lt (length (c .state .pins)) 64 (passed .1 .1 .1 .0))
+    room : length (c .state .pins) + 1 ≤ maxPins
+    room = omega (arith, ltb→lt (length (c .state .pins)) maxPins (passed .1 .1 .1 .0))
+
+    pins : List·Memᴰ q (step c (add p k) .next .state .pins) ↔ (List·Memᴰ q (p ∷ []) ⊎ List·Memᴰ q (c .state .pins))
+    pins = added-pins ((p, k) ∷ []) c v allowed room q
 
 -- The pins of d are those of c, each of the same kind, and those that the calls add, each of the kind given.
 record Added (c : Contents) (calls : List Call) (d : Contents) : Type 0 where
@@ -72,7 +79,7 @@ module _ (c : Contents) (v : ValidContents c) (p : Point) (k : ℕ) (e : step c 
     (rest : Added (step c (add p k) .next) calls d) where
   new : List·Memᴰ p (d .state .pins) × (kindAt d p ≡ k)
   new =
-      let h = rest .kept p (now-pins c v p k e p .1 (inl (head refl))) in
+      let h = rest .kept p (now-pins c v p k e p .1 (inl refl)) in
       (h .0, h .1 ∙ kinds-follow c v .added p k e)
 
   in-front : Added c (add p k ∷ calls) d
@@ -80,7 +87,7 @@ module _ (c : Contents) (v : ValidContents c) (p : Point) (k : ℕ) (e : step c 
       record {
         kept = λ q i. let h = rest .kept q (now-pins c v p k e q .1 (inr i)) in (h .0, h .1 ∙ kinds-follow c v .besides p k e q i);
         there = λ q n m. ⊎-elim (same q n) (rest .there q n) (cases m);
-        only = λ q i. ⊎-elim (λ j. ⊎-elim (λ f. inr (head (named q f))) inl (now-or-before q j)) (λ m. inr (tail m)) (rest .only q i);
+        only = λ q i. ⊎-elim (λ j. ⊎-elim (λ f. inr (head (named q f))) inl (now-pins c v p k e q .0 j)) (λ m. inr (tail m)) (rest .only q i);
       }
     where
       same : (q : Point) (n : ℕ) → add q n ≡ add p k → List·Memᴰ q (d .state .pins) × (kindAt d q ≡ n)
@@ -91,10 +98,6 @@ module _ (c : Contents) (v : ValidContents c) (p : Point) (k : ℕ) (e : step c 
 
       named : (q : Point) → q ≡ p → add q (kindAt d q) ≡ add p k
       named q f = ap₂ add f (ap (kindAt d) f ∙ new .1)
-
-      now-or-before : (q : Point) → List·Memᴰ q (step c (add p k) .next .state .pins) → (q ≡ p) ⊎ List·Memᴰ q (c .state .pins)
-      now-or-before q j =
-          ⊎-elim (λ m. ⊎-elim inl (λ n. absurd (not-nil n)) (cases m)) inr (now-pins c v p k e q .0 j)
 
 all-added : (calls : List Call) → Each IsAdd calls → (c : Contents) → ValidContents c → AllDone c calls → Added c calls (contentsAfter c calls)
 unfolding contentsAfter

@@ -1,7 +1,7 @@
 -- The claims on a text of coordinates as a whole (SPEC 9.7), on what is printed for it (`packed`).
 use mathlib.Core.Path.{_≡_}
 use mathlib.Core.Logic.{_↔_, _⊎_}
-use mathlib.Core.List.{List, [], _∷_, _++_, List·Memᴰ}
+use mathlib.Core.List.{List, [], _∷_, _++_, List·Memᴰ, List·Permᴰ}
 use Prim.Native.Nat.{ℕ, suc, _+_}
 use lib.Dec.{ltb}
 use lib.ListN.{length}
@@ -84,8 +84,13 @@ InputTaken =
     let p = stateAfter packLine (r .state) (lastLine (r .line)) in
     packed input ≡ record { out = packedFile p; err = faultText (p .fault) }
 
--- The order of the lines does not matter: two inputs without a fault whose lines name the same pins, each with the same kind, have the same file.
+-- Two inputs without a fault whose lines name the same pins, each with the same kind, have the same file.
 abbrev pub SamePins : Type 0
 SamePins =
     (a b : List ℕ) → Whole a → Whole b → ((k : Call) → List·Memᴰ k (callsOf (allLines a)) ↔ List·Memᴰ k (callsOf (allLines b)))
     → packed a .out ≡ packed b .out
+
+-- The order of the lines does not matter: of two inputs with the same lines in another order both have a fault or neither, and what is on standard
+-- output is the same.
+abbrev pub AnyOrder : Type 0
+AnyOrder = (a b : List ℕ) → List·Permᴰ (allLines a) (allLines b) → (Whole a ↔ Whole b) × (packed a .out ≡ packed b .out)
