@@ -1,6 +1,7 @@
 pub mod Beside
 pub mod Members
 pub mod Order
+pub mod Permuted
 pub mod Set
 pub mod SetMap
 pub mod Signed

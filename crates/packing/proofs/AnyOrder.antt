@@ -18,7 +18,7 @@ use Rattle.packing.specs.Printed.{packed}
 use Rattle.packing.specs.Claim.{callOf, callsOf, AllDone, Faultless, FirstFault, Whole, Stopped, AnyOrder}
 use Rattle.packing.proofs.Addable.{addable-permuted, done-addable, addable-done}
 use Rattle.packing.proofs.Claim.{after-append, input-packed}
-use Rattle.packing.proofs.Permuted.{permuted-in, permuted-each, permuted-parts}
+use Rattle.arrays.proofs.Permuted.{permuted-in, permuted-each, permuted-parts}
 use Rattle.packing.proofs.SamePins.{calls-add, same-pins}
 
 calls-permuted : {l m : List (List ℕ)} → Permuted l m → Permuted (callsOf l) (callsOf m)

@@ -3,6 +3,5 @@ pub mod Addable
 pub mod AnyOrder
 pub mod Claim
 pub mod Examples
-pub mod Permuted
 pub mod SamePins
 pub mod Steps

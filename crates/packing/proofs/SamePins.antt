@@ -9,7 +9,7 @@ use native.Mathlib.Omega.{arith}
 use lib.Dec.{T, ltb→lt}
 use lib.ListN.{length}
 use Rattle.arrays.specs.Set.{Each}
-use Rattle.arrays.proofs.Beside.{beside-all}
+use Rattle.arrays.proofs.Beside.{beside-all, map-members}
 use Rattle.arrays.proofs.Members.{sorted-ext}
 use Rattle.plane.specs.Point.{Point, inRange, lower}
 use Rattle.plane.proofs.Order.{lower-order}
@@ -108,11 +108,6 @@ all-added (withdraw p ∷ ks) a c v h = absurd (a .0)
 all-added (oneRound ∷ ks) a c v h = absurd (a .0)
 all-added (runToEnd ∷ ks) a c v h = absurd (a .0)
 
--- Numbers that agree on the members of a list are the same along it.
-along : (f g : Point → ℕ) (l : List Point) → ((p : Point) → List·Memᴰ p l → f p ≡ g p) → map f l ≡ map g l
-along f g [] h = refl
-along f g (p ∷ l) h = ap₂ _∷_ (h p (head refl)) (along f g l (λ q i. h q (tail i)))
-
 -- What contents hold that calls lead to from the empty deck, those hold too that more calls lead to.
 held : (c d : Contents) (k l : List Call) → Added emptyContents k c → Added emptyContents l d → ((a : Call) → List·Memᴰ a k → List·Memᴰ a l)
     → (p : Point) → List·Memᴰ p (c .state .pins) → List·Memᴰ p (d .state .pins) × (kindAt c p ≡ kindAt d p)
@@ -134,7 +129,7 @@ same-file c d v w there back = λ i. plainFileOf (record { state = record { pins
 
     kinds : c .kinds ≡ d .kinds
     kinds =
-        sym (looked-up c v) ∙ along (kindAt c) (kindAt d) (c .state .pins) (λ p i. there p i .1) ∙ ap (map (kindAt d)) pins ∙ looked-up d w
+        sym (looked-up c v) ∙ map-members (kindAt c) (kindAt d) (c .state .pins) (λ p i. there p i .1) ∙ ap (map (kindAt d)) pins ∙ looked-up d w
 
 -- The claim.
 pub same-pins : SamePins
