@@ -1,13 +1,12 @@
 -- The search over all crossings finds the best candidate: the lines as they are stored are the lines of the points, since a stored
 -- coordinate and its whole number come in the same order.
 use mathlib.Core.Path.{_≡_, refl, sym, ap, _∙_}
-use mathlib.Core.List.{List, [], _∷_, _++_, map, map-append}
-use Prim.Native.Nat.{ℕ, zero, suc, _≤_}
+use mathlib.Core.List.{List, [], map}
+use Prim.Native.Nat.{ℕ, _≤_}
 use native.Mathlib.Omega.{arith}
 use lib.Dec.{ltb}
 use lib.IntN.{ℤ}
 use lib.ListN.{length, take, getD}
-use lib.Seq.{take-suc}
 use lib.Signed.{ltZ}
 use Rattle.plane.specs.Point.{Point}
 use Rattle.plane.specs.Coordinate.{coordinate}

@@ -4,8 +4,7 @@ use mathlib.Core.List.{List, [], _∷_, _++_}
 use Prim.Native.Nat.{ℕ, _+_, _*_}
 use Rattle.arrays.specs.Paste.{Pasted}
 use Rattle.arrays.proofs.paste.Parts.{pasted-same}
-use Rattle.plane.specs.Point.{Point}
-use Rattle.plane.specs.Coordinate.{coordinate, storedOf}
+use Rattle.plane.specs.Coordinate.{coordinate}
 use Rattle.plane.specs.Code.{xOf, yOf, pointOf}
 use Rattle.plane.proofs.Stored.{stored-coordinate}
 use Rattle.template.specs.Template.{filled}

@@ -1,11 +1,9 @@
 -- The box around points whose stored coordinates are given: each of its sides comes from the coordinates along one axis.
-use mathlib.Core.Path.{_≡_, refl, sym, ap, ap₂, _∙_}
-use mathlib.Core.List.{List, [], _∷_, _++_, map, map-append}
-use Prim.Native.Nat.{ℕ, zero, suc, _≤_}
-use native.Mathlib.Omega.{arith}
+use mathlib.Core.Path.{_≡_, refl, sym, ap₂, _∙_}
+use mathlib.Core.List.{List, [], _∷_, map}
+use Prim.Native.Nat.{ℕ, _≤_}
 use lib.IntN.{ℤ}
-use lib.ListN.{length, take, getD}
-use lib.Seq.{take-suc}
+use lib.ListN.{length, take}
 use Rattle.arrays.specs.Tab.{tab}
 use Rattle.arrays.proofs.Tab.{tab-map}
 use Rattle.plane.specs.Point.{Point, gap}

@@ -1,7 +1,7 @@
 -- The claim on where points are drawn: the least and the greatest coordinate enclose each, so the gaps to the sides add up to the sides of the box.
 use mathlib.Core.Path.{_≡_}
 use mathlib.Core.List.{List, [], _∷_, map, List·Memᴰ, List·Memᴰ·not-nil as not-nil, Memᴰ·map}
-use Prim.Native.Nat.{ℕ, _+_, _*_, _≤_}
+use Prim.Native.Nat.{_+_, _*_, _≤_}
 use native.Mathlib.Omega.{arith}
 use lib.Dec.{T}
 use lib.IntN.{ℤ}

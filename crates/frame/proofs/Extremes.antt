@@ -3,10 +3,9 @@
 use mathlib.Core.Path.{_≡_, refl, sym, ap, _∙_}
 use mathlib.Core.Bool.{Bool, true, false}
 use mathlib.Core.List.{List, [], _∷_, map}
-use Prim.Native.Nat.{ℕ, zero, suc, _+_, _-_, _≤_, _<_, min, max}
+use Prim.Native.Nat.{ℕ, suc, _-_, _≤_, _<_, min, max}
 use native.Mathlib.Decide.{decLe}
 use native.Mathlib.Omega.{arith}
-use lib.Dec.{T}
 use lib.IntN.{ℤ}
 use lib.ListN.{length, take, drop, getD, length-map, length-drop, drop-of-length-le, List·getD-map}
 use lib.Seq.{drop-cons, length-take-le, getD-take}
@@ -15,7 +14,7 @@ use Rattle.arrays.specs.Test.{if}
 use Rattle.arrays.proofs.Test.{true-of, false-of}
 use Rattle.plane.specs.Coordinate.{base, coordinate}
 use Rattle.plane.specs.Box.{extreme}
-use Rattle.plane.proofs.Whole.{plus, minus, atmost-value, value-atmost}
+use Rattle.plane.proofs.Whole.{atmost-value, value-atmost}
 use Rattle.plane.proofs.Stored.{coordinate-value}
 use Rattle.frame.specs.Frame.{lowest, highest}
 

@@ -5,7 +5,7 @@ use Prim.Native.Nat.{ℕ}
 use lib.IntN.{pos}
 use Rattle.plane.specs.Point.{Point, point, gap}
 use Rattle.plane.specs.Box.{extreme, spread}
-use Rattle.frame.specs.Frame.{Box, lowest, highest, boxOf, unitOf, acrossAt, downAt}
+use Rattle.frame.specs.Frame.{lowest, highest, boxOf, unitOf, acrossAt, downAt}
 
 -- A place by how far it is from the left and from above.
 pub record Place : Type 0 where

@@ -1,5 +1,5 @@
 -- What is printed for a file, by whether there is room, and by what reading it gave.
-use mathlib.Core.Path.{_≡_, refl, sym, ap, _∙_}
+use mathlib.Core.Path.{_≡_, sym, ap}
 use mathlib.Core.Bool.{false, true}
 use mathlib.Core.List.{List}
 use Prim.Native.Nat.{ℕ, _≤_, _<_}
@@ -12,7 +12,6 @@ use Rattle.model.specs.File.{Read, deck, refusal}
 use Rattle.model.specs.Listing.{refusedLine}
 use Rattle.ascii.specs.Text.{fitting}
 use Rattle.ascii.proofs.Room.{front-none, front-put, front-fits}
-use Rattle.listing.specs.declared.Printed.{Printed}
 use Rattle.listing.specs.Whole.{lineRoom}
 use Rattle.listing.specs.Printed.{isRefused, printedText, Prints}
 

@@ -12,7 +12,7 @@ use Rattle.arrays.specs.Text.{bytes}
 use Rattle.plane.specs.Point.{Point}
 use Rattle.plane.specs.Code.{pointOf}
 use Rattle.model.specs.State.{State, points}
-use Rattle.model.specs.Contents.{Contents}
+use Rattle.points.specs.declared.Points.{Points}
 use Rattle.model.specs.Question.{listed}
 use Rattle.frame.specs.Frame.{Box, boxOf}
 use Rattle.drawing.specs.Elements.{headText, runText, symbolText, footText}
@@ -71,20 +71,27 @@ taps-taken zero m k h = refl
 taps-taken (suc n) zero k h = absurd (omega arith)
 taps-taken (suc n) (suc m) k h = ap (λ (l : List ℕ). k ∷ l) (taps-taken n m k (omega arith))
 
-pub points-put : (b : Box) (d : WorkingDeck) (taps : ℕ) {before after : List ℕ} {at r : ℕ} → taps ≡ d .form .points .nsteiner
-    → taps ≤ length (d .form .points .steiner) → taps ≤ 128
-    → Pasted (symbolsTo b (d .kinds) (d .form .points .pins) (d .form .points .npins)
-    ++ symbolsTo b (replicate 128 tapSymbol) (d .form .points .steiner) taps) before after at r
-    → Pasted (pointTexts b (contentsOf d)) before after at r
-unfolding pointTexts
-points-put b d taps e h few p =
-    pasted-same (λ i. symbolsTo b (d .kinds) (d .form .points .pins) (d .form .points .npins) ++ symbolTexts b (symbols i) (map pointOf (take (e i) (d .form .points .steiner)))) p
-  where
-    count : length (map pointOf (take (d .form .points .nsteiner) (d .form .points .steiner))) ≡ taps
-    count = length-map (take (d .form .points .nsteiner) (d .form .points .steiner)) pointOf ∙ length-take-le (d .form .points .nsteiner) (d .form .points .steiner) (omega (arith, e)) ∙ sym e
+module _ (b : Box) (d : WorkingDeck) where
+  abbrev q : Points
+  q = d .form .points
 
-    symbols : take taps (replicate 128 tapSymbol) ≡ replicate (length (map pointOf (take (d .form .points .nsteiner) (d .form .points .steiner)))) tapSymbol
-    symbols = taps-taken taps 128 tapSymbol few ∙ ap (λ (k : ℕ). replicate k tapSymbol) (sym count)
+  abbrev taps : List Point
+  taps = map pointOf (take (q .nsteiner) (q .steiner))
+
+  abbrev pinTexts : List ℕ
+  pinTexts = symbolsTo b (d .kinds) (q .pins) (q .npins)
+
+  pub points-put : {before after : List ℕ} {at r : ℕ} → q .nsteiner ≤ length (q .steiner) → q .nsteiner ≤ 128
+      → Pasted (pinTexts ++ symbolsTo b (replicate 128 tapSymbol) (q .steiner) (q .nsteiner)) before after at r
+      → Pasted (pointTexts b (contentsOf d)) before after at r
+  unfolding pointTexts
+  points-put h few p = pasted-same (λ i. pinTexts ++ symbolTexts b (symbols i) taps) p
+    where
+      count : length taps ≡ q .nsteiner
+      count = length-map (take (q .nsteiner) (q .steiner)) pointOf ∙ length-take-le (q .nsteiner) (q .steiner) h
+
+      symbols : take (q .nsteiner) (replicate 128 tapSymbol) ≡ replicate (length taps) tapSymbol
+      symbols = taps-taken (q .nsteiner) 128 tapSymbol few ∙ ap (λ (k : ℕ). replicate k tapSymbol) (sym count)
 
 -- The picture, by the box and by what was measured.
 pub picture-put : (d : WorkingDeck) (m : Measures) (b : Box) {before after : List ℕ} {at r : ℕ} → m ≡ measuresOf (contentsOf d)

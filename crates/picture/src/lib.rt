@@ -14,7 +14,7 @@ use points::PLACES;
 use working::Working;
 use working::deck::WorkingDeck;
 ghost use mathlib.Core.Path.{_≡_};
-ghost use mathlib.Core.List.{_++_, map};
+ghost use mathlib.Core.List.{map};
 ghost use Prim.Native.Nat.{_+_, _*_, _≤_};
 ghost use lib.ListN.{length, take};
 ghost use Rattle.arrays.specs.Paste.{Pasted};

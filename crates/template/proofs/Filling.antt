@@ -1,14 +1,14 @@
 -- A template filled byte by byte: what is put so far, and what the rest of it becomes, is the whole text.
 use mathlib.Core.Path.{_≡_, refl, sym, ap, _∙_, subst}
-use mathlib.Core.List.{List, [], _∷_, _++_, append-assoc, append-nil}
-use Prim.Native.Nat.{ℕ, suc, _+_, _*_, _-_, _≤_, _<_}
+use mathlib.Core.List.{List, [], _++_, append-assoc, append-nil}
+use Prim.Native.Nat.{ℕ, _+_, _*_, _-_, _≤_, _<_}
 use native.Mathlib.Numerals.{add-one}
 use native.Mathlib.Omega.{arith}
 use lib.ListN.{length, drop, getD, drop-of-length-le}
 use lib.Seq.{drop-cons}
 use Rattle.arrays.specs.Paste.{Pasted}
 use Rattle.arrays.proofs.paste.Parts.{pasted-none, pasted-then, pasted-same}
-use Rattle.template.specs.Template.{numberRoom, itemText, numbersLeft, filled, Puts}
+use Rattle.template.specs.Template.{numberRoom, itemText, filled, Puts}
 use Rattle.template.specs.declared.Place.{Place}
 
 -- The first i bytes of a template are put, with the first `used` numbers, up to the place `next`.

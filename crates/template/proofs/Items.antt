@@ -15,7 +15,6 @@ use Rattle.arrays.proofs.paste.Parts.{pasted-same}
 use Rattle.model.specs.Listing.{decimal}
 use Rattle.ascii.specs.Text.{mostDigits}
 use Rattle.template.specs.Template.{numberRoom, numberSign, coordinateSign, coordinateText, bySign, itemText, numbersLeft, Puts}
-use Rattle.template.specs.declared.Place.{Place}
 
 -- A case by the tests on a byte.
 module _ {A : Type 0} (b : ℕ) (number place other : Unit {0} → A) where

@@ -1,7 +1,7 @@
 -- The parts of a deck in working form, one behind the other, are the file of its contents.
 use mathlib.Core.Path.{_≡_, sym, ap, _∙_}
 use mathlib.Core.Bool.{Bool}
-use mathlib.Core.List.{List, [], _++_, map, flatten, append-assoc}
+use mathlib.Core.List.{List, _++_, map, flatten, append-assoc}
 use Prim.Native.Nat.{ℕ, _+_, _-_, _≤_}
 use native.Mathlib.Omega.{arith}
 use lib.ListN.{length, take}

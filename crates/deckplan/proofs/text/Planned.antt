@@ -18,7 +18,7 @@ use Rattle.model.proofs.Step.{after-valid}
 use Rattle.model.specs.Listing.{refusedLine}
 use Rattle.ascii.specs.Text.{fitting}
 use Rattle.ascii.proofs.Room.{front-put}
-use Rattle.deckfile.specs.Answer.{answerNumber, answerBuffer, Entered}
+use Rattle.deckfile.specs.Answer.{answerNumber, answerBuffer}
 use Rattle.deckfile.proofs.answer.Entry.{entered}
 use Rattle.planner.specs.Entry.{toEnd}
 use Rattle.listing.specs.Whole.{lineRoom}

@@ -1,5 +1,5 @@
 -- `picture::put_points` meets its contract: a valid deck has few pins and few Steiner points, and each of these has the symbol of a tap.
-use mathlib.Core.Path.{_≡_, refl}
+use mathlib.Core.Path.{_≡_}
 use native.Mathlib.Omega.{arith}
 use lib.ListN.{length}
 use borrow.Author.Needs.{needs}
@@ -41,7 +41,7 @@ returns c =
     let steiner = arranged .steinerCodes in
     let pins = at-pins .put-symbols .ensures in
     let taps = at-taps .put-symbols2 .ensures in (
-      points-put _ (entry .args .d) _ refl (omega (arith, steiner .few, steiner .size)) (omega (arith, steiner .few))
+      points-put _ (entry .args .d) (omega (arith, steiner .few, steiner .size)) (omega (arith, steiner .few))
           (pasted-then (pins .0) (omega (arith, pins .1, entry .pre .0, arranged .pinCodes .few)) (taps .0)),
       omega (arith, pins .1, taps .1, arranged .pinCodes .few, few, count),
     )

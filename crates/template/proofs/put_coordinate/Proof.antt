@@ -1,6 +1,5 @@
 -- `template::put_coordinate` meets its contract: the coordinate is read back from its bits.
 use mathlib.Core.Path.{ap}
-use lib.IntN.{ℤ}
 use borrow.Author.Needs.{needs}
 use Rattle.arrays.proofs.Signed.{read-is}
 use Rattle.arrays.proofs.paste.Parts.{pasted-same}
