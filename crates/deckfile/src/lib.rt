@@ -33,6 +33,9 @@ ghost use Rattle.deckfile.specs.Writing.{storedAnswer, storedBuffer, wri
 // The bytes of the longest file (SPEC 7.5).
 pub const LONGEST: usize = header::LONGEST;
 
+// Room to read a file: one byte more, so that a longer one is seen.
+pub const READ_ROOM: usize = LONGEST + 1;
+
 // What writing answers: a refusal by its number, or the length of the file.
 pub enum Written {
     Refused(u8),

@@ -1,15 +1,12 @@
 // The listing program (SPEC 9.1): a deck file on standard input; on standard output its listing after a run to the end, or `refused N`.
 mod text;
 
-use deckfile::LONGEST;
+use deckfile::READ_ROOM;
 use listing::LISTING_ROOM;
 use text::list_file;
 
-// One byte more than the longest file has, so that a longer one is seen.
-const FILE_ROOM: usize = LONGEST + 1;
-
 fn main() {
-    let mut file = [0u8; FILE_ROOM];
+    let mut file = [0u8; READ_ROOM];
     let n = io::read_full(0, &mut file);
     let mut out = [0u8; LISTING_ROOM];
     let m = list_file(&file[..n], &mut out);

@@ -3,13 +3,11 @@
 mod text;
 
 use deckfile::LONGEST;
+use deckfile::READ_ROOM;
 use text::plan_file;
 
-// One byte more than the longest file has, so that a longer one is seen.
-const FILE_ROOM: usize = LONGEST + 1;
-
 fn main() {
-    let mut file = [0u8; FILE_ROOM];
+    let mut file = [0u8; READ_ROOM];
     let n = io::read_full(0, &mut file);
     let mut out = [0u8; LONGEST];
     let p = plan_file(&file[..n], &mut out);

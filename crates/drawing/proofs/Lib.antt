@@ -1,3 +1,4 @@
 pub mod Claim
+pub mod Examples
 pub mod Parts
 pub mod Symbols

@@ -8,13 +8,13 @@ use Rattle.plane.specs.Coordinate.{coordinate}
 use Rattle.plane.specs.Code.{xOf, yOf, pointOf}
 use Rattle.plane.proofs.Stored.{stored-coordinate}
 use Rattle.template.specs.Template.{filled}
-use Rattle.frame.specs.Frame.{Box, unitOf, acrossAt, downAt}
+use Rattle.frame.specs.Frame.{Box, longSide, acrossAt, downAt}
 use Rattle.drawing.specs.Elements.{definitions, legend, sizeTemplate, groundTemplate, runTemplate, placeTemplate, captionTemplate}
 use Rattle.drawing.specs.Elements.{headText, runText, symbolTemplate, symbolText, footText}
 
 module _ (b : Box) {before after : List ℕ} {at r : ℕ} where
   -- The head, by the unit.
-  pub head-put : {u : ℕ} → u ≡ unitOf b
+  pub head-put : {u : ℕ} → u ≡ longSide b
       → (let w = 440 * u in let h = 400 * b .height + 120 * u in
       Pasted (filled sizeTemplate (w ∷ h ∷ []) ++ (definitions ++ filled groundTemplate (w ∷ h ∷ u ∷ []))) before after at r)
       → Pasted (headText b) before after at r
@@ -37,7 +37,7 @@ module _ (b : Box) {before after : List ℕ} {at r : ℕ} where
       pasted-same (λ i. filled runTemplate (a i ∷ c i ∷ d i ∷ e i ∷ n ∷ [])) p
 
   -- A symbol, by the place of its point and by its coordinates in stored form.
-  pub symbol-put : (n k : ℕ) {x y a c u : ℕ} → x ≡ xOf k → y ≡ yOf k → a ≡ acrossAt b (coordinate x) → c ≡ downAt b (coordinate y) → u ≡ unitOf b
+  pub symbol-put : (n k : ℕ) {x y a c u : ℕ} → x ≡ xOf k → y ≡ yOf k → a ≡ acrossAt b (coordinate x) → c ≡ downAt b (coordinate y) → u ≡ longSide b
       → Pasted (filled (symbolTemplate n) (a ∷ c ∷ u ∷ x ∷ y ∷ [])) before after at r → Pasted (symbolText b n (pointOf k)) before after at r
   unfolding symbolText
   symbol-put n k ex ey ea ec eu p =
@@ -48,7 +48,7 @@ module _ (b : Box) {before after : List ℕ} {at r : ℕ} where
       pasted-same (λ i. filled (symbolTemplate n) (a i ∷ c i ∷ eu i ∷ x i ∷ y i ∷ [])) p
 
   -- The foot, by the unit.
-  pub foot-put : (pins taps total : ℕ) {u : ℕ} → u ≡ unitOf b
+  pub foot-put : (pins taps total : ℕ) {u : ℕ} → u ≡ longSide b
       → Pasted (filled placeTemplate (400 * b .height ∷ u ∷ []) ++ (legend ++ filled captionTemplate (pins ∷ taps ∷ total ∷ []))) before after at r
       → Pasted (footText b pins taps total) before after at r
   unfolding footText

@@ -7,7 +7,7 @@ use Rattle.arrays.specs.Text.{bytes}
 use Rattle.plane.specs.Point.{Point}
 use Rattle.plane.specs.Coordinate.{storedOf}
 use Rattle.template.specs.Template.{filled}
-use Rattle.frame.specs.Frame.{Box, scale, unitOf, pictureWidth, pictureHeight, acrossAt, downAt}
+use Rattle.frame.specs.Frame.{Box, scale, longSide, pictureWidth, pictureHeight, acrossAt, downAt}
 
 -- The symbols, by name: a ring, a square, a square on its corner, and a disc.
 abbrev pub definitions : List ℕ
@@ -27,7 +27,7 @@ unfoldable pub headText : Box → List ℕ
 headText b =
     let w = pictureWidth b in
     let h = pictureHeight b in
-    filled sizeTemplate (w ∷ h ∷ []) ++ (definitions ++ filled groundTemplate (w ∷ h ∷ unitOf b ∷ []))
+    filled sizeTemplate (w ∷ h ∷ []) ++ (definitions ++ filled groundTemplate (w ∷ h ∷ longSide b ∷ []))
 
 -- A run between two points, the lower first, with its length: from the lower end along x, then along y.
 abbrev pub runTemplate : List ℕ
@@ -50,7 +50,7 @@ symbolTemplate k = useTemplate (symbolName k)
 
 -- The symbol of a point.
 unfoldable pub symbolText : Box → ℕ → Point → List ℕ
-symbolText b k p = filled (symbolTemplate k) (acrossAt b (p .x) ∷ downAt b (p .y) ∷ unitOf b ∷ storedOf (p .x) ∷ storedOf (p .y) ∷ [])
+symbolText b k p = filled (symbolTemplate k) (acrossAt b (p .x) ∷ downAt b (p .y) ∷ longSide b ∷ storedOf (p .x) ∷ storedOf (p .y) ∷ [])
 
 -- The symbols with their names.
 abbrev pub legend : List ℕ
@@ -69,4 +69,4 @@ captionTemplate = bytes "<text x='30' y='100'>pins %, taps %, length % cm</text>
 
 unfoldable pub footText : Box → ℕ → ℕ → ℕ → List ℕ
 footText b pins taps length =
-    filled placeTemplate (scale * b .height ∷ unitOf b ∷ []) ++ (legend ++ filled captionTemplate (pins ∷ taps ∷ length ∷ []))
+    filled placeTemplate (scale * b .height ∷ longSide b ∷ []) ++ (legend ++ filled captionTemplate (pins ∷ taps ∷ length ∷ []))

@@ -1,3 +1,4 @@
 pub mod Claim
 pub mod Elements
+pub mod Examples
 pub mod Rooms

@@ -5,7 +5,7 @@ use frame::Frame;
 use frame::SCALE;
 use frame::across;
 use frame::down;
-use frame::unit;
+use frame::long_side;
 use plane::codes::x_of;
 use plane::codes::y_of;
 use template::fill;
@@ -19,7 +19,7 @@ ghost use Rattle.frame.specs.Stored.{boxIn};
 ghost use Rattle.drawing.specs.Elements.{definitions, legend, headText, runText, symbolTemplate, symbolText, footText};
 ghost use Rattle.drawing.specs.Rooms.{constantRoom, headRoom, runRoom, templateRoom, symbolRoom, footRoom};
 
-// The width of a picture, and its height without that of the box, in parts of the larger side of the box.
+// The width of a picture, and its height without that of the box, as multiples of the longer side of the box.
 const PICTURE_WIDTH: u64 = 440;
 
 const PICTURE_REST: u64 = 120;
@@ -60,7 +60,7 @@ pub fn put_head(out: &mut [u8], f: Frame) -> usize
     ensures { λ r. ⌜ Pasted (headText (boxIn f)) (now (out .entry)) (now (out .exit)) 0 r ⌝ }
     ensures { λ r. ⌜ r ≤ headRoom ⌝ }
 {
-    let u = unit(f);
+    let u = long_side(f);
     let height = f.height as u64;
     let w = PICTURE_WIDTH * u;
     let h = SCALE * height + PICTURE_REST * u;
@@ -142,7 +142,7 @@ pub fn put_symbol(out: &mut [u8], at: usize, f: Frame, symbol: u8, k: u64) -> us
 {
     let x = x_of(k);
     let y = y_of(k);
-    let numbers = [across(f, x), down(f, y), unit(f), x as u64, y as u64];
+    let numbers = [across(f, x), down(f, y), long_side(f), x as u64, y as u64];
     put_numbered(out, at, symbol, &numbers)
 }
 
@@ -169,7 +169,7 @@ pub fn put_foot(out: &mut [u8], at: usize, f: Frame, pins: u64, steiner: u64, to
     ensures { λ r. ⌜ r ≤ at + footRoom ⌝ }
 {
     let height = f.height as u64;
-    let place = [SCALE * height, unit(f)];
+    let place = [SCALE * height, long_side(f)];
     let names = fill(
         out,
         at,

@@ -11,7 +11,7 @@ use Rattle.plane.specs.Box.{spread}
 use Rattle.plane.proofs.Box.{reaches-ends}
 use Rattle.plane.proofs.Whole.{AtMost, at-most?, value-atmost}
 use Rattle.plane.proofs.Metric.{gap-sym, gap-between}
-use Rattle.frame.specs.Frame.{lowest, highest, Box, boxOf, unitOf, scale, acrossAt, downAt, between, Drawn}
+use Rattle.frame.specs.Frame.{lowest, highest, Box, boxOf, longSide, scale, acrossAt, downAt, between, Drawn}
 use Rattle.frame.proofs.Box.{spread-ends}
 
 -- A number of a list is between the least and the greatest of it.
@@ -36,13 +36,17 @@ module _ (ps : List Point) where
   abbrev b : Box
   b = boxOf ps
 
-  wide : spread xs ≤ unitOf b
-  unfolding unitOf boxOf
+  wide : spread xs ≤ longSide b
+  unfolding longSide boxOf
   wide = omega arith
 
-  high : spread ys ≤ unitOf b
-  unfolding unitOf boxOf
+  high : spread ys ≤ longSide b
+  unfolding longSide boxOf
   high = omega arith
+
+  some : 1 ≤ longSide b
+  unfolding longSide
+  some = omega arith
 
   -- The gaps to both sides, of a point of the list.
   across-parts : (p : Point) → List·Memᴰ p ps → gap (lowest xs) (p .x) + gap (p .x) (highest xs) ≡ spread xs
@@ -83,6 +87,7 @@ module _ (ps : List Point) where
   unfolding acrossAt downAt boxOf dist
   drawn =
       record {
+        sized = some;
         inside =
             λ p i. (
               omega (arith, wide),

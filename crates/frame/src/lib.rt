@@ -8,7 +8,7 @@ ghost use Prim.Native.Nat.{_≤_, _<_};
 ghost use lib.ListN.{length, take};
 ghost use Rattle.arrays.specs.Tab.{tab};
 ghost use Rattle.plane.specs.Coordinate.{base, coordinate};
-ghost use Rattle.frame.specs.Frame.{lowest, highest, mostUnits, boxOf, unitOf, acrossAt, downAt};
+ghost use Rattle.frame.specs.Frame.{lowest, highest, mostSide, boxOf, longSide, acrossAt, downAt};
 ghost use Rattle.frame.specs.Stored.{storedPoint, boxIn};
 
 // The stored form of coordinate 0.
@@ -17,7 +17,7 @@ const ORIGIN: u16 = 30000;
 // Units of the picture for a centimetre.
 pub const SCALE: u64 = 400;
 
-// Between the left side of the picture and its middle, and above the highest point, in parts of the larger side of the box.
+// Between the left side of the picture and its middle, and above the highest point, as multiples of the longer side of the box.
 const MIDDLE: u64 = 220;
 
 const MARGIN: u64 = 20;
@@ -85,10 +85,10 @@ pub fn frame_of(xs: &[u16], ys: &[u16], n: usize) -> Frame
     }
 }
 
-// Returns the larger side of the box, 1 at least: the unit in which the sizes of the picture are reckoned.
-pub fn unit(f: Frame) -> u64
-    ensures { λ r. ⌜ r ≡ unitOf (boxIn f) ⌝ }
-    ensures { λ r. ⌜ (f .width ≤ r) × (r ≤ mostUnits) ⌝ }
+// Returns the longer side of the box, 1 at least: all sizes in the picture are multiples of it.
+pub fn long_side(f: Frame) -> u64
+    ensures { λ r. ⌜ r ≡ longSide (boxIn f) ⌝ }
+    ensures { λ r. ⌜ (f .width ≤ r) × (r ≤ mostSide) ⌝ }
 {
     larger(1, larger(f.width as u64, f.height as u64))
 }
@@ -99,7 +99,7 @@ pub fn across(f: Frame, x: u16) -> u64
 {
     let left = f.left;
     let width = f.width as u64;
-    MIDDLE * unit(f) - SCALE / 2 * width + SCALE * (apart(left, x) as u64)
+    MIDDLE * long_side(f) - SCALE / 2 * width + SCALE * (apart(left, x) as u64)
 }
 
 // Returns how far from the upper side of the picture a point with this stored y is drawn.
@@ -107,5 +107,5 @@ pub fn down(f: Frame, y: u16) -> u64
     ensures { λ r. ⌜ r ≡ downAt (boxIn f) (coordinate y) ⌝ }
 {
     let top = f.top;
-    MARGIN * unit(f) + SCALE * (apart(y, top) as u64)
+    MARGIN * long_side(f) + SCALE * (apart(y, top) as u64)
 }

@@ -9,7 +9,7 @@ use lib.Dec.{eqb}
 use lib.ListN.{length, take, getD}
 use lib.Seq.{take-suc}
 use Rattle.arrays.specs.Test.{if}
-use Rattle.lines.specs.Lines.{Reading, more, linesFrom, lastLine, taken, takenAll, stateAfter, LinesTaken, AllLinesTaken}
+use Rattle.lines.specs.Lines.{Reading, more, linesFrom, lastLine, taken, takenAll, stateAfter, LinesTaken, AllLinesTaken, ChunksTaken}
 
 module _ {S : Type 0} (f : S → List ℕ → S) where
   -- Two chunks one behind the other are one.
@@ -65,3 +65,6 @@ last-none (b ∷ l) e = absurd (omega arith)
 pub last-some : (l : List ℕ) → 0 < length l → lastLine l ≡ l ∷ []
 last-some [] h = absurd (omega arith)
 last-some (b ∷ l) h = refl
+
+pub chunks-taken : ChunksTaken
+chunks-taken S f = all-append f

@@ -70,3 +70,8 @@ abbrev pub AllLinesTaken : Type 1
 AllLinesTaken =
     (S : Type 0) (f : S → List ℕ → S) (s : S) (input : List ℕ) → let r = takenAll f (record { state = s; line = [] }) input in
     stateAfter f (r .state) (lastLine (r .line)) ≡ stateAfter f s (allLines input)
+
+-- Two chunks of an input taken one after the other are the input.
+abbrev pub ChunksTaken : Type 1
+ChunksTaken =
+    (S : Type 0) (f : S → List ℕ → S) (r : Reading S) (l m : List ℕ) → takenAll f r (l ++ m) ≡ takenAll f (takenAll f r l) m

@@ -1,6 +1,6 @@
 -- The examples hold: the definitions compute them.
 use mathlib.Core.Path.{refl}
-use Rattle.pin_line.specs.Examples.{pinLines, Pins, PassedOver, Errors}
+use Rattle.pin_line.specs.Examples.{pinLines, longLines, Pins, PassedOver, Errors, LongestLine, TooLong}
 
 pub pins : Pins
 unfolding pinLines
@@ -13,3 +13,11 @@ passed-over = refl
 pub errors : Errors
 unfolding pinLines
 errors = refl
+
+pub longest-line : LongestLine
+unfolding longLines
+longest-line = refl
+
+pub too-long : TooLong
+unfolding longLines
+too-long = refl

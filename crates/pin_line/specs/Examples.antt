@@ -1,11 +1,12 @@
 -- Examples: lines, and what they ask for. They show what the definitions say of a line.
 use mathlib.Core.Path.{_≡_}
 use mathlib.Core.List.{List, [], _∷_}
+use Prim.Native.Nat.{ℕ}
 use Prim.Native.String.{String}
 use lib.ListN.{replicate}
 use lib.IntN.{pos, negsuc}
 use Rattle.arrays.specs.Set.{all}
-use Rattle.arrays.specs.Text.{bytes}
+use Rattle.arrays.specs.Text.{bytes, byte}
 use Rattle.words.specs.Words.{isSpace, split}
 use Rattle.numbers.specs.Numbers.{areDigits, valueFrom, numberOf}
 use Rattle.arguments.specs.Arguments.{numbersOf, argumentsOf}
@@ -37,3 +38,14 @@ Errors =
     pinLines ("5" ∷ "5 3 1 1" ∷ "1 2 3 4 5" ∷ "1 2 3 4 5 6" ∷ "5 3 -1" ∷ "+5 3" ∷ "5 +3" ∷ "2147483648 0" ∷ "5 3 x" ∷ "5,3" ∷ " # 5 3"
     ∷ "5\r3" ∷ "5 \r 3" ∷ "5\u{c}3" ∷ "\u{c}" ∷ "5 3\r\r" ∷ "\r\r" ∷ [])
     ≡ replicate 17 Error
+
+-- Lines of 4,000 bytes and of one more: spaces alone, and a comment.
+unfoldable pub longLines : ℕ → List PinLine
+unfolding all isSpace split isPlain argumentsOf numbersOf ofNumbers ofText pinLineOf
+longLines n = pinLineOf (replicate n (byte " ")) ∷ pinLineOf (byte "#" ∷ replicate n (byte " ")) ∷ []
+
+abbrev pub LongestLine : Type 0
+LongestLine = longLines 4000 ≡ Passed ∷ Passed ∷ []
+
+abbrev pub TooLong : Type 0
+TooLong = longLines 4001 ≡ Error ∷ Passed ∷ []

@@ -4,9 +4,9 @@
 //! `example` is that of SPEC 7.7. `lane` has bays 250 cm apart on both sides of a
 //! lane, and a display at each end. `sixty_four` has two lanes of 28 bays each,
 //! a display at each end of both, a controller half way between these ends on
-//! both sides, and a display at the way in and at the way out. In these three all
-//! pins are filed as sensors. `devices` names the kinds: a lane of nine sensors
-//! 250 cm apart, a display at its end, and the lane's controller beside it.
+//! both sides, and a display at the way in and at the way out; all of them are
+//! filed as sensors. `lane` names the displays, and `devices` all kinds: a lane of
+//! nine sensors 250 cm apart, a display at its end, and its controller beside it.
 
 use reference::file::read;
 use reference::listing::list_program;
@@ -67,14 +67,15 @@ fn the_texts_say_what_they_are() {
 
 #[test]
 fn the_sizes_of_the_samples() {
-    for (name, pins, header) in [
-        ("example", 3, "deck 3 1 18\nkinds 18 0 0\n"),
-        ("lane", 18, "deck 18 1 4750\nkinds 4750 0 0\n"),
-        ("sixty_four", 64, "deck 64 4 19600\nkinds 19600 0 0\n"),
+    // The displays of the lane are 250 cm from the tap and 500 cm from the last bay.
+    for (name, pins, size, header) in [
+        ("example", 3, 42, "deck 3 1 18\nkinds 18 0 0\n"),
+        ("lane", 18, 128, "deck 18 1 4750\nkinds 4000 750 0\n"),
+        ("sixty_four", 64, 286, "deck 64 4 19600\nkinds 19600 0 0\n"),
     ] {
         let bytes = sample(name, ".deck");
         assert_eq!(read(&bytes).unwrap().pins.len(), pins, "{name}");
-        assert_eq!(bytes.len(), 30 + 4 * pins, "{name} is not plain");
+        assert_eq!(bytes.len(), size, "{name} is not plain");
         assert!(list_program(&bytes).starts_with(header), "{name}");
     }
 }

@@ -8,12 +8,12 @@ use Rattle.drawing.proofs.put_symbol.Tie as tie
 returns : tie.Need-returns
 returns c =
     let at-symbol = c .before .before in
-    let at-unit = at-symbol .before .before .before in
-    let at-down = at-unit .before in
+    let at-side = at-symbol .before .before .before in
+    let at-down = at-side .before in
     let at-across = at-down .before in
     let at-y = at-across .before in
     let text = at-symbol .put-numbered .ensures in (
-      symbol-put _ _ _ (at-y .before .x-of .ensures) (at-y .y-of .ensures) (at-across .across .ensures) (at-down .down .ensures) (at-unit .unit .ensures .0)
+      symbol-put _ _ _ (at-y .before .x-of .ensures) (at-y .y-of .ensures) (at-across .across .ensures) (at-down .down .ensures) (at-side .long-side .ensures .0)
           (text .0),
       omega (arith, text .1),
     )

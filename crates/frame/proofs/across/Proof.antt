@@ -9,9 +9,9 @@ use Rattle.frame.proofs.across.Tie as tie
 returns : tie.Need-returns
 unfolding acrossAt
 returns c =
-    let at-unit = c .before in
-    let width = at-unit .before .before .args .f .width in
-    ap₂ (λ (u g : ℕ). 220 * u - 200 * width + 400 * g) (at-unit .unit .ensures .0) (c .apart .ensures)
+    let at-side = c .before in
+    let width = at-side .before .before .args .f .width in
+    ap₂ (λ (u g : ℕ). 220 * u - 200 * width + 400 * g) (at-side .long-side .ensures .0) (c .apart .ensures)
 
 pub across-spec : {M : Type 1} → statement M
 across-spec =

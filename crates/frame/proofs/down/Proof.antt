@@ -8,7 +8,7 @@ use Rattle.frame.proofs.down.Tie as tie
 
 returns : tie.Need-returns
 unfolding downAt
-returns c = ap₂ (λ (u g : ℕ). 20 * u + 400 * g) (c .before .unit .ensures .0) (c .apart .ensures)
+returns c = ap₂ (λ (u g : ℕ). 20 * u + 400 * g) (c .before .long-side .ensures .0) (c .apart .ensures)
 
 pub down-spec : {M : Type 1} → statement M
 down-spec =
