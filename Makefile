@@ -1,5 +1,5 @@
 # What each target does: make help.
-.PHONY: help run test tests proved_tests reference_tests compare_tests gate_tests bench table_1 reference programs entries library replay_library \
+.PHONY: help run test tests reference_tests compare_tests gate_tests bench table_1 reference programs entries library replay_library \
 	display_library fuzz libfuzzer
 
 .DEFAULT_GOAL := run
@@ -43,13 +43,11 @@ entries: ## the proved functions as libraries for the tests
 
 # The prover over every crate, then the tests on what it proved.
 test: ## the gate: the prover over every crate, then the tests; the last line is the verdict
-	BESIDE='$(MAKE) -s gate_tests' sh tests/gate/gate.sh $(MAKE) -s proved_tests
+	sh tests/gate/gate.sh $(MAKE) -s tests
 
-tests: gate_tests proved_tests ## the tests alone, once the prover has passed
-
-# The programs are in target/bin already.
-proved_tests: ## the tests of what is proved
-	$(MAKE) -s entries
+# The libraries are linked beside the tests that need none of them; the programs are in target/bin already.
+tests: ## the tests alone, once the prover has passed
+	$(MAKE) -s -j2 -O entries gate_tests
 	$(MAKE) -s compare_tests
 
 reference_tests: ## the tests of the independent implementation

@@ -56,7 +56,6 @@ expect_with_prover() { # FOLDER STATUS FILTER
 
 repository "$room/whole"
 repository "$room/failing_test"
-repository "$room/failing_beside"
 repository "$room/not_proved"
 sed -i 's/≡ 7/≡ 8/' "$room/not_proved/crates/seven/src/lib.rt"
 repository "$room/edit_not_refused"
@@ -67,10 +66,6 @@ echo spoken >"$room/other_output/crates/silent/stdout"
 expect passes '3 passed, 0 failed' 'rt ci: 3 passed, 0 failed' "$room/whole" test -x target/bin/silent &
 expect fails 'gate: failed: the tests' 'rt ci: 3 passed, 0 failed' "$room/failing_test" false &
 wait
-(
-    export BESIDE=false
-    expect fails 'gate: failed: the tests beside the prover' 'rt ci: 3 passed, 0 failed' "$room/failing_beside" true
-)
 expect fails 'gate: failed: the prover' 'seven NOT PROVED' "$room/not_proved" true &
 expect fails 'gate: failed: the prover' 'seven/eight: NOT REFUSED' "$room/edit_not_refused" true &
 wait
@@ -79,5 +74,5 @@ expect_with_prover "$room/missing_verdict" 0 "sed '\$d'"
 expect_with_prover "$room/verdict_before_the_last_line" 0 'sed "\$arefused"'
 expect_with_prover "$room/status_not_0" 1 cat
 
-[ "$(ls "$room/runs" | wc -l)" -eq 9 ] || { echo "the gate: not every case was tried"; exit 1; }
+[ "$(ls "$room/runs" | wc -l)" -eq 8 ] || { echo "the gate: not every case was tried"; exit 1; }
 [ -z "$(ls "$room/failed")" ]

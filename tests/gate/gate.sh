@@ -2,10 +2,7 @@
 # The gate. First the prover over every crate (`rt ci`), from nothing; then the tests, by the command given, on the libraries and
 # programs that the prover proved.
 #
-#     [BESIDE='COMMAND [WORD...]'] gate.sh COMMAND [WORD...]
-#
-# Tests that need nothing of the prover may be named by BESIDE. They run beside it at a low priority, in the time that it leaves a processor idle: it
-# starts its checks in batches, and a batch ends with its slowest.
+#     gate.sh COMMAND [WORD...]
 #
 # The last line is the prover's verdict, taken from what it printed, and it stands there only if everything passed. Each line of
 # the prover is shown behind `rt ci: `, so that no line before the last can be taken for the verdict; target/rt-ci.out has them all.
@@ -24,26 +21,15 @@ verdict() {
 store=$(mktemp -d) || fail "no room for the prover's output"
 trap 'rm -rf "$store"' EXIT
 
-# Not for the gates that these tests put through their paces.
-beside=${BESIDE:-true}
-unset BESIDE
-
 rt fmt --check || fail "the layout of the sources"
-{
-    nice -n 19 sh -c "$beside" >"$store/beside" 2>&1
-    echo $? >"$store/beside-status"
-} &
-# Twice as many checks at a time as there are processors, for shorter waits at the end of a batch.
+# The prover starts its checks in batches, and a batch ends with its slowest: twice as many at a time as there are processors.
 RT_JOBS=${RT_JOBS:-$(($(nproc) * 2))}
 export RT_JOBS
 {
     rt ci 2>&1
     echo $? >"$store/status"
 } | tee "$store/out" | sed -u 's/^/rt ci: /'
-wait
 mkdir -p target && cp "$store/out" target/rt-ci.out || fail "no room for the prover's output"
 verdict >"$store/verdict" || fail "the prover"
-cat "$store/beside"
-[ "$(cat "$store/beside-status")" = 0 ] || fail "the tests beside the prover"
 "$@" || fail "the tests"
 verdict || fail "the prover"
