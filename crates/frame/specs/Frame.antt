@@ -59,8 +59,8 @@ abbrev pub between : ℕ → ℕ → ℕ
 between m n = (m - n) + (n - m)
 
 -- The claim, of all points that a picture is made for: it has a size, also for one point; no point is drawn nearer to a side of the picture than 20 U, nor
--- to its lower side than 100 U, where the legend stands; of two points the one with the larger x is farther right, and the one with the larger y farther up, both by the scale; so the path
--- of a run has the length of the run, by the scale.
+-- to its lower side than 100 U, where the legend stands; of two points the one with the larger x is farther right, and the one with the larger y farther
+-- up, both by the scale; so the path of a run has the length of the run, by the scale.
 pub record Drawn (ps : List Point) : Type 0 where
   pub sized : 1 ≤ longSide (boxOf ps)
   pub inside : (p : Point) → List·Memᴰ p ps → let b = boxOf ps in

@@ -12,8 +12,9 @@ returns c =
     let at-down = at-side .before in
     let at-across = at-down .before in
     let at-y = at-across .before in
+    let side = at-side .long-side .ensures in
     let text = at-symbol .put-numbered .ensures in (
-      symbol-put _ _ _ (at-y .before .x-of .ensures) (at-y .y-of .ensures) (at-across .across .ensures) (at-down .down .ensures) (at-side .long-side .ensures .0)
+      symbol-put _ _ _ (at-y .before .x-of .ensures) (at-y .y-of .ensures) (at-across .across .ensures) (at-down .down .ensures) (side .0)
           (text .0),
       omega (arith, text .1),
     )
