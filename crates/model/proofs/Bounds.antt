@@ -1,4 +1,4 @@
--- At most 126 points between calls and 127 during a round; every tree of points in range on so few points is at most 15,120,000 long.
+-- At most 126 points between calls and 127 during a round; every tree of points in range on so few points is at most 15,246,000 long, with the longest tails.
 use mathlib.Core.Path.{_≡_, ap, subst, subst⁻¹}
 use mathlib.Core.Logic.{_⊎_, ⊎-elim}
 use mathlib.Core.List.{List, [], _∷_, List·Memᴰ}
@@ -11,11 +11,12 @@ use Rattle.arrays.proofs.Members.{sorted-distinct}
 use Rattle.spanning.proofs.Totals.{total-most}
 use Rattle.spanning.proofs.Count.{tree-count, tree-none}
 use Rattle.plane.specs.Point.{Point, inRange, lower, Lower}
-use Rattle.plane.specs.Edge.{edgeLength, planar}
+use Rattle.plane.specs.Edge.{planar}
 use Rattle.plane.proofs.Order.{lower-order}
 use Rattle.plane.proofs.Range.{dist-range}
 use Rattle.arrays.specs.Set.{put}
-use Rattle.model.specs.Tree.{mst, treeLength}
+use Rattle.model.specs.Tree.{mst}
+use Rattle.model.specs.Tail.{longestTail, runLength, treeLengthWith}
 use Rattle.model.specs.State.{State, points, Valid}
 use Rattle.model.specs.Session.{mostPoints, longestTree}
 use Rattle.arrays.proofs.Set.{put-in, put-sorted, put-length, union-length}
@@ -38,15 +39,16 @@ edges-fewer [] n rise h = omega (arith, ap length (tree-none planar (mst []) (ms
 edges-fewer (p ∷ l) n rise h =
     omega (arith, tree-count planar (p ∷ l) (mst (p ∷ l)) (sorted-distinct lower-order (p ∷ l) rise) (mst-run-tree (p ∷ l) rise .tree) (omega arith))
 
-pub length-bound : (ps : List Point) → Sorted Lower ps → length ps ≤ suc mostPoints → ((p : Point) → List·Memᴰ p ps → T (inRange p))
-    → treeLength ps ≤ longestTree
-unfolding treeLength planar
-length-bound ps rise few range =
+pub length-bound : (tail : ℕ) → tail ≤ longestTail → (ps : List Point) → Sorted Lower ps → length ps ≤ suc mostPoints → ((p : Point) → List·Memᴰ p ps → T (inRange p))
+    → treeLengthWith tail ps ≤ longestTree
+unfolding treeLengthWith planar
+length-bound tail h ps rise few range =
     omega (
       arith,
       edges-fewer ps mostPoints rise few,
-      total-most edgeLength 120000 (mst ps)
-          (λ e i. let b = mst-run-tree ps rise .tree .ends e i in dist-range (e .lo) (e .hi) (range (e .lo) (b .0)) (range (e .hi) (b .1))),
+      total-most (runLength tail) 121000 (mst ps)
+          (λ e i. let b = mst-run-tree ps rise .tree .ends e i in
+          omega (arith, h, dist-range (e .lo) (e .hi) (range (e .lo) (b .0)) (range (e .hi) (b .1)))),
     )
 
 pub held-range : (s : State) → Valid s → (p : Point) → List·Memᴰ p (points s) → T (inRange p)
@@ -56,8 +58,8 @@ module _ (s : State) (v : Valid s) (c : Point) (k : Candidate (points s) c) wher
   pub round-few : length (put lower c (points s)) ≤ suc mostPoints
   round-few = omega (arith, put-length lower lower-order c (points s) (k .free), points-few s v)
 
-  pub round-fits : treeLength (put lower c (points s)) ≤ longestTree
-  round-fits =
-      length-bound (put lower c (points s)) (put-sorted lower lower-order c (points s) (points-rise s (v .placed .steinerRise))) round-few
+  pub round-fits : (tail : ℕ) → tail ≤ longestTail → treeLengthWith tail (put lower c (points s)) ≤ longestTree
+  round-fits tail h =
+      length-bound tail h (put lower c (points s)) (put-sorted lower lower-order c (points s) (points-rise s (v .placed .steinerRise))) round-few
       (λ p i. ⊎-elim (λ e. subst⁻¹ (λ z. T (inRange z)) e (candidate-range s (v .placed) c k)) (held-range s v p)
       (put-in lower lower-order c p (points s) .0 i))

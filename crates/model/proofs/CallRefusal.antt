@@ -12,9 +12,9 @@ use Rattle.plane.proofs.Order.{lower-order}
 use Rattle.arrays.specs.Set.{has}
 use Rattle.model.specs.Refusal.{FirstFailed, here, later}
 use Rattle.model.specs.Contents.{Contents}
-use Rattle.model.specs.Call.{add, addChecks, withdrawChecks}
-use Rattle.model.specs.CallRefusal.{RefusedBy, AddRefusals, WithdrawRefusals}
-use Rattle.model.proofs.Refusal.{add-refused, add-taken, withdraw-refused, withdraw-taken}
+use Rattle.model.specs.Call.{add, addChecks, withdrawChecks, tailChecks}
+use Rattle.model.specs.CallRefusal.{RefusedBy, AddRefusals, WithdrawRefusals, TailRefusals}
+use Rattle.model.proofs.Refusal.{add-refused, add-taken, withdraw-refused, withdraw-taken, tail-refused, tail-taken}
 use Rattle.arrays.proofs.Set.{has-in, has-not}
 
 module _ (c : Contents) (p : Point) (k : ℕ) where
@@ -106,3 +106,18 @@ module _ (c : Contents) (p : Point) where
     where
       none : (n : ℕ) → FirstFailed n (withdrawChecks p (c .state)) → (n ≡ 9) × ¬ T (has lower p (c .state .pins))
       none n (here e f) = (sym e, f)
+
+module _ (c : Contents) (tail : ℕ) where
+  pub tail-refusals : TailRefusals c tail
+  tail-refusals =
+      record {
+        tooLong = (
+          λ e. let h : 500 < tail = nleb→lt tail 500 (not-T (leb tail 500) (only 16 (tail-refused c tail 16 .0 e) .1)) in omega arith,
+          λ h. tail-refused c tail 16 .1 (here refl (λ t. let m : tail ≤ 500 = leb→le tail 500 t in omega (arith, m, h))),
+        );
+        taken = (λ e. leb→le tail 500 (tail-taken c tail .0 e .0), λ h. tail-taken c tail .1 (le→leb tail 500 h, tt));
+        others = λ n e. only n (tail-refused c tail n .0 e) .0;
+      }
+    where
+      only : (n : ℕ) → FirstFailed n (tailChecks tail) → (n ≡ 16) × ¬ T (leb tail 500)
+      only n (here e f) = (sym e, f)

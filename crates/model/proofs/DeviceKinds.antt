@@ -2,7 +2,7 @@
 use mathlib.Core.Path.{_≡_, refl, ap₂, subst, subst⁻¹}
 use mathlib.Core.Logic.{⊎-elim, _↔_}
 use mathlib.Core.Bool.{Bool, true, false}
-use mathlib.Core.List.{List, [], _∷_, map, List·Memᴰ, List·Memᴰ·head as head, List·Memᴰ·tail as tail, List·Memᴰ·cases-cons as cases}
+use mathlib.Core.List.{List, [], _∷_, map, List·Memᴰ, List·Memᴰ·head as head, List·Memᴰ·tail as later, List·Memᴰ·cases-cons as cases}
 use mathlib.Core.List.{List·Memᴰ·not-nil as not-nil}
 use Prim.Native.Nat.{ℕ, zero, suc, _≤_}
 use native.Mathlib.Omega.{arith}
@@ -17,7 +17,8 @@ use Rattle.plane.specs.Point.{Point, lower}
 use Rattle.plane.proofs.Order.{lower-order}
 use Rattle.model.specs.State.{State, Valid, valid}
 use Rattle.model.specs.DeviceKinds.{sensor, largestKind, isKind, sensorsOnly}
-use Rattle.model.specs.Contents.{Contents, kindAt, ofState, keeping, following, ValidContents, validContents}
+use Rattle.model.specs.Contents.{Contents, kindAt, withTail, ofState, keeping, following, ValidContents, validContents}
+use Rattle.model.specs.Tail.{longestTail}
 use Rattle.model.proofs.Candidate.{map-in}
 use Rattle.model.proofs.Validity.{both-is, valid-is}
 
@@ -51,11 +52,15 @@ of-state-valid {s} v =
       state = v;
       kindCount = length-replicate {A = ℕ} (length (s .pins)) sensor;
       known = λ k i. omega (arith, sensors-in (length (s .pins)) k i);
+      tailed = omega arith;
     }
 
 pub keeping-valid : {c : Contents} {s : State} → ValidContents c → Valid s → s .pins ≡ c .state .pins → ValidContents (keeping c s)
 keeping-valid {c} v w same =
-    record { state = w; kindCount = subst⁻¹ (λ (l : List Point). length (c .kinds) ≡ length l) same (v .kindCount); known = v .known }
+    record { state = w; kindCount = subst⁻¹ (λ (l : List Point). length (c .kinds) ≡ length l) same (v .kindCount); known = v .known; tailed = v .tailed }
+
+pub with-tail-valid : {c : Contents} {tail : ℕ} → ValidContents c → tail ≤ longestTail → ValidContents (withTail tail c)
+with-tail-valid v h = record { state = v .state; kindCount = v .kindCount; known = v .known; tailed = h }
 
 pub following-valid : (k : ℕ) {c : Contents} {s : State} → k ≤ largestKind → ValidContents c → Valid s → ValidContents (following k c s)
 following-valid k {c} {s} h v w =
@@ -64,20 +69,23 @@ following-valid k {c} {s} h v w =
       kindCount = length-map (s .pins) _;
       known = λ j i. let from = map-in _ (s .pins) j .0 i in
           subst⁻¹ (λ (z : ℕ). z ≤ largestKind) (from .2) (beside-one lower (λ (z : ℕ). z ≤ largestKind) k h (from .0) (c .state .pins) (c .kinds) (v .known));
+      tailed = v .tailed;
     }
 
 pub valid-contents-is : (c : Contents) → T (validContents c) ↔ ValidContents c
 valid-contents-is c = (
   λ t. let r = parts .0 t in
-      record { state = r .0; kindCount = r .1 .0; known = r .1 .1 },
-  λ v. parts .1 (v .state, (v .kindCount, v .known)),
+      record { state = r .0; kindCount = r .1 .0; known = r .1 .1 .0; tailed = r .1 .1 .1 },
+  λ v. parts .1 (v .state, (v .kindCount, (v .known, v .tailed))),
 )
   where
     parts : T (validContents c)
-        ↔ (Valid (c .state) × ((length (c .kinds) ≡ length (c .state .pins)) × ((k : ℕ) → List·Memᴰ k (c .kinds) → k ≤ largestKind)))
+        ↔ (Valid (c .state)
+        × ((length (c .kinds) ≡ length (c .state .pins)) × (((k : ℕ) → List·Memᴰ k (c .kinds) → k ≤ largestKind) × (c .tail ≤ longestTail))))
     parts =
         both-is (valid (c .state)) _ (valid-is (c .state))
-        (both-is (eqb (length (c .kinds)) (length (c .state .pins))) _ (eqb→eq (length (c .kinds)) (length (c .state .pins)), eq→eqb) (kinds-known (c .kinds)))
+        (both-is (eqb (length (c .kinds)) (length (c .state .pins))) _ (eqb→eq (length (c .kinds)) (length (c .state .pins)), eq→eqb)
+        (both-is (all isKind (c .kinds)) _ (kinds-known (c .kinds)) (leb→le (c .tail) longestTail, le→leb (c .tail) longestTail)))
 
 -- The kinds of valid contents, one pin after the other.
 pub kinds-are : (c : Contents) → ValidContents c → map (kindAt c) (c .state .pins) ≡ c .kinds
@@ -87,7 +95,7 @@ kinds-are c v = beside-all lower lower-order sensor (c .state .pins) (v .state .
 by-first : (k : ℕ) (l : List ℕ) → (¬ T (sensorsOnly l) → (j : ℕ) × List·Memᴰ j l × ¬ (j ≡ sensor)) → (t : Bool) → leb k sensor ≡ t
     → ¬ T (sensorsOnly (k ∷ l)) → (j : ℕ) × List·Memᴰ j (k ∷ l) × ¬ (j ≡ sensor)
 unfolding all
-by-first k l rest true e n = let r = rest (λ u. n (and-both (leb k sensor) (sensorsOnly l) (of-true e) u)) in (r .0, tail (r .1), r .2)
+by-first k l rest true e n = let r = rest (λ u. n (and-both (leb k sensor) (sensorsOnly l) (of-true e) u)) in (r .0, later (r .1), r .2)
 by-first k l rest false e n = (k, head refl, λ z. subst T e (le→leb k sensor (omega (arith, z))))
 
 pub some-other : (l : List ℕ) → ¬ T (sensorsOnly l) → (k : ℕ) × List·Memᴰ k l × ¬ (k ≡ sensor)

@@ -12,7 +12,8 @@ use lib.ListN.{length}
 use Rattle.arrays.proofs.Test.{and-parts, and-both}
 use Rattle.model.specs.State.{points}
 use Rattle.model.specs.DeviceKinds.{sensorsOnly}
-use Rattle.model.specs.Contents.{Contents, withKinds, ValidContents}
+use Rattle.model.specs.Contents.{Contents, withKinds, withTail, ValidContents}
+use Rattle.model.specs.Tail.{noTail}
 use Rattle.model.specs.Question.{listed}
 use Rattle.arrays.specs.Same.{sameList}
 use Rattle.model.specs.Sections.{headerSize, sectionFile, sectionCount, offset, size, section, Follow}
@@ -28,10 +29,10 @@ use Rattle.model.proofs.Sections.{sectionsFrom, file-made}
 use Rattle.model.proofs.FileValid.{Headed, headed-is, Accepted, accepted, accept, file-valid}
 use Rattle.model.proofs.FileKinds.{sections-few, three-or-four, kinds-laid, three-made, four-made}
 
--- A file of the sections of valid contents, with any bytes for runs that pass check 6, shows the contents.
+-- A file of the sections of valid contents, with any bytes for runs that pass check 6, shows the contents without their tail.
 pub laid-accepted : (b : List ℕ) (c : Contents) → ValidContents c → (runs : List ℕ) → length runs % 2 ≡ 0
     → T (plain b) ⊎ (section b 2 ≡ runs → T (sameList (section b 2) (runSection (c .state))))
-    → 30 ≤ length b → length b ≤ 856 → Laid b (sectionsWith runs c) → Accepted b c
+    → 30 ≤ length b → length b ≤ 856 → Laid b (sectionsWith runs c) → Accepted b (withTail noTail c)
 laid-accepted b c v runs even shown long short h =
     let pins = h .parts in
     let taps = pins .3 in
@@ -70,12 +71,12 @@ laid-accepted b c v runs even shown long short h =
     steiner-are : fileState b .steiner ≡ c .state .steiner
     steiner-are = ap pointsOf (h .parts .3 .2) ∙ points-section (c .state .steiner) (v .state .placed .steinerRange)
 
--- The deck of valid contents, written out and read in, is the same deck.
-pub written-read : (c : Contents) → ValidContents c → readFile (fileOf c) ≡ deck c
+-- The deck of valid contents, written out and read in, is the same deck but for its tail.
+pub written-read : (c : Contents) → ValidContents c → readFile (fileOf c) ≡ deck (withTail noTail c)
 unfolding fileOf
 written-read c v =
     let size = file-size c v in
-    accept (fileOf c) c
+    accept (fileOf c) (withTail noTail c)
     (laid-accepted (fileOf c) c v (runSection (c .state)) (omega (arith, runs-length (points (c .state)) (listed (c .state))))
     (inr (λ e. subst⁻¹ (λ (l : List ℕ). T (sameList l (runSection (c .state)))) e (same-refl (runSection (c .state)))))
     (size .0) (size .1) (file-laid (sectionsOf c) (omega (arith, sections-few c .1)) (omega (arith, size .1))))

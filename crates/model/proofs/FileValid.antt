@@ -138,6 +138,7 @@ kinds-valid b v t = go (hasKinds b) t
           state = v;
           kindCount = eqb→eq (length kinds) (length (fileState b .pins)) (p .0);
           known = kinds-known kinds .0 (q .0);
+          tailed = omega arith;
         }
     go false t = of-state-valid v
 

@@ -1,9 +1,9 @@
 -- The grid theorem for one point: if any whole point, not held, has a tree over the held points and it that is shorter than the
--- tree, then some candidate shortens it. The point is replaced by one with the median x and the median y of its neighbours.
+-- tree by more than k, then some candidate shortens it by more than k. The point is replaced by one with the median x and the median y of its neighbours.
 use mathlib.Core.Path.{_≡_, refl, sym, ap, _∙_, subst, subst⁻¹}
 use mathlib.Core.Logic.{_⊎_, inl, inr, ⊎-elim}
-use mathlib.Core.List.{List, [], _∷_, map, List·Memᴰ, List·Memᴰ·head as head, List·Memᴰ·tail as tail, List·Memᴰ·cases-cons as cases}
-use Prim.Native.Nat.{_+_, _≤_}
+use mathlib.Core.List.{List, [], _∷_, map, List·Memᴰ, List·Memᴰ·head as head, List·Memᴰ·tail as later, List·Memᴰ·cases-cons as cases}
+use Prim.Native.Nat.{ℕ, _+_, _*_, _≤_}
 use native.Mathlib.Nat.{le-trans}
 use native.Mathlib.Omega.{arith}
 use lib.ListN.{length}
@@ -12,7 +12,7 @@ use Rattle.spanning.specs.Graph.{Conn, In, Tree, total}
 use Rattle.arrays.specs.Order.{Sorted}
 use Rattle.spanning.specs.Kruskal.{kruskal}
 use Rattle.arrays.proofs.Members.{Distinct, sorted-distinct}
-use Rattle.spanning.proofs.Count.{forest-ends}
+use Rattle.spanning.proofs.Count.{tree-count, forest-ends}
 use Rattle.spanning.proofs.Degree.{tree-degree-pos}
 use Rattle.plane.specs.Point.{Point, lower, Lower, dist, pointDec}
 use Rattle.plane.specs.Edge.{Edge, planar}
@@ -22,6 +22,9 @@ use Rattle.arrays.specs.Set.{put, union}
 use Rattle.model.specs.Tree.{pairs, edges, mst, lengthOf, treeLength, edgesAt}
 use Rattle.arrays.proofs.Set.{put-in, put-sorted, put-or-free}
 use Rattle.plane.proofs.Axis.{Connects}
+use Rattle.model.specs.Tail.{lengthWith, treeLengthWith}
+use Rattle.model.proofs.Tree.{tree-edges}
+use Rattle.model.proofs.Tail.{one-run-more, one-point-more}
 use Rattle.model.proofs.Cover.{mst-cover}
 use Rattle.model.proofs.Replace.{swap, swap-same, swap-other, replaced, star, sumDist, replaced-conn, replaced-ends, replaced-length}
 use Rattle.model.proofs.Replace.{star-count, star-edge}
@@ -77,7 +80,7 @@ module _ (ps : List Point) (rising : Sorted Lower ps) (q : Point) (far : ¬ List
       from : (u : Point) → List·Memᴰ u (put lower c ps) → (w : Point) × List·Memᴰ w (q ∷ ps) × (swap q c w ≡ u)
       from u i =
           ⊎-elim (λ e. (q, head refl, swap-same q c q refl ∙ sym e))
-          (λ j. (u, tail j, swap-other q c u (λ e. far (subst (λ (z : Point). List·Memᴰ z ps) e j)))) (put-in lower lower-order c u ps .0 i)
+          (λ j. (u, later j, swap-other q c u (λ e. far (subst (λ (z : Point). List·Memᴰ z ps) e j)))) (put-in lower lower-order c u ps .0 i)
 
       connects : Connects (put lower c ps) (replaced q c t)
       connects u v i j =
@@ -88,10 +91,11 @@ module _ (ps : List Point) (rising : Sorted Lower ps) (q : Point) (far : ¬ List
           (replaced-conn q c t (tree .spans (a .0) (b .0) (a .1) (b .1))))
 
   -- The median point of q's neighbours, one of which is n.
-  pub grid : (n : Point) → List·Memᴰ n (star q t) → ((c : Point) → Candidate ps c → treeLength ps ≤ treeLength (put lower c ps)) → treeLength ps ≤ lengthOf t
-  grid n i none =
-      ⊎-elim (λ e. subst (λ (z : List Point). treeLength z ≤ lengthOf t) e short)
-      (λ free. le-trans (none c (record { onX = onX; onY = onY; free = free })) short) (put-or-free lower lower-order c ps rising)
+  pub grid : (k : ℕ) (n : Point) → List·Memᴰ n (star q t) → ((c : Point) → Candidate ps c → treeLength ps ≤ treeLength (put lower c ps) + k)
+      → treeLength ps ≤ lengthOf t + k
+  grid k n i none =
+      ⊎-elim (λ e. omega (arith, subst (λ (z : List Point). treeLength z ≤ lengthOf t) e short))
+      (λ free. omega (arith, none c (record { onX = onX; onY = onY; free = free }), short)) (put-or-free lower lower-order c ps rising)
     where
       xs : List ℤ
       xs = map (λ (m : Point). m .x) (star q t)
@@ -122,19 +126,43 @@ no-length : treeLength [] ≡ 0
 unfolding total kruskal union pairs edges mst treeLength
 no-length = refl
 
--- No candidate shortens the tree, so no whole point does.
-pub grid-theorem : (ps : List Point) → Sorted Lower ps → ((c : Point) → Candidate ps c → treeLength ps ≤ treeLength (put lower c ps))
-    → (q : Point) → ¬ List·Memᴰ q ps → (t : List Edge) → Tree planar (q ∷ ps) t → treeLength ps ≤ lengthOf t
-grid-theorem [] rising none q far t tree = omega (arith, no-length)
-grid-theorem (p ∷ ps) rising none q far t tree = go (star q t) refl
+no-length-with : (tail : ℕ) → treeLengthWith tail [] ≡ 0
+unfolding total kruskal union pairs edges mst treeLengthWith
+no-length-with tail = refl
+
+joined-distinct : (ps : List Point) → Sorted Lower ps → (q : Point) → ¬ List·Memᴰ q ps → Distinct (q ∷ ps)
+joined-distinct ps rising q far = ((λ u i e. far (subst⁻¹ (λ (z : Point). List·Memᴰ z ps) e i)), sorted-distinct lower-order ps rising)
+
+-- No candidate shortens the tree by more than k, so no whole point does.
+pub grid-theorem : (k : ℕ) (ps : List Point) → Sorted Lower ps → ((c : Point) → Candidate ps c → treeLength ps ≤ treeLength (put lower c ps) + k)
+    → (q : Point) → ¬ List·Memᴰ q ps → (t : List Edge) → Tree planar (q ∷ ps) t → treeLength ps ≤ lengthOf t + k
+grid-theorem k [] rising none q far t tree = omega (arith, no-length)
+grid-theorem k (p ∷ ps) rising none q far t tree = go (star q t) refl
   where
-    distinct : Distinct (q ∷ p ∷ ps)
-    distinct =
-        ((λ u i e. far (subst⁻¹ (λ (z : Point). List·Memᴰ z (p ∷ ps)) e i)), sorted-distinct lower-order (p ∷ ps) rising)
-
     busy : 1 ≤ edgesAt q t
-    busy = tree-degree-pos planar (q ∷ p ∷ ps) t distinct tree (omega arith) q (head refl)
+    busy = tree-degree-pos planar (q ∷ p ∷ ps) t (joined-distinct (p ∷ ps) rising q far) tree (omega arith) q (head refl)
 
-    go : (l : List Point) → star q t ≡ l → treeLength (p ∷ ps) ≤ lengthOf t
+    go : (l : List Point) → star q t ≡ l → treeLength (p ∷ ps) ≤ lengthOf t + k
     go [] e = absurd (omega (arith, star-count q t, ap length e, busy))
-    go (n ∷ l) e = grid (p ∷ ps) rising q far t tree n (subst⁻¹ (λ (z : List Point). List·Memᴰ n z) e (head refl)) none
+    go (n ∷ l) e = grid (p ∷ ps) rising q far t tree k n (subst⁻¹ (λ (z : List Point). List·Memᴰ n z) e (head refl)) none
+
+-- The same with tails: one point more is one run more, so a candidate has to shorten the distances by more than two tails.
+pub grid-with-tails : (tail : ℕ) (ps : List Point) → Sorted Lower ps
+    → ((c : Point) → Candidate ps c → treeLengthWith tail ps ≤ treeLengthWith tail (put lower c ps))
+    → (q : Point) → ¬ List·Memᴰ q ps → (t : List Edge) → Tree planar (q ∷ ps) t → treeLengthWith tail ps ≤ lengthWith tail t
+unfolding treeLengthWith
+grid-with-tails tail [] rising none q far t tree = omega (arith, no-length-with tail)
+grid-with-tails tail (p ∷ ps) rising none q far t tree =
+    omega (
+      arith,
+      grid-theorem (2 * tail) (p ∷ ps) rising shorter q far t tree,
+      one-run-more tail (mst (p ∷ ps)) t
+          (omega (arith, tree-edges (p ∷ ps) rising, tree-count planar (q ∷ p ∷ ps) t (joined-distinct (p ∷ ps) rising q far) tree (omega arith))),
+      unfolded,
+    )
+  where
+    unfolded : treeLength (p ∷ ps) ≡ lengthOf (mst (p ∷ ps))
+    unfolded = unfold treeLength in refl
+
+    shorter : (c : Point) → Candidate (p ∷ ps) c → treeLength (p ∷ ps) ≤ treeLength (put lower c (p ∷ ps)) + 2 * tail
+    shorter c k = omega (arith, none c k, one-point-more tail (p ∷ ps) rising (omega arith) c (k .free))

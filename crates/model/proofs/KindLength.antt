@@ -18,12 +18,12 @@ use Rattle.arrays.proofs.Beside.{beside-one, beside-none}
 use Rattle.spanning.specs.Graph.{total}
 use Rattle.spanning.proofs.Totals.{total-same-members}
 use Rattle.plane.specs.Point.{Point, lower}
-use Rattle.plane.specs.Edge.{Edge, edgeLength, listedBefore}
+use Rattle.plane.specs.Edge.{Edge, listedBefore}
 use Rattle.plane.proofs.Order.{lower-order, listed-order, before-order}
-use Rattle.model.specs.Tree.{treeLength}
+use Rattle.model.specs.Tail.{runLength, treeLengthWith}
 use Rattle.model.specs.DeviceKinds.{sensor, largestKind}
 use Rattle.model.specs.Contents.{Contents, kindAt, ValidContents}
-use Rattle.model.specs.Question.{treeOf, listed, lengthOfState}
+use Rattle.model.specs.Question.{treeOf, listed, lengthOfContents}
 use Rattle.model.specs.KindLength.{runKind, ofKind, lengthIn, AtEnd, RunKind, KindLengths}
 use Rattle.model.proofs.FileSize.{tree-of}
 
@@ -94,11 +94,12 @@ shares-sum (suc (suc (suc r))) n h = absurd (omega arith)
 
 -- One run more, in front and behind.
 module _ (c : Contents) (k : ℕ) where
-  length-front : (e : Edge) (l : List Edge) → lengthIn c (e ∷ l) k ≡ share (runKind c e) (edgeLength e) k + lengthIn c l k
+  length-front : (e : Edge) (l : List Edge) → lengthIn c (e ∷ l) k ≡ share (runKind c e) (runLength (c .tail) e) k + lengthIn c l k
   unfolding passing total
   length-front e l = go (eqb (runKind c e) k)
     where
-      go : (b : Bool) → total edgeLength (if b (λ _. e ∷ ofKind c k l) (λ _. ofKind c k l)) ≡ if b (λ _. edgeLength e) (λ _. 0) + lengthIn c l k
+      go : (b : Bool)
+          → total (runLength (c .tail)) (if b (λ _. e ∷ ofKind c k l) (λ _. ofKind c k l)) ≡ if b (λ _. runLength (c .tail) e) (λ _. 0) + lengthIn c l k
       go true = refl
       go false = omega arith
 
@@ -106,7 +107,7 @@ module _ (c : Contents) (k : ℕ) where
   unfolding passing total
   length-none = refl
 
-  pub length-behind : (l : List Edge) (e : Edge) → lengthIn c (l ++ (e ∷ [])) k ≡ lengthIn c l k + share (runKind c e) (edgeLength e) k
+  pub length-behind : (l : List Edge) (e : Edge) → lengthIn c (l ++ (e ∷ [])) k ≡ lengthIn c l k + share (runKind c e) (runLength (c .tail) e) k
   length-behind [] e = omega (arith, length-front e [], length-none)
   length-behind (d ∷ l) e = omega (arith, length-front d (l ++ (e ∷ [])), length-front d l, length-behind l e)
 
@@ -119,7 +120,7 @@ module _ (c : Contents) (v : ValidContents c) where
   unfolding runKind
   run-kind-known e = omega (arith, kind-known (e .lo), kind-known (e .hi))
 
-  lengths-sum : (l : List Edge) → lengthIn c l 0 + lengthIn c l 1 + lengthIn c l 2 ≡ total edgeLength l
+  lengths-sum : (l : List Edge) → lengthIn c l 0 + lengthIn c l 1 + lengthIn c l 2 ≡ total (runLength (c .tail)) l
   unfolding total
   lengths-sum [] = omega (arith, length-none c 0, length-none c 1, length-none c 2)
   lengths-sum (e ∷ l) =
@@ -128,15 +129,15 @@ module _ (c : Contents) (v : ValidContents c) where
         length-front c 0 e l,
         length-front c 1 e l,
         length-front c 2 e l,
-        shares-sum (runKind c e) (edgeLength e) (run-kind-known e),
+        shares-sum (runKind c e) (runLength (c .tail) e) (run-kind-known e),
         lengths-sum l,
       )
 
   -- The runs listed are those of the tree.
-  listed-total : total edgeLength (listed (c .state)) ≡ lengthOfState (c .state)
-  unfolding listed treeLength
+  listed-total : total (runLength (c .tail)) (listed (c .state)) ≡ lengthOfContents c
+  unfolding listed treeLengthWith
   listed-total =
-      total-same-members edgeLength (listed (c .state)) (treeOf (c .state))
+      total-same-members (runLength (c .tail)) (listed (c .state)) (treeOf (c .state))
       (sorted-distinct listed-order (listed (c .state)) (set-of-sorted listedBefore listed-order (treeOf (c .state))))
       (sorted-distinct before-order (treeOf (c .state)) (tree-of (c .state) (v .state .placed) .sorted))
       (set-of-in listedBefore listed-order (treeOf (c .state)))

@@ -2,6 +2,7 @@
 -- else the kind given (`following`). Rounds leave pins and kinds.
 use mathlib.Core.Path.{_≡_, refl, ap, _∙_, subst, subst⁻¹}
 use mathlib.Core.Logic.{inl, inr}
+use mathlib.Core.Option.{Option, none, some}
 use mathlib.Core.List.{List, List·Memᴰ}
 use Prim.Native.Nat.{ℕ}
 use native.Mathlib.Omega.{arith}
@@ -13,9 +14,9 @@ use Rattle.plane.specs.Point.{Point, lower}
 use Rattle.plane.proofs.Order.{lower-order}
 use Rattle.model.specs.State.{State, withPin, withoutPin, insert, remove}
 use Rattle.model.specs.DeviceKinds.{sensor}
-use Rattle.model.specs.Contents.{Contents, kindOr, kindAt, keeping, following, ValidContents}
-use Rattle.model.specs.Call.{Call, add, withdraw, oneRound, runToEnd, done, refused}
-use Rattle.model.specs.Call.{insertRefusal, removeRefusal, step}
+use Rattle.model.specs.Contents.{Contents, kindOr, kindAt, withTail, keeping, following, ValidContents}
+use Rattle.model.specs.Call.{Call, add, withdraw, oneRound, runToEnd, setTail, done, refused}
+use Rattle.model.specs.Call.{insertRefusal, removeRefusal, tailRefusal, unless, step}
 use Rattle.model.specs.KindsFollow.{SamePins, KindsFollow}
 use Rattle.model.proofs.Prune.{prune-leaves}
 use Rattle.model.proofs.Refusal.{unless-done, unless-next, unless-kept}
@@ -92,6 +93,11 @@ module _ (c : Contents) (v : ValidContents c) where
   turned-down (withdraw p) n e = kept _ (unless-kept (removeRefusal p s) c (λ _. following sensor c (remove p s)) n e)
   turned-down oneRound n e = let z : _≡_ {A = ℕ} 0 1 = cc in absurd (omega arith)
   turned-down runToEnd n e = let z : _≡_ {A = ℕ} 0 1 = cc in absurd (omega arith)
+  turned-down (setTail tail) n e = kept _ (unless-kept (tailRefusal tail) c (λ _. withTail tail c) n e)
+
+  tail-set : (o : Option ℕ) (tail : ℕ) → SamePins c (unless o c (λ _. withTail tail c) .next)
+  tail-set none tail = record { pins = refl; kinds = λ q. refl }
+  tail-set (some n) tail = kept c refl
 
   pub kinds-follow : KindsFollow c
   unfolding step
@@ -100,7 +106,8 @@ module _ (c : Contents) (v : ValidContents c) where
         added = added-kind;
         besides = other-kind;
         left = left-kind;
-        rounded = same-pins _ (round-pins s (v .state));
-        ended = same-pins _ (rounds-pins (finish-rounds s (v .state) .0) (v .state));
+        rounded = same-pins _ (round-pins (c .tail) s (v .state));
+        ended = same-pins _ (rounds-pins (finish-rounds (c .tail) s (v .state) .0) (v .state));
+        set = λ tail. tail-set (tailRefusal tail) tail;
         turnedDown = turned-down;
       }

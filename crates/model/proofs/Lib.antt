@@ -29,6 +29,10 @@ pub mod Sections
 pub mod Session
 pub mod Step
 pub mod Sweep
+pub mod Tail
+pub mod TailClaim
+pub mod TailRows
+pub mod TailsFollow
 pub mod ThreePins
 pub mod Tree
 pub mod Validity

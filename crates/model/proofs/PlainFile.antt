@@ -11,7 +11,8 @@ use lib.Ieee.Fits.{eq→eqb}
 use lib.ListN.{length}
 use Rattle.arrays.proofs.Test.{and-both}
 use Rattle.model.specs.DeviceKinds.{sensorsOnly}
-use Rattle.model.specs.Contents.{Contents, keeping, ValidContents}
+use Rattle.model.specs.Contents.{Contents, withTail, keeping, ValidContents}
+use Rattle.model.specs.Tail.{noTail}
 use Rattle.model.specs.Question.{pinCount}
 use Rattle.model.specs.Sections.{sectionFile, size, fileSize}
 use Rattle.model.specs.File.{plain, kindSections, sectionsWith, sizesOf, pinsOnly, plainFileOf, deck, readFile}
@@ -68,9 +69,11 @@ module _ (c : Contents) (v : ValidContents c) where
       bounds true = (omega arith, omega (arith, v .state .few))
       bounds false = (omega arith, omega (arith, v .state .few))
 
-  pub plain-read : readFile (plainFileOf c) ≡ deck (pinsOnly c)
+  pub plain-read : readFile (plainFileOf c) ≡ deck (withTail noTail (pinsOnly c))
   unfolding plainFileOf
-  plain-read = accept b (pinsOnly c) (laid-accepted b (pinsOnly c) (pins-valid c v) [] refl (inl bare) (plain-size .0) (omega (arith, plain-size .1)) laid)
+  plain-read =
+      accept b (withTail noTail (pinsOnly c))
+      (laid-accepted b (pinsOnly c) (pins-valid c v) [] refl (inl bare) (plain-size .0) (omega (arith, plain-size .1)) laid)
     where
       b : List ℕ
       b = sectionFile (sectionsWith [] (pinsOnly c))

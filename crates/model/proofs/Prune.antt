@@ -3,7 +3,7 @@
 use mathlib.Core.Path.{_≡_, refl, ap, subst, subst⁻¹}
 use mathlib.Core.Logic.{_⊎_, inl, inr, ⊎-elim, _↔_}
 use mathlib.Core.Option.{Option, none, some}
-use mathlib.Core.List.{List, [], _∷_, List·Memᴰ, List·Memᴰ·head as head, List·Memᴰ·tail as tail, List·Memᴰ·cases-cons as cases, List·Memᴰ·not-nil as not-nil}
+use mathlib.Core.List.{List, [], _∷_, List·Memᴰ, List·Memᴰ·head as head, List·Memᴰ·tail as behind, List·Memᴰ·cases-cons as cases, List·Memᴰ·not-nil as not-nil}
 use Prim.Native.Nat.{ℕ, zero, suc, _+_, _-_, _≤_}
 use native.Mathlib.Nat.{le-refl, le-trans}
 use native.Mathlib.Omega.{arith}
@@ -11,6 +11,7 @@ use lib.Dec.{leb, leb→le, nleb→lt}
 use lib.ListN.{length}
 use Rattle.arrays.specs.Order.{Sorted}
 use Rattle.arrays.proofs.Members.{Distinct, sorted-distinct, sorted-ext}
+use Rattle.spanning.proofs.Totals.{some-members-length}
 use Rattle.spanning.proofs.Degree.{branches-some}
 use Rattle.plane.specs.Point.{Point, lower, Lower}
 use Rattle.plane.specs.Edge.{Edge, planar}
@@ -18,9 +19,11 @@ use Rattle.plane.proofs.Order.{lower-order}
 use Rattle.arrays.proofs.Test.{by-test}
 use Rattle.arrays.specs.Set.{out}
 use Rattle.model.specs.Tree.{mst, treeLength, edgesAt}
+use Rattle.model.specs.Tail.{treeLengthWith}
 use Rattle.model.specs.State.{State, points, strong, Placed, Valid, lowestWeak, without, pruneFrom, prune, maxPins}
 use Rattle.arrays.proofs.Set.{out-in, out-sorted, out-length, union-in, union-sorted}
 use Rattle.model.proofs.Tree.{mst-run-tree}
+use Rattle.model.proofs.Tail.{fewer-points}
 use Rattle.model.proofs.Removal.{removal}
 
 -- The points held.
@@ -46,7 +49,7 @@ lowest-weak-view t (a ∷ l) =
   where
     later : 3 ≤ edgesAt a t → {o : Option Point} → LowestWeakView t l o → LowestWeakView t (a ∷ l) o
     later h (all-strong f) = all-strong (λ q i. ⊎-elim (λ e. subst⁻¹ (λ (z : Point). 3 ≤ edgesAt z t) e h) (f q) (cases i))
-    later h (weak q i k) = weak q (tail i) k
+    later h (weak q i k) = weak q (behind i) k
 
 -- One step of the sweep, and its end.
 pub prune-step : (k : ℕ) (s : State) (q : Point) → lowestWeak (mst (points s)) (s .steiner) ≡ some q → pruneFrom (suc k) s ≡ pruneFrom k (without q s)
@@ -111,6 +114,17 @@ prune-from (suc k) s rise far h =
 pub prune-leaves : (s : State) → Sorted Lower (s .steiner) → ((p : Point) → List·Memᴰ p (s .pins) → List·Memᴰ p (s .steiner) → ⊥) → Pruned s (prune s)
 unfolding prune
 prune-leaves s rise far = prune-from (length (s .steiner)) s rise far (le-refl (length (s .steiner)))
+
+-- What a sweep leaves is no longer with tails either: no point joins, so there are no more runs.
+pub pruned-with-tails : (tail : ℕ) (s r : State) → Pruned s r → Sorted Lower (s .steiner) → treeLengthWith tail (points r) ≤ treeLengthWith tail (points s)
+pruned-with-tails tail s r h rise =
+    fewer-points tail (points r) (points s) (points-rise r (h .rise)) (points-rise s rise)
+    (some-members-length (points r) (points s) (sorted-distinct lower-order (points r) (points-rise r (h .rise))) kept) (h .shorter)
+  where
+    kept : (p : Point) → List·Memᴰ p (points r) → List·Memᴰ p (points s)
+    kept p i =
+        points-in s p .1
+        (⊎-elim (λ j. inl (subst (λ (l : List Point). List·Memᴰ p l) (h .pins) j)) (λ j. inr (h .part p j)) (points-in r p .0 i))
 
 -- A sweep of a placed state with few pins is valid.
 pub prune-valid : (s : State) → length (s .pins) ≤ maxPins → Placed s → Valid (prune s)

@@ -14,7 +14,8 @@ use Rattle.plane.specs.Point.{Point, coordinateInRange, inRange, lower, Lower}
 use Rattle.plane.proofs.Order.{lower-order}
 use Rattle.arrays.proofs.Test.{and-parts, and-both}
 use Rattle.arrays.specs.Set.{put}
-use Rattle.model.specs.Tree.{mst, lengthOf, treeLength}
+use Rattle.model.specs.Tree.{mst}
+use Rattle.model.specs.Tail.{lengthWith, treeLengthWith}
 use Rattle.model.specs.State.{State, points, Placed, Valid, prune}
 use Rattle.model.specs.Round.{RoundAnswer, finished, tap, RoundResult, withSteiner, round, Ended, roundsFrom, finish}
 use Rattle.model.specs.Choice.{Candidate}
@@ -22,9 +23,9 @@ use Rattle.model.specs.Question.{lengthOfState}
 use Rattle.model.specs.Session.{RoundsTo, ended, added, NoShorter}
 use Rattle.arrays.proofs.Set.{put-in, put-sorted, put-or-free}
 use Rattle.model.proofs.Tree.{put-tree}
-use Rattle.model.proofs.Prune.{points-in, points-rise, prune-leaves, prune-valid}
+use Rattle.model.proofs.Prune.{points-in, points-rise, prune-leaves, pruned-with-tails, prune-valid}
 use Rattle.model.proofs.Choice.{Choice, none-saves, some-chosen, best-choice, saved-shorter, unsaved-longer, no-more-saved}
-use Rattle.model.proofs.Grid.{grid-theorem}
+use Rattle.model.proofs.Grid.{grid-with-tails}
 
 -- The points with one more Steiner point.
 pub points-with : (s : State) (c : Point) → Sorted Lower (s .steiner) → points (withSteiner c s) ≡ put lower c (points s)
@@ -66,80 +67,80 @@ with-placed s h c k =
     }
 
 -- What a round does: it is finished and no candidate shortens the tree, or it adds a candidate that does, and prunes.
-pub data Rounded (s : State) : RoundResult → Type 0 where
-  stays : ((c : Point) → Candidate (points s) c → treeLength (points s) ≤ treeLength (put lower c (points s)))
-      → Rounded s (record { next = s; answer = finished })
-  adds : (c : Point) → Candidate (points s) c → treeLength (put lower c (points s)) < treeLength (points s)
-      → Rounded s (record { next = prune (withSteiner c s); answer = tap c (treeLength (points s) - treeLength (points (prune (withSteiner c s)))) })
+pub data Rounded (tail : ℕ) (s : State) : RoundResult → Type 0 where
+  stays : ((c : Point) → Candidate (points s) c → treeLengthWith tail (points s) ≤ treeLengthWith tail (put lower c (points s)))
+      → Rounded tail s (record { next = s; answer = finished })
+  adds : (c : Point) → Candidate (points s) c → treeLengthWith tail (put lower c (points s)) < treeLengthWith tail (points s)
+      → Rounded tail s (record { next = prune (withSteiner c s); answer = tap c (treeLengthWith tail (points s) - treeLengthWith tail (points (prune (withSteiner c s)))) })
 
-pub round-view : (s : State) → Rounded s (round s)
+pub round-view : (tail : ℕ) (s : State) → Rounded tail s (round tail s)
 unfolding round
-round-view s = go (best-choice (points s))
+round-view tail s = go (best-choice tail (points s))
   where
-    go : {o : Option Point} → Choice (points s) o
-        → Rounded s (elim o as (λ _. RoundResult) [
+    go : {o : Option Point} → Choice tail (points s) o
+        → Rounded tail s (elim o as (λ _. RoundResult) [
           | none ↦ record { next = s; answer = finished }
-          | some c ↦ record { next = prune (withSteiner c s); answer = tap c (treeLength (points s) - treeLength (points (prune (withSteiner c s)))) }
+          | some c ↦ record { next = prune (withSteiner c s); answer = tap c (treeLengthWith tail (points s) - treeLengthWith tail (points (prune (withSteiner c s)))) }
         ])
-    go (none-saves f) = stays (λ c k. unsaved-longer (points s) c (f c k))
-    go (some-chosen c h) = adds c (h .candidate) (saved-shorter (points s) c (h .saves))
+    go (none-saves f) = stays (λ c k. unsaved-longer tail (points s) c (f c k))
+    go (some-chosen c h) = adds c (h .candidate) (saved-shorter tail (points s) c (h .saves))
 
 -- After a round that adds c the tree is no longer than with c alone: the fall is at least the saving.
-pub prune-shorter : (s : State) → Valid s → (c : Point) → Candidate (points s) c
-    → treeLength (points (prune (withSteiner c s))) ≤ treeLength (put lower c (points s))
-prune-shorter s v c k =
-    subst (λ (z : List Point). treeLength (points (prune (withSteiner c s))) ≤ treeLength z) (points-with s c (v .placed .steinerRise))
-    (prune-leaves (withSteiner c s) (h .steinerRise) (h .apart) .shorter)
+pub prune-shorter : (tail : ℕ) (s : State) → Valid s → (c : Point) → Candidate (points s) c
+    → treeLengthWith tail (points (prune (withSteiner c s))) ≤ treeLengthWith tail (put lower c (points s))
+prune-shorter tail s v c k =
+    subst (λ (z : List Point). treeLengthWith tail (points (prune (withSteiner c s))) ≤ treeLengthWith tail z) (points-with s c (v .placed .steinerRise))
+    (pruned-with-tails tail (withSteiner c s) (prune (withSteiner c s)) (prune-leaves (withSteiner c s) (h .steinerRise) (h .apart)) (h .steinerRise))
   where
     h : Placed (withSteiner c s)
     h = with-placed s (v .placed) c k
 
-pub round-valid : (s : State) → Valid s → Valid (round s .next)
-round-valid s v = go (round-view s)
+pub round-valid : (tail : ℕ) (s : State) → Valid s → Valid (round tail s .next)
+round-valid tail s v = go (round-view tail s)
   where
-    go : {r : RoundResult} → Rounded s r → Valid (r .next)
+    go : {r : RoundResult} → Rounded tail s r → Valid (r .next)
     go (stays f) = v
     go (adds c k h) = prune-valid (withSteiner c s) (v .few) (with-placed s (v .placed) c k)
 
 -- A round that names a tap takes 1 cm off the tree at least, and its answer says how much.
-pub round-falls : (s : State) → Valid s → (c : Point) (fall : ℕ) → round s .answer ≡ tap c fall
-    → (1 ≤ fall) × (lengthOfState (round s .next) + fall ≡ lengthOfState s) × (lengthOfState s ≤ treeLength (put lower c (points s)) + fall)
-round-falls s v c fall e = go (round-view s) e
+pub round-falls : (tail : ℕ) (s : State) → Valid s → (c : Point) (fall : ℕ) → round tail s .answer ≡ tap c fall
+    → (1 ≤ fall) × (lengthOfState tail (round tail s .next) + fall ≡ lengthOfState tail s) × (lengthOfState tail s ≤ treeLengthWith tail (put lower c (points s)) + fall)
+round-falls tail s v c fall e = go (round-view tail s) e
   where
-    go : {r : RoundResult} → Rounded s r → r .answer ≡ tap c fall
-        → (1 ≤ fall) × (treeLength (points (r .next)) + fall ≡ treeLength (points s)) × (treeLength (points s) ≤ treeLength (put lower c (points s)) + fall)
+    go : {r : RoundResult} → Rounded tail s r → r .answer ≡ tap c fall
+        → (1 ≤ fall) × (treeLengthWith tail (points (r .next)) + fall ≡ treeLengthWith tail (points s)) × (treeLengthWith tail (points s) ≤ treeLengthWith tail (put lower c (points s)) + fall)
     go (stays f) q = absurd (let z : _≡_ {A = ℕ} 0 1 = cc in omega arith)
     go (adds d k h) q =
         let ec : d ≡ c = cc in
-        let ef : treeLength (points s) - treeLength (points (prune (withSteiner d s))) ≡ fall = cc in
-        let m = prune-shorter s v d k in (
+        let ef : treeLengthWith tail (points s) - treeLengthWith tail (points (prune (withSteiner d s))) ≡ fall = cc in
+        let m = prune-shorter tail s v d k in (
           omega arith,
           omega arith,
-          subst (λ (z : Point). treeLength (points s) ≤ treeLength (put lower z (points s)) + fall) ec (omega arith),
+          subst (λ (z : Point). treeLengthWith tail (points s) ≤ treeLengthWith tail (put lower z (points s)) + fall) ec (omega arith),
         )
 
 -- Finished exactly if no whole point shortens the tree.
-pub round-finished : (s : State) → Valid s → (round s .answer ≡ finished) ↔ ((q : Point) → ¬ List·Memᴰ q (points s) → NoShorter s q)
-round-finished s v = go (round-view s)
+pub round-finished : (tail : ℕ) (s : State) → Valid s → (round tail s .answer ≡ finished) ↔ ((q : Point) → ¬ List·Memᴰ q (points s) → NoShorter tail s q)
+round-finished tail s v = go (round-view tail s)
   where
     rise : Sorted Lower (points s)
     rise = points-rise s (v .placed .steinerRise)
 
-    go : {r : RoundResult} → Rounded s r → (r .answer ≡ finished) ↔ ((q : Point) → ¬ List·Memᴰ q (points s) → NoShorter s q)
-    go (stays f) = (λ e q far t tree. grid-theorem (points s) rise f q far t tree, λ g. refl)
+    go : {r : RoundResult} → Rounded tail s r → (r .answer ≡ finished) ↔ ((q : Point) → ¬ List·Memᴰ q (points s) → NoShorter tail s q)
+    go (stays f) = (λ e q far t tree. grid-with-tails tail (points s) rise f q far t tree, λ g. refl)
     go (adds c k h) = (
       λ e. absurd (let z : _≡_ {A = ℕ} 0 1 = cc in omega arith),
       λ g. absurd (omega (arith, g c (k .free) (mst (put lower c (points s))) (put-tree (points s) rise c), with-length)),
     )
       where
-        with-length : treeLength (put lower c (points s)) ≡ lengthOf (mst (put lower c (points s)))
-        with-length = unfold treeLength in refl
+        with-length : treeLengthWith tail (put lower c (points s)) ≡ lengthWith tail (mst (put lower c (points s)))
+        with-length = unfold treeLengthWith in refl
 
 -- Where a round is finished, the tree of the points and one more, held already or not, is at least as long.
-pub finished-least : (s : State) → Valid s → round s .answer ≡ finished → (c : Point) → lengthOfState s ≤ treeLength (put lower c (points s))
-unfolding treeLength
-finished-least s v e c =
-    ⊎-elim (λ same. omega (arith, ap treeLength same)) (λ free. round-finished s v .0 e c free (mst (put lower c (points s))) (put-tree (points s) rise c))
+pub finished-least : (tail : ℕ) (s : State) → Valid s → round tail s .answer ≡ finished → (c : Point) → lengthOfState tail s ≤ treeLengthWith tail (put lower c (points s))
+unfolding treeLengthWith
+finished-least tail s v e c =
+    ⊎-elim (λ same. omega (arith, ap (treeLengthWith tail) same)) (λ free. round-finished tail s v .0 e c free (mst (put lower c (points s))) (put-tree (points s) rise c))
     (put-or-free lower lower-order c (points s) rise)
   where
     rise : Sorted Lower (points s)
@@ -147,81 +148,81 @@ finished-least s v e c =
 
 -- After a round the tree is at most as long as that of the points before it and any one point d on the x of a held point and the y of a held
 -- point: no candidate saves more than the one chosen.
-pub round-best : (s : State) → Valid s → (d : Point) → (a : Point) × List·Memᴰ a (points s) × (d .x ≡ a .x)
-    → (b : Point) × List·Memᴰ b (points s) × (d .y ≡ b .y) → lengthOfState (round s .next) ≤ treeLength (put lower d (points s))
+pub round-best : (tail : ℕ) (s : State) → Valid s → (d : Point) → (a : Point) × List·Memᴰ a (points s) × (d .x ≡ a .x)
+    → (b : Point) × List·Memᴰ b (points s) × (d .y ≡ b .y) → lengthOfState tail (round tail s .next) ≤ treeLengthWith tail (put lower d (points s))
 unfolding round
-round-best s v d onX onY = go (best-choice (points s)) (put-or-free lower lower-order d (points s) (points-rise s (v .placed .steinerRise)))
+round-best tail s v d onX onY = go (best-choice tail (points s)) (put-or-free lower lower-order d (points s) (points-rise s (v .placed .steinerRise)))
   where
     candidate : ¬ List·Memᴰ d (points s) → Candidate (points s) d
     candidate free = record { onX = onX; onY = onY; free = free }
 
-    go : {o : Option Point} → Choice (points s) o → (put lower d (points s) ≡ points s) ⊎ ¬ List·Memᴰ d (points s)
-        → lengthOfState (elim o as (λ _. RoundResult) [
+    go : {o : Option Point} → Choice tail (points s) o → (put lower d (points s) ≡ points s) ⊎ ¬ List·Memᴰ d (points s)
+        → lengthOfState tail (elim o as (λ _. RoundResult) [
           | none ↦ record { next = s; answer = finished }
-          | some c ↦ record { next = prune (withSteiner c s); answer = tap c (treeLength (points s) - treeLength (points (prune (withSteiner c s)))) }
-        ] .next) ≤ treeLength (put lower d (points s))
-    go (none-saves f) (inl same) = omega (arith, ap treeLength same)
-    go (none-saves f) (inr free) = unsaved-longer (points s) d (f d (candidate free))
+          | some c ↦ record { next = prune (withSteiner c s); answer = tap c (treeLengthWith tail (points s) - treeLengthWith tail (points (prune (withSteiner c s)))) }
+        ] .next) ≤ treeLengthWith tail (put lower d (points s))
+    go (none-saves f) (inl same) = omega (arith, ap (treeLengthWith tail) same)
+    go (none-saves f) (inr free) = unsaved-longer tail (points s) d (f d (candidate free))
     go (some-chosen c h) (inl same) =
-        omega (arith, ap treeLength same, prune-shorter s v c (h .candidate), saved-shorter (points s) c (h .saves))
+        omega (arith, ap (treeLengthWith tail) same, prune-shorter tail s v c (h .candidate), saved-shorter tail (points s) c (h .saves))
     go (some-chosen c h) (inr free) =
-        omega (arith, prune-shorter s v c (h .candidate), no-more-saved (points s) c d (h .most d (candidate free)))
+        omega (arith, prune-shorter tail s v c (h .candidate), no-more-saved tail (points s) c d (h .most d (candidate free)))
 
 -- A tree of no length can't be shortened, so its round is finished.
-finished-at-zero : (s : State) → lengthOfState s ≤ 0 → round s .answer ≡ finished
-finished-at-zero s h = go (round-view s)
+finished-at-zero : (tail : ℕ) (s : State) → lengthOfState tail s ≤ 0 → round tail s .answer ≡ finished
+finished-at-zero tail s h = go (round-view tail s)
   where
-    go : {r : RoundResult} → Rounded s r → r .answer ≡ finished
+    go : {r : RoundResult} → Rounded tail s r → r .answer ≡ finished
     go (stays f) = refl
     go (adds c k g) = absurd (omega arith)
 
 -- The rounds of a run to the end, with enough of them allowed.
-rounds-from : (k : ℕ) (s : State) → Valid s → lengthOfState s ≤ k
-    → RoundsTo s (roundsFrom k s .count) (roundsFrom k s .final) × (roundsFrom k s .count ≤ lengthOfState s)
+rounds-from : (tail k : ℕ) (s : State) → Valid s → lengthOfState tail s ≤ k
+    → RoundsTo tail s (roundsFrom tail k s .count) (roundsFrom tail k s .final) × (roundsFrom tail k s .count ≤ lengthOfState tail s)
 unfolding roundsFrom
-rounds-from zero s v h = (ended (finished-at-zero s h), omega arith)
-rounds-from (suc k) s v h =
-    go (round s .answer) refl (λ g. rounds-from k (round s .next) (round-valid s v) g)
+rounds-from tail zero s v h = (ended (finished-at-zero tail s h), omega arith)
+rounds-from tail (suc k) s v h =
+    go (round tail s .answer) refl (λ g. rounds-from tail k (round tail s .next) (round-valid tail s v) g)
   where
     next : State
-    next = round s .next
+    next = round tail s .next
 
     result : RoundAnswer → Ended
     result a =
-        let e = roundsFrom k (round s .next) in
+        let e = roundsFrom tail k (round tail s .next) in
         elim a [ finished ↦ record { final = s; count = 0 } | tap c fall ↦ record { final = e .final; count = suc (e .count) } ]
 
-    go : (a : RoundAnswer) → round s .answer ≡ a
-        → (lengthOfState (round s .next) ≤ k → RoundsTo (round s .next) (roundsFrom k (round s .next) .count) (roundsFrom k (round s .next) .final)
-        × (roundsFrom k (round s .next) .count ≤ lengthOfState (round s .next)))
-        → RoundsTo s (result a .count) (result a .final) × (result a .count ≤ lengthOfState s)
+    go : (a : RoundAnswer) → round tail s .answer ≡ a
+        → (lengthOfState tail (round tail s .next) ≤ k → RoundsTo tail (round tail s .next) (roundsFrom tail k (round tail s .next) .count) (roundsFrom tail k (round tail s .next) .final)
+        × (roundsFrom tail k (round tail s .next) .count ≤ lengthOfState tail (round tail s .next)))
+        → RoundsTo tail s (result a .count) (result a .final) × (result a .count ≤ lengthOfState tail s)
     go finished e rec = (ended e, omega arith)
     go (tap c fall) e rec =
-        let f = round-falls s v c fall e in
+        let f = round-falls tail s v c fall e in
         let r = rec (omega arith) in
         (added e (r .0), omega arith)
 
-pub finish-rounds : (s : State) → Valid s → RoundsTo s (finish s .count) (finish s .final) × (finish s .count ≤ lengthOfState s)
+pub finish-rounds : (tail : ℕ) (s : State) → Valid s → RoundsTo tail s (finish tail s .count) (finish tail s .final) × (finish tail s .count ≤ lengthOfState tail s)
 unfolding finish
-finish-rounds s v = rounds-from (treeLength (points s)) s v (le-refl (treeLength (points s)))
+finish-rounds tail s v = rounds-from tail (treeLengthWith tail (points s)) s v (le-refl (treeLengthWith tail (points s)))
 
 -- Rounds alone keep a state valid.
-pub rounds-valid : {s r : State} {k : ℕ} → RoundsTo s k r → Valid s → Valid r
+pub rounds-valid : {tail : ℕ} {s r : State} {k : ℕ} → RoundsTo tail s k r → Valid s → Valid r
 rounds-valid (ended e) v = v
-rounds-valid (added {s = s} e t) v = rounds-valid t (round-valid s v)
+rounds-valid {tail = tail} (added {s = s} e t) v = rounds-valid t (round-valid tail s v)
 
 -- Rounds alone keep the pins, and end where a round is finished.
-pub round-pins : (s : State) → Valid s → round s .next .pins ≡ s .pins
-round-pins s v = go (round-view s)
+pub round-pins : (tail : ℕ) (s : State) → Valid s → round tail s .next .pins ≡ s .pins
+round-pins tail s v = go (round-view tail s)
   where
-    go : {r : RoundResult} → Rounded s r → r .next .pins ≡ s .pins
+    go : {r : RoundResult} → Rounded tail s r → r .next .pins ≡ s .pins
     go (stays f) = refl
     go (adds c k h) = let p = with-placed s (v .placed) c k in prune-leaves (withSteiner c s) (p .steinerRise) (p .apart) .pins
 
-pub rounds-pins : {s r : State} {k : ℕ} → RoundsTo s k r → Valid s → r .pins ≡ s .pins
+pub rounds-pins : {tail : ℕ} {s r : State} {k : ℕ} → RoundsTo tail s k r → Valid s → r .pins ≡ s .pins
 rounds-pins (ended e) v = refl
-rounds-pins (added {s = s} e t) v = rounds-pins t (round-valid s v) ∙ round-pins s v
+rounds-pins {tail = tail} (added {s = s} e t) v = rounds-pins t (round-valid tail s v) ∙ round-pins tail s v
 
-pub rounds-finished : {s r : State} {k : ℕ} → RoundsTo s k r → round r .answer ≡ finished
+pub rounds-finished : {tail : ℕ} {s r : State} {k : ℕ} → RoundsTo tail s k r → round tail r .answer ≡ finished
 rounds-finished (ended e) = e
 rounds-finished (added e t) = rounds-finished t

@@ -1,17 +1,17 @@
 -- The claim on sessions: the contents that a list of calls leads to are valid, and of a valid state the rest holds.
 use mathlib.Core.List.{List·Memᴰ·not-nil as not-nil}
-use Prim.Native.Nat.{_≤_}
+use Prim.Native.Nat.{ℕ, _≤_}
 use native.Mathlib.Omega.{arith}
 use lib.ListN.{length}
 use Rattle.arrays.specs.Order.{Sorted}
 use Rattle.plane.specs.Point.{Lower}
-use Rattle.model.specs.Tree.{treeLength}
+use Rattle.model.specs.Tail.{longestTail, treeLengthWith}
 use Rattle.model.specs.State.{State, empty, points, Valid}
 use Rattle.model.specs.Contents.{Contents, emptyContents, ValidContents}
 use Rattle.model.specs.Call.{contentsAfter}
 use Rattle.model.specs.Session.{StartContents, fresh, file, SessionState, SessionContents, Sessions, mostPoints}
 use Rattle.model.proofs.Tree.{mst-run-tree}
-use Rattle.model.proofs.Cover.{mst-least}
+use Rattle.model.proofs.TailClaim.{least-with-tails}
 use Rattle.model.proofs.Prune.{points-rise}
 use Rattle.model.proofs.Candidate.{candidates-are}
 use Rattle.model.proofs.Round.{round-finished, finish-rounds}
@@ -42,19 +42,19 @@ pub start-valid : (c : Contents) → StartContents c → ValidContents c
 start-valid c fresh = empty-contents
 start-valid c (file b e) = file-valid b c e
 
-pub valid-session : (s : State) → Valid s → SessionState s
-unfolding treeLength
-valid-session s v =
+pub valid-session : (tail : ℕ) (s : State) → Valid s → tail ≤ longestTail → SessionState tail s
+unfolding treeLengthWith
+valid-session tail s v h =
     record {
       tree = mst-run-tree (points s) rise .tree;
-      least = mst-least (points s) rise;
-      finish-exact = round-finished s v;
-      rounds-end = finish-rounds s v .0;
-      rounds-few = finish-rounds s v .1;
+      least = least-with-tails tail (points s) rise;
+      finish-exact = round-finished tail s v;
+      rounds-end = finish-rounds tail s v .0;
+      rounds-few = finish-rounds tail s v .1;
       points-few = few;
       round-few = λ c i. round-few s v c (candidates-are (points s) c .0 i);
-      length-fits = length-bound (points s) rise (omega (arith, few)) (held-range s v);
-      round-fits = λ c i. round-fits s v c (candidates-are (points s) c .0 i);
+      length-fits = length-bound tail h (points s) rise (omega (arith, few)) (held-range s v);
+      round-fits = λ c i. round-fits s v c (candidates-are (points s) c .0 i) tail h;
     }
   where
     rise : Sorted Lower (points s)
@@ -64,7 +64,7 @@ valid-session s v =
     few = points-few s v
 
 pub valid-contents : (c : Contents) → ValidContents c → SessionContents c
-valid-contents c v = record { valid = v; state = valid-session (c .state) (v .state) }
+valid-contents c v = record { valid = v; state = valid-session (c .tail) (c .state) (v .state) (v .tailed) }
 
 pub sessions : Sessions
 sessions c start calls = valid-contents (contentsAfter c calls) (after-valid calls c (start-valid c start))

@@ -12,13 +12,14 @@ use Rattle.plane.proofs.Order.{lower-order}
 use Rattle.arrays.specs.Set.{out}
 use Rattle.model.specs.State.{State, Placed, Valid, withPin, insert, remove, maxPins}
 use Rattle.model.specs.DeviceKinds.{sensor, largestKind}
-use Rattle.model.specs.Contents.{Contents, following, ValidContents}
-use Rattle.model.specs.Call.{addChecks, withdrawChecks, insertRefusal, removeRefusal}
-use Rattle.model.specs.Call.{Call, add, withdraw, oneRound, runToEnd, unless, step, contentsAfter}
+use Rattle.model.specs.Contents.{Contents, withTail, following, ValidContents}
+use Rattle.model.specs.Tail.{longestTail}
+use Rattle.model.specs.Call.{addChecks, withdrawChecks, tailChecks, insertRefusal, removeRefusal, tailRefusal}
+use Rattle.model.specs.Call.{Call, add, withdraw, oneRound, runToEnd, setTail, unless, step, contentsAfter}
 use Rattle.arrays.proofs.Set.{put-in, put-sorted, put-length, out-in, out-sorted, out-length, has-in, has-not}
 use Rattle.model.proofs.Prune.{prune-valid}
 use Rattle.model.proofs.Refusal.{all-passed}
-use Rattle.model.proofs.DeviceKinds.{keeping-valid, following-valid}
+use Rattle.model.proofs.DeviceKinds.{keeping-valid, with-tail-valid, following-valid}
 use Rattle.model.proofs.Round.{round-valid, round-pins, finish-rounds, rounds-valid, rounds-pins}
 
 -- Adding is not refused: the point is in range, the kind is one, no pin stands there, and there is room.
@@ -42,6 +43,10 @@ insert-allowed p k s e =
 pub remove-allowed : (p : Point) (s : State) → removeRefusal p s ≡ none → List·Memᴰ p (s .pins)
 unfolding removeRefusal
 remove-allowed p s e = has-in lower lower-order p (s .pins) .0 (all-passed (withdrawChecks p s) .0 e .0)
+
+pub tail-allowed : (tail : ℕ) → tailRefusal tail ≡ none → tail ≤ longestTail
+unfolding tailRefusal
+tail-allowed tail e = leb→le tail longestTail (all-passed (tailChecks tail) .0 e .0)
 
 pub with-pin-placed : (p : Point) (s : State) → Placed s → T (inRange p) → Placed (withPin p s)
 with-pin-placed p s h r =
@@ -86,10 +91,11 @@ step-valid c (add p k) v =
 step-valid c (withdraw p) v =
     unless-valid (removeRefusal p (c .state)) c (λ _. following sensor c (remove p (c .state))) v
     (λ e. following-valid sensor (omega arith) v (remove-valid p (c .state) (v .state) (remove-allowed p (c .state) e)))
-step-valid c oneRound v = keeping-valid v (round-valid (c .state) (v .state)) (round-pins (c .state) (v .state))
+step-valid c oneRound v = keeping-valid v (round-valid (c .tail) (c .state) (v .state)) (round-pins (c .tail) (c .state) (v .state))
 step-valid c runToEnd v =
-    let rounds = finish-rounds (c .state) (v .state) .0 in
+    let rounds = finish-rounds (c .tail) (c .state) (v .state) .0 in
     keeping-valid v (rounds-valid rounds (v .state)) (rounds-pins rounds (v .state))
+step-valid c (setTail tail) v = unless-valid (tailRefusal tail) c (λ _. withTail tail c) v (λ e. with-tail-valid v (tail-allowed tail e))
 
 pub after-valid : (calls : List Call) (c : Contents) → ValidContents c → ValidContents (contentsAfter c calls)
 unfolding contentsAfter

@@ -24,11 +24,12 @@ use Rattle.plane.proofs.Order.{lower-order}
 use Rattle.plane.proofs.Axis.{connected-perimeter}
 use Rattle.plane.proofs.Three.{MiddlePoint, middle-point, NoShorterOver, settled-point}
 use Rattle.model.specs.Tree.{mst, treeLength}
+use Rattle.model.specs.Tail.{noTail, treeLengthWith}
 use Rattle.model.specs.State.{State, points, Valid}
 use Rattle.model.specs.Round.{finished, round, finish}
-use Rattle.model.specs.Question.{lengthOfState}
 use Rattle.model.specs.Session.{RoundsTo}
 use Rattle.model.proofs.Tree.{mst-run-tree, tree-edges}
+use Rattle.model.proofs.Tail.{no-tails, tree-no-tails}
 use Rattle.model.proofs.Hub.{by-hub, by-two}
 use Rattle.model.proofs.Prune.{points-in, points-rise, few-steiner}
 use Rattle.model.proofs.Replace.{star, edge-star, star-length}
@@ -48,6 +49,15 @@ third = tail second
 same-members : {k l : List Point} {z : Point} → Each (In l) k → Each (In k) l → List·Memᴰ z k ↔ List·Memᴰ z l
 same-members {k} {l} f g = (mem-each (In l) k f, mem-each (In k) l g)
 
+-- What a round without tails says of the distances.
+finished-flat : (s : State) → Valid s → round noTail s .answer ≡ finished → (c : Point) → treeLength (points s) ≤ treeLength (put lower c (points s))
+finished-flat s v e c = omega (arith, finished-least noTail s v e c, tree-no-tails (points s), tree-no-tails (put lower c (points s)))
+
+round-best-flat : (s : State) → Valid s → (d : Point) → (a : Point) × List·Memᴰ a (points s) × (d .x ≡ a .x)
+    → (b : Point) × List·Memᴰ b (points s) × (d .y ≡ b .y) → treeLength (points (round noTail s .next)) ≤ treeLength (put lower d (points s))
+round-best-flat s v d onX onY =
+    omega (arith, round-best noTail s v d onX onY, tree-no-tails (points (round noTail s .next)), tree-no-tails (put lower d (points s)))
+
 module _ (s : State) (v : Valid s) (p q r : Point) (pins : (u : Point) → List·Memᴰ u (s .pins) ↔ List·Memᴰ u (p ∷ q ∷ r ∷ [])) where
   held : (u : Point) → List·Memᴰ u (p ∷ q ∷ r ∷ []) → List·Memᴰ u (points s)
   held u i = points-in s u .1 (inl (pins u .1 i))
@@ -56,7 +66,7 @@ module _ (s : State) (v : Valid s) (p q r : Point) (pins : (u : Point) → List�
   rise = points-rise s (v .placed .steinerRise)
 
   -- No tree over the pins is shorter than the half perimeter, so that a tree which is at most as long is exactly as long.
-  exactly : lengthOfState s ≤ halfPerimeter (p ∷ q ∷ r ∷ []) → lengthOfState s ≡ halfPerimeter (p ∷ q ∷ r ∷ [])
+  exactly : treeLength (points s) ≤ halfPerimeter (p ∷ q ∷ r ∷ []) → treeLength (points s) ≡ halfPerimeter (p ∷ q ∷ r ∷ [])
   unfolding treeLength
   exactly h =
       le-antisymm h
@@ -81,8 +91,8 @@ module _ (s : State) (v : Valid s) (p q r : Point) (pins : (u : Point) → List�
               (λ u i. ⊎-elim inl (λ j. inr (pin u j)) (put-in lower lower-order (m .at) u (points s) .0 i)),
         )
 
-    bare-finished : round s .answer ≡ finished → lengthOfState s ≡ halfPerimeter (p ∷ q ∷ r ∷ [])
-    bare-finished e = exactly (le-trans (finished-least s v e (middle-point p q r .at)) with-middle)
+    bare-finished : round noTail s .answer ≡ finished → treeLength (points s) ≡ halfPerimeter (p ∷ q ∷ r ∷ [])
+    bare-finished e = exactly (le-trans (finished-flat s v e (middle-point p q r .at)) with-middle)
 
   -- With one tap, c.
   module _ (c : Point) (tapped : s .steiner ≡ c ∷ []) where
@@ -144,7 +154,7 @@ module _ (s : State) (v : Valid s) (p q r : Point) (pins : (u : Point) → List�
         go (bwd e m h w) =
             edge-star c u (mst (points s)) e m (⊎-elim (λ k. inl (k, h)) (λ k. absurd (apart (h ∙ sym k))) (at-tap e m))
 
-    edges-at-tap : dist c p + dist c q + dist c r ≤ lengthOfState s
+    edges-at-tap : dist c p + dist c q + dist c r ≤ treeLength (points s)
     unfolding total treeLength
     edges-at-tap =
         omega (
@@ -154,7 +164,7 @@ module _ (s : State) (v : Valid s) (p q r : Point) (pins : (u : Point) → List�
         )
 
     -- Joining another point d to the tap and to two of the pins, u and w, is no shorter: the edge from the tap to the third pin, x, stays.
-    no-shorter-over : round s .answer ≡ finished → (d u w x : Point) → dist c u + dist c w + dist c x ≡ dist c p + dist c q + dist c r
+    no-shorter-over : round noTail s .answer ≡ finished → (d u w x : Point) → dist c u + dist c w + dist c x ≡ dist c p + dist c q + dist c r
         → ((z : Point) → List·Memᴰ z (x ∷ u ∷ w ∷ []) ↔ List·Memᴰ z (p ∷ q ∷ r ∷ [])) → NoShorterOver d c u w
     unfolding total
     no-shorter-over e d u w x sum order =
@@ -162,7 +172,7 @@ module _ (s : State) (v : Valid s) (p q r : Point) (pins : (u : Point) → List�
           arith,
           sum,
           edges-at-tap,
-          finished-least s v e d,
+          finished-flat s v e d,
           by-two (put lower d (points s)) (put-sorted lower lower-order d (points s) rise) d c x (c ∷ u ∷ w ∷ [])
               (put-in lower lower-order d d (points s) .1 (inl refl)) (within x (tail (order x .0 first))) first
               (λ z i. within z (⊎-elim head (λ j. tail (order z .0 (tail j))) (cases i)))
@@ -176,7 +186,7 @@ module _ (s : State) (v : Valid s) (p q r : Point) (pins : (u : Point) → List�
         in-front : {z : Point} → List·Memᴰ z (x ∷ u ∷ w ∷ []) → List·Memᴰ z (x ∷ c ∷ u ∷ w ∷ [])
         in-front i = ⊎-elim head (λ j. tail (tail j)) (cases i)
 
-    tapped-finished : round s .answer ≡ finished → lengthOfState s ≡ halfPerimeter (p ∷ q ∷ r ∷ [])
+    tapped-finished : round noTail s .answer ≡ finished → treeLength (points s) ≡ halfPerimeter (p ∷ q ∷ r ∷ [])
     unfolding total
     tapped-finished e =
         exactly (omega (
@@ -190,23 +200,23 @@ module _ (s : State) (v : Valid s) (p q r : Point) (pins : (u : Point) → List�
         ))
 
   -- Finished, whatever taps there are: they are two fewer than pins at most, so that there is none or one.
-  pub finished-perimeter : round s .answer ≡ finished → lengthOfState s ≡ halfPerimeter (p ∷ q ∷ r ∷ [])
+  pub finished-perimeter : round noTail s .answer ≡ finished → treeLength (points s) ≡ halfPerimeter (p ∷ q ∷ r ∷ [])
   finished-perimeter e = go (s .steiner) refl
     where
       few : length (s .pins) ≤ 3
       few =
           some-members-length (s .pins) (p ∷ q ∷ r ∷ []) (sorted-distinct lower-order (s .pins) (v .placed .pinsRise)) (λ u i. pins u .0 i)
 
-      go : (l : List Point) → s .steiner ≡ l → lengthOfState s ≡ halfPerimeter (p ∷ q ∷ r ∷ [])
+      go : (l : List Point) → s .steiner ≡ l → treeLength (points s) ≡ halfPerimeter (p ∷ q ∷ r ∷ [])
       go [] h = bare-finished h e
       go (c ∷ []) h = tapped-finished c h e
       go (c ∷ b ∷ l) h = absurd (⊎-elim (λ k. omega (arith, ap length h)) (λ k. omega (arith, ap length h, few)) (few-steiner s v))
 
   -- The other way round: a state of that length is finished, since no further point can make its tree shorter.
-  pub perimeter-finished : lengthOfState s ≡ halfPerimeter (p ∷ q ∷ r ∷ []) → round s .answer ≡ finished
+  pub perimeter-finished : treeLength (points s) ≡ halfPerimeter (p ∷ q ∷ r ∷ []) → round noTail s .answer ≡ finished
   perimeter-finished e =
-      round-finished s v .1 (λ d far t tree. rw e (connected-perimeter (p ∷ q ∷ r ∷ []) t
-      (λ a b i j. tree .spans a b (tail (held a i)) (tail (held b j)))))
+      round-finished noTail s v .1 (λ d far t tree. omega (arith, e, tree-no-tails (points s), no-tails t,
+      connected-perimeter (p ∷ q ∷ r ∷ []) t (λ a b i j. tree .spans a b (tail (held a i)) (tail (held b j)))))
 
 -- Where rounds lead from three pins, which they keep.
 module _ (s : State) (v : Valid s) (p q r : Point) (pins : (u : Point) → List·Memᴰ u (s .pins) ↔ List·Memᴰ u (p ∷ q ∷ r ∷ [])) where
@@ -214,18 +224,18 @@ module _ (s : State) (v : Valid s) (p q r : Point) (pins : (u : Point) → List�
   keeps-pins t e u = subst⁻¹ (λ (l : List Point). List·Memᴰ u l ↔ List·Memᴰ u (p ∷ q ∷ r ∷ [])) e (pins u)
 
   -- A run to the end comes to the half perimeter.
-  pub end-perimeter : lengthOfState (finish s .final) ≡ halfPerimeter (p ∷ q ∷ r ∷ [])
+  pub end-perimeter : treeLength (points (finish noTail s .final)) ≡ halfPerimeter (p ∷ q ∷ r ∷ [])
   end-perimeter =
-      finished-perimeter (finish s .final) (rounds-valid f v) p q r (keeps-pins (finish s .final) (rounds-pins f v)) (rounds-finished f)
+      finished-perimeter (finish noTail s .final) (rounds-valid f v) p q r (keeps-pins (finish noTail s .final) (rounds-pins f v)) (rounds-finished f)
     where
-      f : RoundsTo s (finish s .count) (finish s .final)
-      f = finish-rounds s v .0
+      f : RoundsTo noTail s (finish noTail s .count) (finish noTail s .final)
+      f = finish-rounds noTail s v .0
 
   -- Without a tap one round does: no candidate saves more than the one chosen, nor does the middle point.
-  pub round-perimeter : s .steiner ≡ [] → lengthOfState (round s .next) ≡ halfPerimeter (p ∷ q ∷ r ∷ [])
+  pub round-perimeter : s .steiner ≡ [] → treeLength (points (round noTail s .next)) ≡ halfPerimeter (p ∷ q ∷ r ∷ [])
   round-perimeter bare =
-      exactly (round s .next) (round-valid s v) p q r (keeps-pins (round s .next) (round-pins s v))
-      (le-trans (round-best s v (m .at) (line (m .onX)) (line (m .onY))) (with-middle s v p q r pins bare))
+      exactly (round noTail s .next) (round-valid noTail s v) p q r (keeps-pins (round noTail s .next) (round-pins noTail s v))
+      (le-trans (round-best-flat s v (m .at) (line (m .onX)) (line (m .onY))) (with-middle s v p q r pins bare))
     where
       m : MiddlePoint p q r
       m = middle-point p q r

@@ -176,7 +176,9 @@ any-order l m h =
     (λ p i. set-of-in lower lower-order l p .1 (h p .1 (set-of-in lower lower-order m p .0 i))))
 
 -- A tree has one edge less than points, and none where there is no point.
+pub any-tree-edges : (ps : List Point) → Sorted Lower ps → (t : List Edge) → Tree planar ps t → length t ≡ length ps - 1
+any-tree-edges [] rise t h = omega (arith, ap length (tree-none planar t h))
+any-tree-edges (p ∷ l) rise t h = omega (arith, tree-count planar (p ∷ l) t (sorted-distinct lower-order (p ∷ l) rise) h (omega arith))
+
 pub tree-edges : (ps : List Point) → Sorted Lower ps → length (mst ps) ≡ length ps - 1
-tree-edges [] rise = omega (arith, ap length (tree-none planar (mst []) (mst-run-tree [] rise .tree)))
-tree-edges (p ∷ l) rise =
-    omega (arith, tree-count planar (p ∷ l) (mst (p ∷ l)) (sorted-distinct lower-order (p ∷ l) rise) (mst-run-tree (p ∷ l) rise .tree) (omega arith))
+tree-edges ps rise = any-tree-edges ps rise (mst ps) (mst-run-tree ps rise .tree)

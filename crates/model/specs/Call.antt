@@ -10,7 +10,8 @@ use Rattle.arrays.specs.Set.{has}
 use Rattle.model.specs.Refusal.{Check, check, firstFailed}
 use Rattle.model.specs.State.{State, insert, remove, maxPins}
 use Rattle.model.specs.DeviceKinds.{sensor, isKind}
-use Rattle.model.specs.Contents.{Contents, keeping, following}
+use Rattle.model.specs.Contents.{Contents, withTail, keeping, following}
+use Rattle.model.specs.Tail.{isTail}
 use Rattle.model.specs.Round.{RoundAnswer, round, finish}
 
 -- Whether a pin stands at p.
@@ -31,19 +32,27 @@ addChecks p k s =
 abbrev pub withdrawChecks : Point → State → List Check
 withdrawChecks p s = check 9 (λ _. holdsPin p s) ∷ []
 
--- The refusals of adding and withdrawing.
+-- The check of setting the tail length (SPEC 8.3): at most the longest.
+abbrev pub tailChecks : ℕ → List Check
+tailChecks tail = check 16 (λ _. isTail tail) ∷ []
+
+-- The refusals of adding, withdrawing and setting the tail length.
 unfoldable pub insertRefusal : Point → ℕ → State → Option ℕ
 insertRefusal p k s = firstFailed (addChecks p k s)
 
 unfoldable pub removeRefusal : Point → State → Option ℕ
 removeRefusal p s = firstFailed (withdrawChecks p s)
 
--- The calls that change a deck (SPEC 4.2 to 4.5). Adding names a place and a kind.
+unfoldable pub tailRefusal : ℕ → Option ℕ
+tailRefusal tail = firstFailed (tailChecks tail)
+
+-- The calls that change a deck (SPEC 4.2 to 4.5, 4.8). Adding names a place and a kind, and setting the tail its length.
 pub data Call : Type 0 where
   add : Point → ℕ → Call
   withdraw : Point → Call
   oneRound : Call
   runToEnd : Call
+  setTail : ℕ → Call
 
 -- What a call answers (SPEC 4, 8.3): done, a refusal by its number, a round's answer, or how many rounds named a tap.
 pub data Reply : Type 0 where
@@ -62,12 +71,13 @@ abbrev pub unless : Option ℕ → Contents → (Unit {0} → Contents) → Outc
 unless none c after = record { next = after tt; reply = done }
 unless (some n) c after = record { next = c; reply = refused n }
 
--- A call on the contents of a deck (SPEC 4.2 to 4.5): the contents that follow and the reply.
+-- A call on the contents of a deck (SPEC 4.2 to 4.5, 4.8): the contents that follow and the reply.
 unfoldable pub step : Contents → Call → Outcome
 step c (add p k) = unless (insertRefusal p k (c .state)) c (λ _. following k c (insert p (c .state)))
 step c (withdraw p) = unless (removeRefusal p (c .state)) c (λ _. following sensor c (remove p (c .state)))
-step c oneRound = let r = round (c .state) in record { next = keeping c (r .next); reply = answered (r .answer) }
-step c runToEnd = let e = finish (c .state) in record { next = keeping c (e .final); reply = rounds (e .count) }
+step c oneRound = let r = round (c .tail) (c .state) in record { next = keeping c (r .next); reply = answered (r .answer) }
+step c runToEnd = let e = finish (c .tail) (c .state) in record { next = keeping c (e .final); reply = rounds (e .count) }
+step c (setTail tail) = unless (tailRefusal tail) c (λ _. withTail tail c)
 
 -- The contents after a list of calls, with the points that SPEC 6.1 reckons.
 unfoldable pub contentsAfter : Contents → List Call → Contents

@@ -1,4 +1,4 @@
--- When adding and withdrawing are refused, number by number (SPEC 8.3), apart from the list of checks that works it out.
+-- When adding, withdrawing and setting the tail length are refused, number by number (SPEC 8.3), apart from the list of checks that works it out.
 use mathlib.Core.Path.{_≡_}
 use mathlib.Core.Logic.{_⊎_, _↔_}
 use mathlib.Core.List.{List·Memᴰ}
@@ -7,7 +7,7 @@ use lib.Dec.{T}
 use lib.ListN.{length}
 use Rattle.plane.specs.Point.{Point, inRange}
 use Rattle.model.specs.Contents.{Contents}
-use Rattle.model.specs.Call.{Call, add, withdraw, done, refused, step}
+use Rattle.model.specs.Call.{Call, add, withdraw, setTail, done, refused, step}
 
 -- A call on the contents c is refused by n.
 abbrev pub RefusedBy : Contents → Call → ℕ → Type 0
@@ -30,3 +30,9 @@ pub record WithdrawRefusals (c : Contents) (p : Point) : Type 0 where
   pub noPin : RefusedBy c (withdraw p) 9 ↔ ¬ List·Memᴰ p (c .state .pins)
   pub taken : (step c (withdraw p) .reply ≡ done) ↔ List·Memᴰ p (c .state .pins)
   pub others : (n : ℕ) → RefusedBy c (withdraw p) n → n ≡ 9
+
+-- Setting the tail length: 16 above 500, which stands here once more for the same reason.
+pub record TailRefusals (c : Contents) (tail : ℕ) : Type 0 where
+  pub tooLong : RefusedBy c (setTail tail) 16 ↔ (501 ≤ tail)
+  pub taken : (step c (setTail tail) .reply ≡ done) ↔ (tail ≤ 500)
+  pub others : (n : ℕ) → RefusedBy c (setTail tail) n → n ≡ 16

@@ -3,13 +3,14 @@
 use mathlib.Core.Path.{_≡_}
 use mathlib.Core.Logic.{_⊎_}
 use mathlib.Core.List.{List, List·Memᴰ}
-use Prim.Native.Nat.{_≤_}
+use Prim.Native.Nat.{ℕ, _≤_}
 use lib.Dec.{T}
 use lib.IntN.{ℤ, pos}
 use lib.Signed.{ltZ}
 use Rattle.plane.specs.Point.{Point, Lower}
 use Rattle.plane.specs.Edge.{Edge}
-use Rattle.model.specs.Tree.{treeLength, edgesAt, TheTree}
+use Rattle.model.specs.Tree.{edgesAt, TheTree}
+use Rattle.model.specs.Tail.{treeLengthWith}
 use Rattle.model.specs.State.{State, points, without}
 use Rattle.model.specs.Round.{saving}
 
@@ -20,15 +21,15 @@ pub record Candidate (ps : List Point) (c : Point) : Type 0 where
   pub free : ¬ List·Memᴰ c ps
 
 -- What c saves of the tree of ps (SPEC 4.4).
-abbrev pub saved : List Point → Point → ℤ
-saved ps c = saving (treeLength ps) ps c
+abbrev pub saved : ℕ → List Point → Point → ℤ
+saved tail ps c = saving tail (treeLengthWith tail ps) ps c
 
 -- The candidate that a round adds (SPEC 4.4): it saves something, none saves more, and it is lower than any other that saves as much.
-pub record Chosen (ps : List Point) (c : Point) : Type 0 where
+pub record Chosen (tail : ℕ) (ps : List Point) (c : Point) : Type 0 where
   pub candidate : Candidate ps c
-  pub saves : T (ltZ (pos 0) (saved ps c))
-  pub most : (d : Point) → Candidate ps d → ¬ T (ltZ (saved ps c) (saved ps d))
-  pub lowest : (d : Point) → Candidate ps d → saved ps d ≡ saved ps c → (d ≡ c) ⊎ Lower c d
+  pub saves : T (ltZ (pos 0) (saved tail ps c))
+  pub most : (d : Point) → Candidate ps d → ¬ T (ltZ (saved tail ps c) (saved tail ps d))
+  pub lowest : (d : Point) → Candidate ps d → saved tail ps d ≡ saved tail ps c → (d ≡ c) ⊎ Lower c d
 
 -- The lowest weak tap (SPEC 4.1): of the points l, q has at most two edges in t, and every other such point is higher.
 pub record LowestWeak (t : List Edge) (l : List Point) (q : Point) : Type 0 where

@@ -13,12 +13,13 @@ use Rattle.plane.specs.Box.{extreme, spread, halfPerimeter}
 use Rattle.arrays.specs.Beside.{beside}
 use Rattle.arrays.specs.Set.{put, out, has, union, rising, all, passing}
 use Rattle.model.specs.Refusal.{firstFailed}
-use Rattle.model.specs.Tree.{pairs, edges, mst, treeLength}
+use Rattle.model.specs.Tree.{pairs, edges, mst}
+use Rattle.model.specs.Tail.{noTail, treeLengthWith}
 use Rattle.model.specs.State.{points, placed, valid, lowestWeak, pruneFrom, prune, insert, remove}
-use Rattle.model.specs.Contents.{Contents, holding}
+use Rattle.model.specs.Contents.{Contents, withTail, holding}
 use Rattle.model.specs.Round.{column, crossings, notHeld, candidates, saving, bestAbove, best, round, roundsFrom, finish}
-use Rattle.model.specs.Call.{Call, Reply, insertRefusal, removeRefusal, step}
-use Rattle.model.specs.Question.{lengthOfState, listed}
+use Rattle.model.specs.Call.{Call, Reply, insertRefusal, removeRefusal, tailRefusal, step}
+use Rattle.model.specs.Question.{lengthOfContents, listed}
 use Rattle.model.specs.KindLength.{runKind, kindLengths}
 use Rattle.arrays.specs.Same.{sameList}
 use Rattle.model.specs.Sections.{pairsFrom, header, sectionFile, follow, laidOut}
@@ -37,14 +38,14 @@ trace replies lengths last runs = record { replies = replies; lengths = lengths;
 
 -- The trace of calls from the contents of a deck.
 unfoldable pub play : Contents → List Call → Trace
-unfolding total degree comp kruskal lower gap dist pointDec before listedBefore planar put out has union pairs edges mst treeLength points lowestWeak
+unfolding total degree comp kruskal lower gap dist pointDec before listedBefore planar put out has union pairs edges mst treeLengthWith points lowestWeak
     pruneFrom prune insert remove column crossings notHeld candidates saving bestAbove best round roundsFrom finish firstFailed insertRefusal
-    removeRefusal beside step listed
-play c [] = trace [] (lengthOfState (c .state) ∷ []) c (listed (c .state))
+    removeRefusal tailRefusal beside step listed
+play c [] = trace [] (lengthOfContents c ∷ []) c (listed (c .state))
 play c (k ∷ ks) =
     let o = step c k in
     let t = play (o .next) ks in
-    trace (o .reply ∷ t .replies) (lengthOfState (c .state) ∷ t .lengths) (t .last) (t .runs)
+    trace (o .reply ∷ t .replies) (lengthOfContents c ∷ t .lengths) (t .last) (t .runs)
 
 -- What reading a list of bytes gives.
 unfoldable pub reads : List ℕ → Read
@@ -96,13 +97,13 @@ unfoldable pub filed : Contents → Read
 unfolding reads flatten pairsFrom header sectionFile fileOf
 filed c = reads (fileOf c)
 
--- The file of the last contents of a row of calls reads back to them.
+-- The file of the last contents of a row of calls reads back to them, without their tails.
 abbrev pub Filed : TableRow → Type 0
-Filed (deckRow r) = filed (r .shows .last) ≡ deck (r .shows .last)
+Filed (deckRow r) = filed (r .shows .last) ≡ deck (withTail noTail (r .shows .last))
 Filed (octantRow differences numbers) = Unit {0}
 Filed (fileRow b r) = Unit {0}
 Filed (boxRow ps n) = Unit {0}
-Filed (lengthsRow c lengths) = filed c ≡ deck c
+Filed (lengthsRow c lengths) = filed c ≡ deck (withTail noTail c)
 
 -- An offset and a length, both below 65,536, as eight bytes of a file's header: `pair 30 827` is 30 0 0 0 59 3 0 0.
 abbrev pub pair : ℕ → ℕ → List ℕ

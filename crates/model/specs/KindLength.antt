@@ -7,10 +7,11 @@ use lib.Dec.{eqb}
 use Rattle.arrays.specs.Set.{passing}
 use Rattle.spanning.specs.Graph.{total}
 use Rattle.plane.specs.Point.{Point}
-use Rattle.plane.specs.Edge.{Edge, edgeLength}
+use Rattle.plane.specs.Edge.{Edge}
 use Rattle.model.specs.DeviceKinds.{sensor, largestKind}
 use Rattle.model.specs.Contents.{Contents, kindAt}
-use Rattle.model.specs.Question.{listed, lengthOfState}
+use Rattle.model.specs.Tail.{runLength}
+use Rattle.model.specs.Question.{listed, lengthOfContents}
 
 -- The kind of a run: the larger of the kinds at its two ends. `kindAt` is that of a sensor where no pin stands, so a tap counts as one.
 unfoldable pub runKind : Contents → Edge → ℕ
@@ -22,7 +23,7 @@ ofKind c k l = passing (λ (e : Edge). eqb (runKind c e) k) l
 
 -- How long those of some runs are together that are of kind k.
 abbrev pub lengthIn : Contents → List Edge → ℕ → ℕ
-lengthIn c l k = total edgeLength (ofKind c k l)
+lengthIn c l k = total (runLength (c .tail)) (ofKind c k l)
 
 -- The length of a kind: how long its runs are together, of all runs listed.
 abbrev pub kindLength : Contents → ℕ → ℕ
@@ -50,4 +51,4 @@ pub record KindLengths (c : Contents) : Type 0 where
   pub oneKind : (e : Edge) (j k : ℕ) → RunKind c e j → RunKind c e k → j ≡ k
   pub known : (e : Edge) → (k : ℕ) × RunKind c e k × (k ≤ largestKind)
   -- the three lengths are the whole length
-  pub sum : kindLength c 0 + kindLength c 1 + kindLength c 2 ≡ lengthOfState (c .state)
+  pub sum : kindLength c 0 + kindLength c 1 + kindLength c 2 ≡ lengthOfContents c

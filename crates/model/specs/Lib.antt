@@ -20,5 +20,8 @@ pub mod Table
 pub mod TableFiles
 pub mod TableKinds
 pub mod TableMore
+pub mod TableTail
 pub mod TableThreePins
+pub mod Tail
+pub mod TailClaim
 pub mod Tree

@@ -6,10 +6,10 @@ use lib.IntN.{ℤ, pos, negsuc}
 use Rattle.arrays.specs.Test.{if}
 use Rattle.arrays.specs.Text.{bytes, byte}
 use Rattle.plane.specs.Point.{Point}
-use Rattle.plane.specs.Edge.{Edge, edgeLength}
-use Rattle.model.specs.State.{State}
+use Rattle.plane.specs.Edge.{Edge}
 use Rattle.model.specs.Contents.{Contents}
-use Rattle.model.specs.Question.{listed, lengthOfState, pinCount, steinerCount}
+use Rattle.model.specs.Tail.{runLength}
+use Rattle.model.specs.Question.{listed, lengthOfContents, pinCount, steinerCount}
 use Rattle.model.specs.KindLength.{kindLength}
 use Rattle.model.specs.File.{Read, deck, refusal, readFile}
 use Rattle.model.specs.Call.{runToEnd, step}
@@ -69,8 +69,8 @@ abbrev pub numbersLine : List ℕ → ℕ → ℕ → ℕ → List ℕ
 numbersLine w a b c = w ++ (numberFields a b c ++ (lineFeed ∷ []))
 
 -- The first line: pins, taps and length (SPEC 9.2).
-abbrev pub headLine : State → List ℕ
-headLine s = numbersLine deckWord (pinCount s) (steinerCount s) (lengthOfState s)
+abbrev pub headLine : Contents → List ℕ
+headLine c = numbersLine deckWord (pinCount (c .state)) (steinerCount (c .state)) (lengthOfContents c)
 
 -- The second: the lengths of the kinds 0, 1 and 2 (SPEC 9.2).
 abbrev pub kindsLine : Contents → List ℕ
@@ -81,15 +81,15 @@ unfoldable pub tapLines : List Point → List ℕ
 tapLines [] = []
 tapLines (q ∷ l) = tapWord ++ (pointFields q ++ (lineFeed ∷ tapLines l))
 
--- A line for each run: its ends and its length (SPEC 9.2).
-unfoldable pub runLines : List Edge → List ℕ
-runLines [] = []
-runLines (e ∷ l) =
-    runWord ++ (pointFields (e .lo) ++ (pointFields (e .hi) ++ (field (decimal (edgeLength e)) ++ (lineFeed ∷ runLines l))))
+-- A line for each run: its ends and its length, with tails (SPEC 9.2).
+unfoldable pub runLines : ℕ → List Edge → List ℕ
+runLines tail [] = []
+runLines tail (e ∷ l) =
+    runWord ++ (pointFields (e .lo) ++ (pointFields (e .hi) ++ (field (decimal (runLength tail e)) ++ (lineFeed ∷ runLines tail l))))
 
 -- The listing of the contents of a deck (SPEC 9.2).
 unfoldable pub listing : Contents → List ℕ
-listing c = let s = c .state in headLine s ++ (kindsLine c ++ (tapLines (s .steiner) ++ runLines (listed s)))
+listing c = headLine c ++ (kindsLine c ++ (tapLines (c .state .steiner) ++ runLines (c .tail) (listed (c .state))))
 
 -- The line of a refusal (SPEC 9.1).
 abbrev pub refusedLine : ℕ → List ℕ

@@ -6,16 +6,21 @@ use lib.ListN.{length, getElem?}
 use Rattle.plane.specs.Point.{Point}
 use Rattle.plane.specs.Edge.{Edge, listedBefore}
 use Rattle.arrays.specs.Set.{setOf}
-use Rattle.model.specs.Tree.{mst, treeLength, edgesAt}
+use Rattle.model.specs.Tree.{mst, edgesAt}
+use Rattle.model.specs.Tail.{treeLengthWith}
 use Rattle.model.specs.State.{State, points}
+use Rattle.model.specs.Contents.{Contents}
 
 -- The tree of a state (SPEC 2.2).
 abbrev pub treeOf : State → List Edge
 treeOf s = mst (points s)
 
--- The length of a state's tree.
-abbrev pub lengthOfState : State → ℕ
-lengthOfState s = treeLength (points s)
+-- The length of a state's tree with tails of some length, and of a deck's (SPEC 1.5).
+abbrev pub lengthOfState : ℕ → State → ℕ
+lengthOfState tail s = treeLengthWith tail (points s)
+
+abbrev pub lengthOfContents : Contents → ℕ
+lengthOfContents c = lengthOfState (c .tail) (c .state)
 
 -- The runs in the listing order (SPEC 2.3).
 unfoldable pub listed : State → List Edge

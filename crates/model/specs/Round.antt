@@ -1,4 +1,4 @@
--- The round (SPEC 4.4) and the run to the end (SPEC 4.5).
+-- The round (SPEC 4.4) and the run to the end (SPEC 4.5), with tails of some length.
 use mathlib.Core.Option.{Option, none, some}
 use mathlib.Core.List.{List, [], _∷_, _++_, map}
 use Prim.Native.Nat.{ℕ, zero, suc, _-_}
@@ -7,7 +7,7 @@ use lib.Signed.{ltZ}
 use Rattle.arrays.specs.Test.{if}
 use Rattle.plane.specs.Point.{Point, lower}
 use Rattle.arrays.specs.Set.{put, has, setOf}
-use Rattle.model.specs.Tree.{treeLength}
+use Rattle.model.specs.Tail.{treeLengthWith}
 use Rattle.model.specs.State.{State, points, prune}
 
 -- The points of one column: this x with each y, lower first.
@@ -31,19 +31,19 @@ candidates ps =
     (crossings (setOf ltZ (map (λ (p : Point). p .x) ps)) (setOf ltZ (map (λ (p : Point). p .y) ps)))
 
 -- The saving of a candidate c (SPEC 4.4): `now`, the tree's length, less the length with c. It can be below 0.
-unfoldable pub saving : ℕ → List Point → Point → ℤ
-saving now ps c = subℕ now (treeLength (put lower c ps))
+unfoldable pub saving : ℕ → ℕ → List Point → Point → ℤ
+saving tail now ps c = subℕ now (treeLengthWith tail (put lower c ps))
 
 -- Of the candidates, the lowest of greatest saving above `top`, else what was found before.
-unfoldable pub bestAbove : ℕ → List Point → ℤ → Option Point → List Point → Option Point
-bestAbove now ps top found [] = found
-bestAbove now ps top found (c ∷ cs) =
-    let v = saving now ps c in
-    if (ltZ top v) (λ _. bestAbove now ps v (some c) cs) (λ _. bestAbove now ps top found cs)
+unfoldable pub bestAbove : ℕ → ℕ → List Point → ℤ → Option Point → List Point → Option Point
+bestAbove tail now ps top found [] = found
+bestAbove tail now ps top found (c ∷ cs) =
+    let v = saving tail now ps c in
+    if (ltZ top v) (λ _. bestAbove tail now ps v (some c) cs) (λ _. bestAbove tail now ps top found cs)
 
 -- The candidate that a round chooses (SPEC 4.4): the lowest of those with the greatest saving; none where no saving is above 0.
-unfoldable pub best : List Point → Option Point
-best ps = bestAbove (treeLength ps) ps (pos 0) none (candidates ps)
+unfoldable pub best : ℕ → List Point → Option Point
+best tail ps = bestAbove tail (treeLengthWith tail ps) ps (pos 0) none (candidates ps)
 
 -- The answer of a round (SPEC 4.4): finished, or the new tap and the fall in length.
 pub data RoundAnswer : Type 0 where
@@ -61,12 +61,12 @@ withSteiner c s = record { pins = s .pins; steiner = put lower c (s .steiner) }
 
 -- A round (SPEC 4.4): finished where no candidate is chosen, and then the state stays; else the candidate joins the taps, a sweep follows,
 -- and the answer names it with the fall in length over both.
-unfoldable pub round : State → RoundResult
-round s =
-    elim (best (points s)) [
+unfoldable pub round : ℕ → State → RoundResult
+round tail s =
+    elim (best tail (points s)) [
       | none ↦ record { next = s; answer = finished }
       | some c ↦ let s′ = prune (withSteiner c s) in
-          record { next = s′; answer = tap c (treeLength (points s) - treeLength (points s′)) }
+          record { next = s′; answer = tap c (treeLengthWith tail (points s) - treeLengthWith tail (points s′)) }
     ]
 
 -- Where a run to the end comes to, and how many of its rounds added a tap.
@@ -75,15 +75,15 @@ pub record Ended : Type 0 where
   pub count : ℕ
 
 -- At most k rounds that add a tap, up to the first that is finished; `count` is how many added one.
-unfoldable pub roundsFrom : ℕ → State → Ended
-roundsFrom zero s = record { final = s; count = 0 }
-roundsFrom (suc k) s =
-    let r = round s in
+unfoldable pub roundsFrom : ℕ → ℕ → State → Ended
+roundsFrom tail zero s = record { final = s; count = 0 }
+roundsFrom tail (suc k) s =
+    let r = round tail s in
     elim (r .answer) [
       | finished ↦ record { final = s; count = 0 }
-      | tap c fall ↦ let e = roundsFrom k (r .next) in record { final = e .final; count = suc (e .count) }
+      | tap c fall ↦ let e = roundsFrom tail k (r .next) in record { final = e .final; count = suc (e .count) }
     ]
 
 -- The run to the end (SPEC 4.5). No more rounds can add a tap than the tree has centimetres.
-unfoldable pub finish : State → Ended
-finish s = roundsFrom (treeLength (points s)) s
+unfoldable pub finish : ℕ → State → Ended
+finish tail s = roundsFrom tail (treeLengthWith tail (points s)) s

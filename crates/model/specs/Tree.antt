@@ -22,11 +22,11 @@ edges ps = setOf before (pairs ps)
 unfoldable pub mst : List Point → List Edge
 mst ps = kruskal planar [] (edges ps)
 
--- The length of a list of edges (SPEC 1.5).
+-- The distances of a list of edges together: their length without tails.
 abbrev pub lengthOf : List Edge → ℕ
 lengthOf t = total edgeLength t
 
--- The length of the tree of a set of points.
+-- The same of the tree of a set of points.
 unfoldable pub treeLength : List Point → ℕ
 treeLength ps = lengthOf (mst ps)
 
@@ -40,7 +40,7 @@ pub record RunTree (ps : List Point) (t : List Edge) : Type 0 where
   pub rising : (e : Edge) → List·Memᴰ e t → Rising e
   pub sorted : Sorted Before t
 
--- THE tree (SPEC 2.2): no tree is shorter, and of those as long it comes first.
+-- THE tree (SPEC 2.2), without tails: no tree is shorter, and of those as long it comes first. Tails change nothing of it (TailClaim.antt).
 pub record TheTree (ps : List Point) (t : List Edge) : Type 0 where
   pub tree : RunTree ps t
   pub least : (u : List Edge) → RunTree ps u → lengthOf t ≤ lengthOf u

@@ -19,7 +19,7 @@ Rising e = Lower (e .lo) (e .hi)
 unfoldable pub joining : Point → Point → Edge
 joining p q = if (lower p q) (λ _. record { lo = p; hi = q }) (λ _. record { lo = q; hi = p })
 
--- The length of a run (SPEC 1.4).
+-- The distance of the ends of a run, which is its length without tails (SPEC 1.4).
 abbrev pub edgeLength : Edge → ℕ
 edgeLength e = dist (e .lo) (e .hi)
 
