@@ -5,6 +5,7 @@ use points::MAX_PINS;
 use points::kinds::LARGEST_KIND;
 use points::kinds::SENSOR;
 use rounds::Step;
+use working::deck::LONGEST_TAIL;
 use working::deck::WorkingDeck;
 use working::deck::follow;
 ghost use mathlib.Core.Path.{_≡_};
@@ -141,12 +142,13 @@ pub fn round(d: WorkingDeck) -> Changed
     requires { ⌜ ValidContents (contentsOf d) ⌝ }
     ensures { λ r. ⌜ ChangedBy d call.oneRound r ⌝ }
 {
-    let t = rounds::round_of(d.form);
+    let t = rounds::round_of(d.form, d.tail);
     let form = t.working;
     let step = t.step;
     let kinds = d.kinds;
+    let tail = d.tail;
     Changed {
-        working: WorkingDeck { form, kinds },
+        working: WorkingDeck { form, kinds, tail },
         reply: reply_of(step),
     }
 }
@@ -157,11 +159,33 @@ pub fn run_to_end(d: WorkingDeck) -> Changed
     requires { ⌜ ValidContents (contentsOf d) ⌝ }
     ensures { λ r. ⌜ ChangedBy d call.runToEnd r ⌝ }
 {
-    let e = rounds::finish_of(d.form);
+    let e = rounds::finish_of(d.form, d.tail);
     let form = e.working;
     let kinds = d.kinds;
+    let tail = d.tail;
     Changed {
-        working: WorkingDeck { form, kinds },
+        working: WorkingDeck { form, kinds, tail },
         reply: Reply::Rounds(e.count),
+    }
+}
+
+// Sets the tail length. Returns the deck with that tail, and the reply: done, or refusal 16.
+pub fn set_tail(d: WorkingDeck, tail: u32) -> Changed
+    requires { ⌜ InOrder (d .form) ⌝ }
+    ensures { λ r. ⌜ ChangedBy d (call.setTail tail) r ⌝ }
+{
+    let given = tail as u64;
+    if LONGEST_TAIL < given {
+        return refuse(d, 16);
+    }
+    let form = d.form;
+    let kinds = d.kinds;
+    Changed {
+        working: WorkingDeck {
+            form,
+            kinds,
+            tail: given,
+        },
+        reply: Reply::Done,
     }
 }

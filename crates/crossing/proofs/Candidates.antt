@@ -2,7 +2,7 @@
 -- coordinate and its whole number come in the same order.
 use mathlib.Core.Path.{_≡_, refl, sym, ap, _∙_}
 use mathlib.Core.List.{List, [], map}
-use Prim.Native.Nat.{ℕ, _≤_}
+use Prim.Native.Nat.{ℕ, _+_, _*_, _≤_, _<_}
 use native.Mathlib.Omega.{arith}
 use lib.Dec.{ltb}
 use lib.IntN.{ℤ}
@@ -15,7 +15,7 @@ use Rattle.plane.proofs.Stored.{coordinate-less}
 use Rattle.arrays.specs.Set.{union, setOf}
 use Rattle.model.specs.Round.{crossings, notHeld, candidates, bestAbove, best}
 use Rattle.arrays.proofs.SetMap.{union-map}
-use Rattle.arrays.proofs.Tab.{tab-map}
+use Rattle.arrays.proofs.Tab.{tab-length, tab-map}
 use Rattle.keys.specs.Held.{held}
 use Rattle.arrays.specs.Tab.{tab}
 use Rattle.tree.proofs.Sorted.{ps-sorted}
@@ -33,17 +33,19 @@ module _ (at : ℕ → Point) (f : Point → ℤ) (l : List ℕ) (e : (i : ℕ) 
       ∙ union-map coordinate ltb ltZ (λ _. Unit {0}) (λ a b _ _. sym (coordinate-less a b)) nat-order (take n l) [] (λ a i. tt) (λ a i. tt)
       ∙ ap (setOf ltZ) (sym (tab-map at f coordinate l e n h))
 
--- From the tree itself, over all crossings, the best candidate is found.
-pub best-found : {xs ys : List ℕ} {n : ℕ} {keys : List ℕ} {m : ℕ} {columns : List ℕ} {width : ℕ} {rows : List ℕ} {count : ℕ} → TreeGiven xs ys n keys m
-    → Lines xs n columns width → Lines ys n rows count → {r : Greatest}
-    → r ≡ tryAll (pointsOf xs ys n) (record { gain = far; best = Nothing }) (crossings (map coordinate (take width columns)) (map coordinate (take count rows)))
-    → r .best ≡ answerOf (best (pointsOf xs ys n))
-best-found {xs} {ys} {n} p cs rs e =
+-- From the bar, over all crossings, the best candidate is found.
+pub best-found : (tail : ℕ) {xs ys : List ℕ} {n : ℕ} {keys : List ℕ} {m : ℕ} {columns : List ℕ} {width : ℕ} {rows : List ℕ} {count : ℕ}
+    → TreeGiven xs ys n keys m → 0 < n → Lines xs n columns width → Lines ys n rows count → {r : Greatest}
+    → r ≡ tryAll (pointsOf xs ys n) (record { gain = far + 2 * tail; best = Nothing })
+    (crossings (map coordinate (take width columns)) (map coordinate (take count rows)))
+    → r .best ≡ answerOf (best tail (pointsOf xs ys n))
+best-found tail {xs} {ys} {n} p some cs rs e =
     let cx = lines-are (held xs ys) (λ (q : Point). q .x) xs (λ i. refl) n (p .inXs) cs in
     let ry = lines-are (held xs ys) (λ (q : Point). q .y) ys (λ i. refl) n (p .inYs) rs in
-    ap (λ (s : Greatest). s .best) ((rw (cx, ry) at e) ∙ try-crossings (pointsOf xs ys n) (ps-sorted (held xs ys) n (omega arith) (p .rises)))
+    ap (λ (s : Greatest). s .best) ((rw (cx, ry) at e) ∙ try-crossings tail (pointsOf xs ys n) (ps-sorted (held xs ys) n (omega arith) (p .rises))
+    (omega (arith, tab-length (held xs ys) n)))
 
 -- With no point there is no crossing.
-pub none-best : (xs ys : List ℕ) (n : ℕ) → n ≡ 0 → Nothing ≡ answerOf (best (pointsOf xs ys n))
+pub none-best : (tail : ℕ) (xs ys : List ℕ) (n : ℕ) → n ≡ 0 → Nothing ≡ answerOf (best tail (pointsOf xs ys n))
 unfolding best candidates notHeld crossings bestAbove tab union
-none-best xs ys n e = rw e refl
+none-best tail xs ys n e = rw e refl

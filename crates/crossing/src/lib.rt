@@ -12,14 +12,16 @@ use search::all_columns;
 use search::found::Best;
 use search::found::Greatest;
 ghost use mathlib.Core.Path.{_≡_};
-ghost use Prim.Native.Nat.{_<_};
+ghost use Prim.Native.Nat.{_≤_, _<_};
+ghost use Rattle.model.specs.Tail.{longestTail};
 ghost use Rattle.model.specs.Round as round;
 ghost use Rattle.search.specs.Search.{TreeGiven, pointsOf, answerOf};
 
-// The best crossing of a tree of at least one point, by the search over all crossings.
-fn search_all(xs: &[u16], ys: &[u16], n: usize, keys: &[u64], m: usize) -> Best
-    requires { ⌜ TreeGiven (now xs) (now ys) n (now keys) m × (0 < n) ⌝ }
-    ensures { λ r. ⌜ r ≡ answerOf (round.best (pointsOf (now (xs .entry)) (now (ys .entry)) n)) ⌝ }
+// The best crossing of a tree of at least one point, by the search over all crossings. A crossing brings one run more, with its two tails, and has to
+// spare them too: that is the bar that the search starts from.
+fn search_all(xs: &[u16], ys: &[u16], n: usize, keys: &[u64], m: usize, tail: u64) -> Best
+    requires { ⌜ TreeGiven (now xs) (now ys) n (now keys) m × (0 < n) × (tail ≤ longestTail) ⌝ }
+    ensures { λ r. ⌜ r ≡ answerOf (round.best tail (pointsOf (now (xs .entry)) (now (ys .entry)) n)) ⌝ }
 {
     let mut table = blank();
     let mut gaps = blank();
@@ -39,7 +41,7 @@ fn search_all(xs: &[u16], ys: &[u16], n: usize, keys: &[u64], m: usize) -> Best
     let mut columns = [0u16; PLACES];
     let width = lines(xs, n, &mut columns);
     let start = Greatest {
-        gain: FAR,
+        gain: FAR + 2 * tail,
         best: Best::Nothing,
     };
     let end = all_columns(
@@ -57,13 +59,13 @@ fn search_all(xs: &[u16], ys: &[u16], n: usize, keys: &[u64], m: usize) -> Best
     end.best
 }
 
-// Returns the crossing with the greatest saving, the lowest of several, or that none saves more than 0.
-pub fn best(xs: &[u16], ys: &[u16], n: usize, keys: &[u64], m: usize) -> Best
-    requires { ⌜ TreeGiven (now xs) (now ys) n (now keys) m ⌝ }
-    ensures { λ r. ⌜ r ≡ answerOf (round.best (pointsOf (now (xs .entry)) (now (ys .entry)) n)) ⌝ }
+// Returns the crossing with the greatest saving, the lowest of several, or that none saves more than 0, with tails.
+pub fn best(xs: &[u16], ys: &[u16], n: usize, keys: &[u64], m: usize, tail: u64) -> Best
+    requires { ⌜ TreeGiven (now xs) (now ys) n (now keys) m × (tail ≤ longestTail) ⌝ }
+    ensures { λ r. ⌜ r ≡ answerOf (round.best tail (pointsOf (now (xs .entry)) (now (ys .entry)) n)) ⌝ }
 {
     if n == 0 {
         return Best::Nothing;
     }
-    search_all(xs, ys, n, keys, m)
+    search_all(xs, ys, n, keys, m, tail)
 }

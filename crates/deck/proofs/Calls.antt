@@ -29,7 +29,7 @@ use Rattle.deck.proofs.Form.{sound-is, same-contents}
 pub checked-sound : (d : Deck) (r : Checked) → Checks (sound d) d r → r .ok ≡ true
     → Sound d × work.InOrder (r .working .form) × (workingDeck.contentsOf (r .working) ≡ contentsOf d)
 checked-sound d r c e =
-    (sound-is d .0 t, c .inOrder t, same-contents d (r .working) (c .points t) (c .kinds t))
+    (sound-is d .0 t, c .inOrder t, same-contents d (r .working) (c .points t) (c .kinds t) (c .tail t))
   where
     t : T (sound d)
     t = of-true (sym (c .ok) ∙ e)

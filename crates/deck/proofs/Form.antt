@@ -8,7 +8,7 @@ use Rattle.arrays.specs.Same.{sameList}
 use Rattle.arrays.proofs.Test.{and-parts, and-both}
 use Rattle.arrays.proofs.same.Alike.{same-refl, same-eq}
 use Rattle.model.specs.State.{maxPins}
-use Rattle.model.specs.Contents.{Contents, withKinds, ValidContents, validContents}
+use Rattle.model.specs.Contents.{Contents, withKinds, withTail, ValidContents, validContents}
 use Rattle.model.proofs.DeviceKinds.{valid-contents-is}
 use Rattle.points.specs.declared.Points.{Points}
 use Rattle.points.specs.Coded.{Arranged, coded, padded, stateOf as stateOfPoints}
@@ -23,7 +23,7 @@ use Rattle.deck.specs.Form.{deckOf, contentsOf, stateOf, Sound, samePoin
 -- The contents of the deck of valid contents are these.
 pub contents-deck : (c : Contents) → ValidContents c → contentsOf (deckOf c) ≡ c
 unfolding deckOf coded
-contents-deck c p = λ i. withKinds (state-coded (c .state) (p .state .placed) i) (kinds-read i)
+contents-deck c p = λ i. withTail (c .tail) (withKinds (state-coded (c .state) (p .state .placed) i) (kinds-read i))
   where
     kinds-read : take (length (c .state .pins)) (padded maxPins (c .kinds)) ≡ c .kinds
     kinds-read = padded-take maxPins (c .kinds) (length (c .state .pins)) (p .kindCount)
@@ -66,9 +66,10 @@ self-points q =
     (and-both (eqb (q .npins) (q .npins)) _ (eqb-refl (q .npins))
     (and-both (sameList (q .steiner) (q .steiner)) (eqb (q .nsteiner) (q .nsteiner)) (same-refl (q .steiner)) (eqb-refl (q .nsteiner))))
 
--- A deck in working form with the points and the kinds of a deck has its contents.
-pub same-contents : (d : Deck) (w : WorkingDeck) → w .form .points ≡ d .points → w .kinds ≡ d .kinds → workingDeck.contentsOf w ≡ contentsOf d
-same-contents d w e f = λ i. withKinds (stateOfPoints (e i)) (take (e i .npins) (f i))
+-- A deck in working form with the points, the kinds and the tail of a deck has its contents.
+pub same-contents : (d : Deck) (w : WorkingDeck) → w .form .points ≡ d .points → w .kinds ≡ d .kinds → w .tail ≡ d .tail
+    → workingDeck.contentsOf w ≡ contentsOf d
+same-contents d w e f g = λ i. withTail (g i) (withKinds (stateOfPoints (e i)) (take (e i .npins) (f i)))
 
 -- The test decides soundness.
 pub sound-is : (d : Deck) → T (sound d) ↔ Sound d
@@ -83,14 +84,17 @@ sound-is d = (
     self : T (sameDeck d d)
     self =
         and-both (samePoints (d .points) (d .points)) _ (self-points (d .points))
-        (and-both (sameList (d .kinds) (d .kinds)) (sameList (d .ends) (d .ends)) (same-refl (d .kinds)) (same-refl (d .ends)))
+        (and-both (sameList (d .kinds) (d .kinds)) _ (same-refl (d .kinds))
+        (and-both (eqb (d .tail) (d .tail)) (sameList (d .ends) (d .ends)) (eqb-refl (d .tail)) (same-refl (d .ends))))
 
     same : (e : Deck) → T (sameDeck d e) → d ≡ e
     same e t =
         let a = and-parts (samePoints (d .points) (e .points)) _ t in
-        let b = and-parts (sameList (d .kinds) (e .kinds)) (sameList (d .ends) (e .ends)) (a .1) in
+        let b = and-parts (sameList (d .kinds) (e .kinds)) _ (a .1) in
+        let c = and-parts (eqb (d .tail) (e .tail)) (sameList (d .ends) (e .ends)) (b .1) in
         λ i. record {
           points = same-points (d .points) (e .points) (a .0) i;
           kinds = same-eq (d .kinds) (e .kinds) (b .0) i;
-          ends = same-eq (d .ends) (e .ends) (b .1) i;
+          tail = eqb→eq (d .tail) (e .tail) (c .0) i;
+          ends = same-eq (d .ends) (e .ends) (c .1) i;
         }

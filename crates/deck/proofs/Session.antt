@@ -68,27 +68,32 @@ finished-reply finished e = refl
 finished-reply (tap p fall) e = let z : _≡_ {A = ℕ} 0 1 = cc in absurd (omega arith)
 
 module _ (c : Contents) (v : ValidContents c) where
-  round-reply : called (deckOf c) call.oneRound .reply ≡ replyOf (call.answered (round (c .state) .answer))
+  round-reply : called (deckOf c) call.oneRound .reply ≡ replyOf (call.answered (round (c .tail) (c .state) .answer))
   unfolding call.step
   round-reply = reply-valid c v call.oneRound
 
-  round-next : called (deckOf c) call.oneRound .next ≡ deckOf (keeping c (round (c .state) .next))
+  round-next : called (deckOf c) call.oneRound .next ≡ deckOf (keeping c (round (c .tail) (c .state) .next))
   unfolding call.step
   round-next = next-valid c v call.oneRound
 
-  pub finish-deck : (called (deckOf c) call.oneRound .reply ≡ Finished) ↔ (round (c .state) .answer ≡ finished)
+  pub finish-deck : (called (deckOf c) call.oneRound .reply ≡ Finished) ↔ (round (c .tail) (c .state) .answer ≡ finished)
   unfolding replyOf
   finish-deck =
-      (λ e. finished-reply (round (c .state) .answer) (sym round-reply ∙ e), λ e. round-reply ∙ ap (λ (a : RoundAnswer). replyOf (call.answered a)) e)
+      (λ e. finished-reply (round (c .tail) (c .state) .answer) (sym round-reply ∙ e), λ e. round-reply ∙ ap (λ (a : RoundAnswer). replyOf (call.answered a)) e)
 
--- Rounds alone on decks are those on states.
-pub rounds-deck : (c : Contents) {r : State} {k : ℕ} → ValidContents c → model.RoundsTo (c .state) k r → DeckRoundsTo (deckOf c) k (deckOf (keeping c r))
+-- Rounds alone on decks are those on states, with the kinds and the tail kept.
+rounds-along : (c : Contents) {s r : State} {k : ℕ} → ValidContents (keeping c s) → model.RoundsTo (c .tail) s k r
+    → DeckRoundsTo (deckOf (keeping c s)) k (deckOf (keeping c r))
 unfolding replyOf
-rounds-deck c v (model.ended e) = ended (finish-deck c v .1 e)
-rounds-deck c {r} v (model.added {k = k} e m) =
-    added {e = deckOf (keeping c r)} {k = k} (round-reply c v ∙ ap (λ (a : RoundAnswer). replyOf (call.answered a)) e)
-    (rw (round-next c v)
-    (rounds-deck (keeping c (round (c .state) .next)) (keeping-valid v (round-valid (c .state) (v .state)) (round-pins (c .state) (v .state))) m))
+rounds-along c {s} v (model.ended e) = ended (finish-deck (keeping c s) v .1 e)
+rounds-along c {s} {r} v (model.added {k = k} e m) =
+    added {e = deckOf (keeping c r)} {k = k} (round-reply (keeping c s) v ∙ ap (λ (a : RoundAnswer). replyOf (call.answered a)) e)
+    (rw (round-next (keeping c s) v)
+    (rounds-along c (keeping-valid v (round-valid (c .tail) s (v .state)) (round-pins (c .tail) s (v .state))) m))
+
+pub rounds-deck : (c : Contents) {r : State} {k : ℕ} → ValidContents c → model.RoundsTo (c .tail) (c .state) k r
+    → DeckRoundsTo (deckOf c) k (deckOf (keeping c r))
+rounds-deck c v m = rounds-along c v m
 
 pub valid-deck : (c : Contents) → ValidContents c → SessionDeck (deckOf c) c
 unfolding call.step replyOf
@@ -102,7 +107,7 @@ valid-deck c v =
       lengthIs = asked-valid c v ofLength;
       edge = λ i. asked-valid c v (ofEdge i);
       finish-exact = (λ e. m .finish-exact .0 (finish-deck c v .0 e), λ f. finish-deck c v .1 (m .finish-exact .1 f));
-      count = finish (c .state) .count;
+      count = finish (c .tail) (c .state) .count;
       counted = reply-valid c v call.runToEnd;
       rounds-end = rw (next-valid c v call.runToEnd) (rounds-deck c v (m .rounds-end));
       rounds-few = m .rounds-few;

@@ -26,3 +26,4 @@ pub record Checks (test : Bool) (d : Deck) (r : Checked) : Type 0 where
   pub inOrder : T test → work.InOrder (r .working .form)
   pub points : T test → r .working .form .points ≡ d .points
   pub kinds : T test → r .working .kinds ≡ d .kinds
+  pub tail : T test → r .working .tail ≡ d .tail

@@ -5,7 +5,7 @@ use lib.Dec.{eqb}
 use lib.ListN.{take}
 use Rattle.arrays.specs.Same.{sameList}
 use Rattle.model.specs.State.{State, maxPins}
-use Rattle.model.specs.Contents.{Contents, withKinds, ValidContents, validContents}
+use Rattle.model.specs.Contents.{Contents, withKinds, withTail, ValidContents, validContents}
 use Rattle.points.specs.declared.Points.{Points}
 use Rattle.points.specs.Coded as coded
 use Rattle.edges.specs.Edges.{edgeRow}
@@ -13,11 +13,11 @@ use Rattle.deck.specs.declared.Deck.{Deck}
 
 -- The deck of contents.
 unfoldable pub deckOf : Contents → Deck
-deckOf c = record { points = coded.coded (c .state); kinds = coded.padded maxPins (c .kinds); ends = edgeRow (c .state) }
+deckOf c = record { points = coded.coded (c .state); kinds = coded.padded maxPins (c .kinds); tail = c .tail; ends = edgeRow (c .state) }
 
 -- The contents of a deck, and its pins and taps among them. It has as many kinds as pins.
 abbrev pub contentsOf : Deck → Contents
-contentsOf d = withKinds (coded.stateOf (d .points)) (take (d .points .npins) (d .kinds))
+contentsOf d = withTail (d .tail) (withKinds (coded.stateOf (d .points)) (take (d .points .npins) (d .kinds)))
 
 abbrev pub stateOf : Deck → State
 stateOf d = contentsOf d .state
@@ -34,7 +34,8 @@ samePoints q r =
     && (eqb (q .npins) (r .npins) && (sameList (q .steiner) (r .steiner) && eqb (q .nsteiner) (r .nsteiner)))
 
 abbrev pub sameDeck : Deck → Deck → Bool
-sameDeck d e = samePoints (d .points) (e .points) && (sameList (d .kinds) (e .kinds) && sameList (d .ends) (e .ends))
+sameDeck d e =
+    samePoints (d .points) (e .points) && (sameList (d .kinds) (e .kinds) && (eqb (d .tail) (e .tail) && sameList (d .ends) (e .ends)))
 
 -- Soundness as a test (check 11, SPEC 8.3).
 unfoldable pub sound : Deck → Bool

@@ -28,12 +28,12 @@ pub record SessionDeck (d : Deck) (c : Contents) : Type 0 where
   pub lengthIs : asked d ofLength ≡ lengthAnswer c
   pub edge : (i : ℕ) → asked d (ofEdge i) ≡ edgeAtAnswer i c
   -- a round answers finished exactly if no one more point anywhere on the integer plane would shorten the tree
-  pub finish-exact : (called d call.oneRound .reply ≡ Finished) ↔ ((q : Point) → ¬ List·Memᴰ q (points (c .state)) → model.NoShorter (c .state) q)
+  pub finish-exact : (called d call.oneRound .reply ≡ Finished) ↔ ((q : Point) → ¬ List·Memᴰ q (points (c .state)) → model.NoShorter (c .tail) (c .state) q)
   -- the run to the end stops at the deck that rounds alone lead to, and answers how many named a tap, at most one for each centimetre
   pub count : ℕ
   pub counted : called d call.runToEnd .reply ≡ Rounds count
   pub rounds-end : DeckRoundsTo d count (called d call.runToEnd .next)
-  pub rounds-few : count ≤ question.lengthOfState (c .state)
+  pub rounds-few : count ≤ question.lengthOfContents c
 
 -- The claim: after any list of calls, refused ones too, from an empty deck or an accepted file, the deck is as said, and so is
 -- every reply.

@@ -76,4 +76,14 @@ impl Deck {
         }
         outcome_of(calls::run_to_end(c.working))
     }
+    // Sets the tail length. Returns the next deck and the reply: done, or a refusal, 11 and then 16.
+    pub fn set_tail(self, tail: u32) -> Outcome
+        ensures { λ r. ⌜ r ≡ called self (call.setTail tail) ⌝ }
+    {
+        let c = check(self);
+        if !c.ok {
+            return refuse(self);
+        }
+        outcome_of(calls::set_tail(c.working, tail))
+    }
 }

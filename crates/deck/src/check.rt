@@ -6,6 +6,7 @@ use points::kinds::LARGEST_KIND;
 use points::kinds::all_within;
 use points::kinds::in_front;
 use working::Working;
+use working::deck::LONGEST_TAIL;
 use working::deck::WorkingDeck;
 ghost use mathlib.Core.Path.{_≡_};
 ghost use mathlib.Core.Bool.{Bool, _&&_};
@@ -64,6 +65,7 @@ pub fn deck_of(w: WorkingDeck) -> Deck
     Deck {
         points,
         kinds,
+        tail: w.tail,
         ends,
     }
 }
@@ -106,6 +108,9 @@ fn unsound() -> Checked
 pub fn check(d: Deck) -> Checked
     ensures { λ r. ⌜ Checks (sound d) d r ⌝ }
 {
+    if LONGEST_TAIL < d.tail {
+        return unsound();
+    }
     let f = form_of(d.points);
     if !f.ok {
         return unsound();
@@ -115,7 +120,8 @@ pub fn check(d: Deck) -> Checked
     }
     let form = f.form;
     let kinds = d.kinds;
-    let w = WorkingDeck { form, kinds };
+    let tail = d.tail;
+    let w = WorkingDeck { form, kinds, tail };
     if !same_rest(d, deck_of(w)) {
         return unsound();
     }

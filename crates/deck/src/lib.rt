@@ -1,4 +1,5 @@
-// The deck (SPEC 5.1): its pins with their kinds, its Steiner points (taps) and the edges of its tree (runs), with the calls and questions on it.
+// The deck (SPEC 5.1): its pins with their kinds, its Steiner points (taps), its tail length and the edges of its tree (runs), with the calls and
+// questions on it.
 mod answers;
 pub mod changes;
 pub mod check;
@@ -16,6 +17,7 @@ ghost use Rattle.deck.specs.Form.{deckOf};
 pub struct Deck {
     pub points: Points,
     pub kinds: [u8; MAX_PINS],
+    pub tail: u64,
     pub ends: [u64; PLACES],
 }
 
@@ -26,13 +28,14 @@ pub struct Outcome {
 }
 
 impl Deck {
-    // Returns a deck with no pin and no Steiner point.
+    // Returns a deck with no pin, no Steiner point and no tails.
     pub fn empty() -> Deck
         ensures { λ r. ⌜ r ≡ deckOf emptyContents ⌝ }
     {
         Deck {
             points: Points::empty(),
             kinds: [0u8; MAX_PINS],
+            tail: 0,
             ends: [0u64; PLACES],
         }
     }

@@ -1,11 +1,11 @@
 -- The edges of a working form as numbers: the ends of its keys are those of the state's edges in the listing order, and the number
 -- of a point is where its code stands among the codes of all points.
-use mathlib.Core.Path.{_≡_, refl, sym, ap, _∙_, subst, subst⁻¹}
+use mathlib.Core.Path.{_≡_, refl, sym, ap, ap₂, _∙_, subst, subst⁻¹}
 use mathlib.Core.Logic.{⊎-elim}
 use mathlib.Core.Option.{some}
-use mathlib.Core.List.{List, [], _∷_, _++_, map, List·Memᴰ, List·Memᴰ·head as head, List·Memᴰ·tail as tail}
+use mathlib.Core.List.{List, [], _∷_, _++_, map, List·Memᴰ, List·Memᴰ·head as head, List·Memᴰ·tail as later}
 use mathlib.Core.List.{List·Memᴰ·cases-cons as cases, List·Memᴰ·not-nil as not-nil}
-use Prim.Native.Nat.{ℕ, zero, suc, _+_, _-_, _/_, _%_, _<_}
+use Prim.Native.Nat.{ℕ, zero, suc, _+_, _*_, _-_, _/_, _%_, _≤_, _<_}
 use native.Mathlib.Omega.{arith}
 use native.Mathlib.Numerals.{add-one}
 use lib.Dec.{T, ltb}
@@ -18,22 +18,27 @@ use Rattle.arrays.proofs.Set.{tie-eq, no-tie, set-of-in}
 use Rattle.arrays.proofs.Test.{by-test}
 use Rattle.sorted.proofs.Rise.{get-in}
 use Rattle.arrays.proofs.paste.Parts.{front-is}
-use Rattle.plane.specs.Point.{Point, lower}
-use Rattle.plane.specs.Edge.{Edge, edgeLength, listedBefore, planar}
-use Rattle.plane.specs.Code.{pointOf, isCode}
+use Rattle.plane.specs.Point.{Point, lower, dist}
+use Rattle.plane.specs.Edge.{Edge, listedBefore, planar}
+use Rattle.plane.specs.Code.{xOf, yOf, pointOf, isCode}
 use Rattle.plane.proofs.Order.{lower-order, listed-order}
 use Rattle.model.specs.Tree.{mst, treeLength}
 use Rattle.model.specs.State.{State, points}
+use Rattle.model.specs.Tail.{longestTail, runLength, treeLengthWith}
 use Rattle.model.specs.Question.{listed, edgeCount}
+use Rattle.model.specs.Session.{longestTree}
 use Rattle.model.specs.File.{numberOf}
 use Rattle.model.proofs.Tree.{mst-run-tree}
-use Rattle.model.proofs.Prune.{points-rise}
+use Rattle.model.proofs.Tail.{length-with}
+use Rattle.model.proofs.Prune.{points-in, points-rise}
+use Rattle.model.proofs.Bounds.{length-bound}
 use Rattle.model.proofs.FileSize.{listed-count, number-below}
 use Rattle.keys.specs.Held.{held}
 use Rattle.keys.specs.Keys.{edgeOf as edgeOfKey, weight, treeKeys, endsOf}
 use Rattle.tree.specs.Ends.{endsAt}
 use Rattle.tree.proofs.Lengths.{rising-total}
 use Rattle.tree.proofs.Numbers.{ends-listed}
+use Rattle.tree.proofs.Size.{near-words}
 use Rattle.tree.proofs.Sorted.{tree-keys-mst}
 use Rattle.points.specs.Coded.{padded, places}
 use Rattle.points.proofs.Codes.{drop-zeros}
@@ -51,12 +56,16 @@ number-point (k ∷ l) q i =
     by-test (λ (n : ℕ). pointOf (getD (k ∷ l) n 0) ≡ q) (tie lower q (pointOf k)) _ _ (λ t. sym (tie-eq lower lower-order q (pointOf k) t))
     (λ n. number-point l q (⊎-elim (λ e. absurd (no-tie lower lower-order q (pointOf k) n e)) (λ j. j) (cases i)))
 
+-- The points of any two codes are at most this far from each other.
+pub near-codes : (n a b : ℕ) → n ≡ dist (pointOf a) (pointOf b) → n ≤ 131070
+near-codes n a b e = omega (arith, e, near-words (xOf a) (yOf a) (xOf b) (yOf b) (omega arith) (omega arith) (omega arith) (omega arith))
+
 -- An item of a list by its place, and its image among the images of all.
 item-at : {A : Type 0} (f : A → ℕ) (l : List A) (r : List ℕ) (i : ℕ) → i < length l
     → (a : A) × (getElem? l i ≡ some a) × List·Memᴰ a l × (getD (map f l ++ r) i 0 ≡ f a)
 item-at f [] r i h = absurd (omega arith)
 item-at f (a ∷ l) r zero h = (a, refl, head refl, refl)
-item-at f (a ∷ l) r (suc i) h = let m = item-at f l r i (omega arith) in (m .0, m .1, tail (m .2), m .3)
+item-at f (a ∷ l) r (suc i) h = let m = item-at f l r i (omega arith) in (m .0, m .1, later (m .2), m .3)
 
 module _ (w : Working) (p : InOrder w) where
   -- The ends of the keys, least first.
@@ -73,9 +82,9 @@ module _ (w : Working) (p : InOrder w) where
       let l = setOf ltb (map endsOf (take (w .nkeys) (w .keys))) in
       front-is f ∙ ap (λ (z : List ℕ). l ++ z) (drop-zeros (length l) places) ∙ ap (padded places) ends-are
 
-  -- The total of the keys is the length of the tree.
-  pub length-is : total weight (take (w .nkeys) (w .keys)) ≡ treeLength (points (stateOf w))
-  length-is =
+  -- The total of the keys is the length of the tree without tails.
+  total-is : total weight (take (w .nkeys) (w .keys)) ≡ treeLength (points (stateOf w))
+  total-is =
       ap (total weight) (p .tree) ∙ rising-total (held (w .xs) (w .ys)) (w .npoints) (omega (arith, p .few)) (p .rises) ∙ ap treeLength (p .points)
 
   -- How many edges there are.
@@ -84,6 +93,18 @@ module _ (w : Working) (p : InOrder w) where
       let at = held (w .xs) (w .ys) in
       p .keyCount ∙ sym (length-map (treeKeys at (w .npoints)) (edgeOfKey at))
       ∙ ap length (tree-keys-mst at (w .npoints) (omega (arith, p .few)) (p .rises)) ∙ ap (λ l. length (mst l)) (p .points)
+
+  -- With two tails for each key it is the length, which fits.
+  pub length-is : (tail : ℕ) → total weight (take (w .nkeys) (w .keys)) + 2 * tail * w .nkeys ≡ treeLengthWith tail (points (stateOf w))
+  unfolding treeLength treeLengthWith
+  length-is tail =
+      ap₂ (λ (a b : ℕ). a + 2 * tail * b) total-is edge-count ∙ sym (length-with tail (mst (points (stateOf w))))
+
+  pub length-fits : (tail : ℕ) → tail ≤ longestTail → treeLengthWith tail (points (stateOf w)) ≤ longestTree
+  length-fits tail h =
+      let placed = arranged-placed (w .points) (p .arranged) in
+      length-bound tail h (points (stateOf w)) (points-rise (stateOf w) (placed .steinerRise)) (omega (arith, p .few, p .count))
+      (λ q i. ⊎-elim (placed .pinsRange q) (placed .steinerRange q) (points-in (stateOf w) q .0 i))
 
   pub listed-length : length (listed (stateOf w)) ≡ w .nkeys
   listed-length = listed-count (stateOf w) (arranged-placed (w .points) (p .arranged)) ∙ sym edge-count
@@ -147,13 +168,13 @@ module _ (w : Working) (p : InOrder w) where
     pub both-within : (getD row i 0 / 128 < w .npoints) × (getD row i 0 % 128 < w .npoints)
     both-within = within (item .0) (item .2) (getD row i 0) both-is
 
-    pub edge-found : (n : ℕ) (e : CodedEdge)
-        → e ≡ record { low = getD (w .codes) (getD row i 0 / 128) 0; high = getD (w .codes) (getD row i 0 % 128) 0; distance = n }
-        → n ≡ edgeLength (edgeOf e) → EdgeAt (stateOf w) i e
-    edge-found n e same long =
+    pub edge-found : (tail n : ℕ) (e : CodedEdge)
+        → e ≡ record { low = getD (w .codes) (getD row i 0 / 128) 0; high = getD (w .codes) (getD row i 0 % 128) 0; length = n }
+        → n ≡ runLength tail (edgeOf e) → EdgeAt tail (stateOf w) i e
+    edge-found tail n e same long =
         record {
           there = item .1 ∙ ap some (sym (ap edgeOf same ∙ between (item .0) (item .2) (getD row i 0) both-is));
-          measured = ap (λ (z : CodedEdge). z .distance) same ∙ long;
+          measured = ap (λ (z : CodedEdge). z .length) same ∙ long;
           coded = subst⁻¹ (λ (z : CodedEdge). T (isCode (z .low)) × T (isCode (z .high))) same
               (held-code _ (both-within .0), held-code _ (both-within .1));
         }
@@ -164,5 +185,5 @@ next-item [] i a e = absurd (let z : _≡_ {A = ℕ} 0 1 = cc in omega arith)
 next-item (b ∷ l) zero a e = let q : b ≡ a = cc in ap (λ z. z ∷ []) q
 next-item (b ∷ l) (suc i) a e = ap (λ t. b ∷ t) (next-item l i a e)
 
-pub edges-more : (s : State) (i : ℕ) (e : CodedEdge) → EdgeAt s i e → take (i + 1) (listed s) ≡ take i (listed s) ++ (edgeOf e ∷ [])
-edges-more s i e f = ap (λ (k : ℕ). take k (listed s)) (add-one i) ∙ next-item (listed s) i (edgeOf e) (f .there)
+pub edges-more : (tail : ℕ) (s : State) (i : ℕ) (e : CodedEdge) → EdgeAt tail s i e → take (i + 1) (listed s) ≡ take i (listed s) ++ (edgeOf e ∷ [])
+edges-more tail s i e f = ap (λ (k : ℕ). take k (listed s)) (add-one i) ∙ next-item (listed s) i (edgeOf e) (f .there)

@@ -5,9 +5,10 @@ use mathlib.Core.List.{List, map}
 use Prim.Native.Nat.{ℕ}
 use lib.Dec.{T}
 use lib.ListN.{getElem?}
-use Rattle.plane.specs.Edge.{Edge, edgeLength}
+use Rattle.plane.specs.Edge.{Edge}
 use Rattle.plane.specs.Code.{pointOf, isCode}
 use Rattle.model.specs.State.{State, points}
+use Rattle.model.specs.Tail.{runLength}
 use Rattle.model.specs.Question.{listed}
 use Rattle.tree.specs.Ends.{endsAt}
 use Rattle.points.specs.Coded.{padded, places}
@@ -26,7 +27,7 @@ abbrev pub edgeOf : CodedEdge → Edge
 edgeOf e = record { lo = pointOf (e .low); hi = pointOf (e .high) }
 
 -- An edge is the one at place i of the listing order, with its length; its ends are codes of points in range.
-pub record EdgeAt (s : State) (i : ℕ) (e : CodedEdge) : Type 0 where
+pub record EdgeAt (tail : ℕ) (s : State) (i : ℕ) (e : CodedEdge) : Type 0 where
   pub there : getElem? (listed s) i ≡ some (edgeOf e)
-  pub measured : e .distance ≡ edgeLength (edgeOf e)
+  pub measured : e .length ≡ runLength tail (edgeOf e)
   pub coded : T (isCode (e .low)) × T (isCode (e .high))

@@ -1,32 +1,34 @@
-// The edges of a working form in the listing order. Whoever needs the edges of a deck asks for them here.
+// The edges of a working form in the listing order, and lengths with tails. Whoever needs the edges of a deck or a length asks here.
 use keys::FACTOR;
 use plane::codes::x_of;
 use plane::codes::y_of;
 use points::PLACES;
 use working::Working;
 ghost use mathlib.Core.Path.{_≡_};
-ghost use Prim.Native.Nat.{_<_};
+ghost use Prim.Native.Nat.{_≤_, _<_};
 ghost use Rattle.plane.specs.Point.{dist};
 ghost use Rattle.plane.specs.Code.{pointOf};
 ghost use Rattle.model.specs.State.{points};
-ghost use Rattle.model.specs.Tree.{treeLength};
+ghost use Rattle.model.specs.Tail.{longestTail, treeLengthWith};
 ghost use Rattle.working.specs.InOrder.{InOrder, stateOf};
 ghost use Rattle.edges.specs.Edges.{edgeRow, EdgeAt};
 
-// An edge by the codes of its ends, the lower first, and their distance.
+// An edge by the codes of its ends, the lower first, and its length.
 pub struct CodedEdge {
     pub low: u64,
     pub high: u64,
-    pub distance: u64,
+    pub length: u64,
 }
 
-// Returns the length of the tree.
-pub fn length_of(w: Working) -> u64
+// Returns the length of the tree: its distances together, and two tails for each edge.
+pub fn length_of(w: Working, tail: u64) -> u64
     requires { ⌜ InOrder w ⌝ }
-    ensures { λ r. ⌜ r ≡ treeLength (points (stateOf w)) ⌝ }
+    requires { ⌜ tail ≤ longestTail ⌝ }
+    ensures { λ r. ⌜ r ≡ treeLengthWith tail (points (stateOf w)) ⌝ }
 {
     let keys = w.keys;
-    tree::list::total_of(&keys, w.nkeys)
+    let distances = tree::list::total_of(&keys, w.nkeys);
+    distances + 2 * tail * (w.nkeys as u64)
 }
 
 // Returns the edges of the tree in the listing order, each by the numbers of its two ends in one, with zeros behind.
@@ -47,21 +49,21 @@ fn distance_of(a: u64, b: u64) -> u64
     plane::distance(x_of(a), y_of(a), x_of(b), y_of(b)) as u64
 }
 
-// Returns the edge at a place of the listing order, from the numbers of all edges.
-pub fn edge_at(w: Working, ends: &[u64; PLACES], i: usize) -> CodedEdge
+// Returns the edge at a place of the listing order, from the numbers of all edges, with the tails in its length.
+pub fn edge_at(w: Working, ends: &[u64; PLACES], i: usize, tail: u64) -> CodedEdge
     requires { ⌜ InOrder w ⌝ }
     requires { ⌜ now ends ≡ edgeRow (stateOf w) ⌝ }
     requires { ⌜ i < w .nkeys ⌝ }
-    ensures { λ r. ⌜ EdgeAt (stateOf w) i r ⌝ }
+    requires { ⌜ tail ≤ longestTail ⌝ }
+    ensures { λ r. ⌜ EdgeAt tail (stateOf w) i r ⌝ }
 {
     let codes = w.codes;
     let both = ends[i];
     let low = codes[(both / FACTOR) as usize];
     let high = codes[(both % FACTOR) as usize];
-    let distance = distance_of(low, high);
     CodedEdge {
         low,
         high,
-        distance,
+        length: distance_of(low, high) + 2 * tail,
     }
 }

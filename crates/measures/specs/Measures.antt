@@ -14,7 +14,7 @@ use Rattle.measures.specs.declared.Measures.{Measures}
 abbrev pub measuresOf : Contents → Measures
 measuresOf c =
     let s = c .state in
-    record { pins = question.pinCount s; steiner = question.steinerCount s; edges = question.edgeCount s; length = question.lengthOfState s }
+    record { pins = question.pinCount s; steiner = question.steinerCount s; edges = question.edgeCount s; length = question.lengthOfContents c }
 
 -- The kind of an edge by the first n pins, as codes, and their kinds.
 abbrev pub codedKind : CodedEdge → List ℕ → List ℕ → ℕ → ℕ

@@ -30,13 +30,14 @@ pub struct Measures {
 // Returns the counts and the length of a deck.
 pub fn measure(d: WorkingDeck) -> Measures
     requires { ⌜ InOrder (d .form) ⌝ }
+    requires { ⌜ ValidContents (contentsOf d) ⌝ }
     ensures { λ r. ⌜ r ≡ measuresOf (contentsOf d) ⌝ }
 {
     Measures {
         pins: d.form.points.npins as u64,
         steiner: d.form.points.nsteiner as u64,
         edges: d.form.nkeys as u64,
-        length: length_of(d.form),
+        length: length_of(d.form, d.tail),
     }
 }
 
@@ -62,9 +63,9 @@ pub fn kind_lengths(d: WorkingDeck) -> [u64; KIND_COUNT]
     let mut sums = [0u64; KIND_COUNT];
     let mut i = 0;
     while i < d.form.nkeys {
-        let e = edge_at(d.form, &ends, i);
+        let e = edge_at(d.form, &ends, i, d.tail);
         let k = edge_kind(e, &pins, &kinds, d.form.points.npins) as usize;
-        sums[k] += e.distance;
+        sums[k] += e.length;
         i += 1;
     }
     sums

@@ -78,15 +78,15 @@ beyond [] i h = refl
 beyond (a ∷ l) zero h = absurd (omega arith)
 beyond (a ∷ l) (suc i) h = beyond l i (omega arith)
 
-pub no-edge : (w : Working) → InOrder w → (i : ℕ) → w .nkeys ≤ i → NoEdge ≡ edgeOrNone (question.edgeAtPlace i (stateOf w))
+pub no-edge : (tail : ℕ) (w : Working) → InOrder w → (i : ℕ) → w .nkeys ≤ i → NoEdge ≡ edgeOrNone tail (question.edgeAtPlace i (stateOf w))
 unfolding edgeOrNone
-no-edge w p i h = ap edgeOrNone (sym (beyond (question.listed (stateOf w)) i (omega (arith, listed-length w p, h))))
+no-edge tail w p i h = ap (edgeOrNone tail) (sym (beyond (question.listed (stateOf w)) i (omega (arith, listed-length w p, h))))
 
-pub edge-there : (s : State) (i : ℕ) (e : CodedEdge) → EdgeAt s i e → codedAnswer e ≡ edgeOrNone (question.edgeAtPlace i s)
+pub edge-there : (tail : ℕ) (s : State) (i : ℕ) (e : CodedEdge) → EdgeAt tail s i e → codedAnswer e ≡ edgeOrNone tail (question.edgeAtPlace i s)
 unfolding edgeOrNone
-edge-there s i e f =
+edge-there tail s i e f =
     let p = edgeOf e in
-    ap (Edge (p .lo .x) (p .lo .y) (p .hi .x) (p .hi .y)) (f .measured) ∙ ap edgeOrNone (sym (f .there))
+    ap (Edge (p .lo .x) (p .lo .y) (p .hi .x) (p .hi .y)) (f .measured) ∙ ap (edgeOrNone tail) (sym (f .there))
 
 -- The counts, the places that have an edge, and a point that is not held, by the points alone: a tree has one edge less than points.
 module _ (c : Contents) (p : Placed (c .state)) where
@@ -103,7 +103,7 @@ module _ (c : Contents) (p : Placed (c .state)) where
   unfolding edgeOrNone
   beyond-last i = (
     λ e. go (decLe (length (question.listed s)) i) e,
-    λ h. ap edgeOrNone (beyond (question.listed s) i (omega (arith, listed-count s p, edge-number, h))),
+    λ h. ap (edgeOrNone (c .tail)) (beyond (question.listed s) i (omega (arith, listed-count s p, edge-number, h))),
   )
     where
       within : {A : Type 0} (l : List A) (i : ℕ) → i < length l → (a : A) × (getElem? l i ≡ some a)
@@ -115,7 +115,7 @@ module _ (c : Contents) (p : Placed (c .state)) where
       go (yes h) e = omega (arith, listed-count s p, edge-number, h)
       go (no n) e =
           let m = within (question.listed s) i (omega arith) in
-          let q : edgeAnswer (m .0) ≡ NoEdge = sym (ap edgeOrNone (m .1)) ∙ e in
+          let q : edgeAnswer (c .tail) (m .0) ≡ NoEdge = sym (ap (edgeOrNone (c .tail)) (m .1)) ∙ e in
           absurd (let z : _≡_ {A = ℕ} 0 1 = cc in omega arith)
 
   pub none-held : (q : Point) → ¬ List·Memᴰ q (points s) → degreeAnswer q c ≡ Degree 0

@@ -2,8 +2,9 @@
 use mathlib.Core.Option.{Option, none, some}
 use Prim.Native.Nat.{ℕ}
 use Rattle.plane.specs.Point.{Point}
-use Rattle.plane.specs.Edge.{Edge as PlaneEdge, edgeLength}
+use Rattle.plane.specs.Edge.{Edge as PlaneEdge}
 use Rattle.model.specs.Contents.{Contents}
+use Rattle.model.specs.Tail.{runLength}
 use Rattle.model.specs.Question as question
 use Rattle.model.specs.KindLength.{kindLength}
 use Rattle.edges.specs.declared.CodedEdge.{CodedEdge}
@@ -13,7 +14,7 @@ use Rattle.questions.specs.declared.Answer.the-variants.{Length, Counts,
 
 -- The length of the deck.
 abbrev pub lengthAnswer : Contents → Answer
-lengthAnswer c = Length (question.lengthOfState (c .state))
+lengthAnswer c = Length (question.lengthOfContents c)
 
 -- How many pins, taps and runs it has.
 abbrev pub countsAnswer : Contents → Answer
@@ -23,22 +24,22 @@ countsAnswer c = let s = c .state in Counts (question.pinCount s) (question.stei
 abbrev pub kindsAnswer : Contents → Answer
 kindsAnswer c = Kinds (kindLength c 0) (kindLength c 1) (kindLength c 2)
 
--- A run, by its lower end, its higher end and its length.
-abbrev pub edgeAnswer : PlaneEdge → Answer
-edgeAnswer e = Edge (e .lo .x) (e .lo .y) (e .hi .x) (e .hi .y) (edgeLength e)
+-- A run, by its lower end, its higher end and its length with the tail given.
+abbrev pub edgeAnswer : ℕ → PlaneEdge → Answer
+edgeAnswer tail e = Edge (e .lo .x) (e .lo .y) (e .hi .x) (e .hi .y) (runLength tail e)
 
 -- The same from the codes of its ends and its length.
 abbrev pub codedAnswer : CodedEdge → Answer
-codedAnswer e = let p = edgeOf e in Edge (p .lo .x) (p .lo .y) (p .hi .x) (p .hi .y) (e .distance)
+codedAnswer e = let p = edgeOf e in Edge (p .lo .x) (p .lo .y) (p .hi .x) (p .hi .y) (e .length)
 
 -- A run, or that there is none.
-unfoldable pub edgeOrNone : Option PlaneEdge → Answer
-edgeOrNone none = NoEdge
-edgeOrNone (some e) = edgeAnswer e
+unfoldable pub edgeOrNone : ℕ → Option PlaneEdge → Answer
+edgeOrNone tail none = NoEdge
+edgeOrNone tail (some e) = edgeAnswer tail e
 
 -- The run at a place of the listing order, counted from 0; beyond the last there is none.
 abbrev pub edgeAtAnswer : ℕ → Contents → Answer
-edgeAtAnswer i c = edgeOrNone (question.edgeAtPlace i (c .state))
+edgeAtAnswer i c = edgeOrNone (c .tail) (question.edgeAtPlace i (c .state))
 
 -- How many runs a point has; none if the deck does not hold it.
 abbrev pub degreeAnswer : Point → Contents → Answer

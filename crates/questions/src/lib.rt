@@ -37,7 +37,7 @@ fn answer_of(e: CodedEdge) -> Answer
     let y = plane::to_signed(y_of(e.low));
     let u = plane::to_signed(x_of(e.high));
     let v = plane::to_signed(y_of(e.high));
-    Answer::Edge(x, y, u, v, e.distance)
+    Answer::Edge(x, y, u, v, e.length)
 }
 
 // The number of edges at a place in range, 0 where no point is held.
@@ -57,6 +57,7 @@ fn degree_of(w: Working, k: u64) -> usize
 // Returns the length of the tree.
 pub fn length(d: WorkingDeck) -> Answer
     requires { ⌜ InOrder (d .form) ⌝ }
+    requires { ⌜ ValidContents (contentsOf d) ⌝ }
     ensures { λ r. ⌜ r ≡ lengthAnswer (contentsOf d) ⌝ }
 {
     Answer::Length(measure(d).length)
@@ -65,6 +66,7 @@ pub fn length(d: WorkingDeck) -> Answer
 // Returns the numbers of pins, Steiner points and edges.
 pub fn counts(d: WorkingDeck) -> Answer
     requires { ⌜ InOrder (d .form) ⌝ }
+    requires { ⌜ ValidContents (contentsOf d) ⌝ }
     ensures { λ r. ⌜ r ≡ countsAnswer (contentsOf d) ⌝ }
 {
     let m = measure(d);
@@ -84,13 +86,14 @@ pub fn kind_lengths(d: WorkingDeck) -> Answer
 // Returns the edge at a place of the listing order, counted from 0, or that there is none.
 pub fn edge_at(d: WorkingDeck, i: usize) -> Answer
     requires { ⌜ InOrder (d .form) ⌝ }
+    requires { ⌜ ValidContents (contentsOf d) ⌝ }
     ensures { λ r. ⌜ r ≡ edgeAtAnswer i (contentsOf d) ⌝ }
 {
     if d.form.nkeys <= i {
         return Answer::NoEdge;
     }
     let ends = edge_numbers(d.form);
-    answer_of(edges::edge_at(d.form, &ends, i))
+    answer_of(edges::edge_at(d.form, &ends, i, d.tail))
 }
 
 // Returns how many edges a point has, 0 where it is not held.

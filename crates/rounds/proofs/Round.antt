@@ -14,7 +14,7 @@ use Rattle.plane.proofs.Stored.{coordinate-stored}
 use Rattle.plane.specs.Coordinate.{coordinate, storedOf}
 use Rattle.arrays.specs.Set.{put}
 use Rattle.model.specs.State.{State, Valid, points, prune}
-use Rattle.model.specs.Tree.{treeLength}
+use Rattle.model.specs.Tail.{treeLengthWith}
 use Rattle.model.specs.Round.{RoundResult, finished, tap, withSteiner, best, round}
 use Rattle.model.specs.Choice.{Candidate}
 use Rattle.model.proofs.Prune.{points-in}
@@ -32,54 +32,54 @@ use Rattle.rounds.specs.declared.Step.the-variants.{Finished, Tap}
 use Rattle.rounds.specs.Rounds.{adds, stepOf}
 
 -- What a round answers for the best candidate.
-roundWith : State → Option Point → RoundResult
-roundWith s none = record { next = s; answer = finished }
-roundWith s (some c) = record { next = prune (withSteiner c s); answer = tap c (treeLength (points s) - treeLength (points (prune (withSteiner c s)))) }
+roundWith : ℕ → State → Option Point → RoundResult
+roundWith tail s none = record { next = s; answer = finished }
+roundWith tail s (some c) = record { next = prune (withSteiner c s); answer = tap c (treeLengthWith tail (points s) - treeLengthWith tail (points (prune (withSteiner c s)))) }
 
-round-with : (s : State) (o : Option Point) → best (points s) ≡ o → round s ≡ roundWith s o
+round-with : (tail : ℕ) (s : State) (o : Option Point) → best tail (points s) ≡ o → round tail s ≡ roundWith tail s o
 unfolding round roundWith
-round-with s none e = ap (λ (o : Option Point). elim o as (λ _. RoundResult) [ none ↦ roundWith s none | some c ↦ roundWith s (some c) ]) e
-round-with s (some c) e = ap (λ (o : Option Point). elim o as (λ _. RoundResult) [ none ↦ roundWith s none | some d ↦ roundWith s (some d) ]) e
+round-with tail s none e = ap (λ (o : Option Point). elim o as (λ _. RoundResult) [ none ↦ roundWith tail s none | some c ↦ roundWith tail s (some c) ]) e
+round-with tail s (some c) e = ap (λ (o : Option Point). elim o as (λ _. RoundResult) [ none ↦ roundWith tail s none | some d ↦ roundWith tail s (some d) ]) e
 
 -- No crossing was found: the round is finished.
 none-found : (o : Option Point) → answerOf o ≡ Nothing → o ≡ none
 none-found none e = refl
 none-found (some c) e = let z : _≡_ {A = ℕ} 0 1 = cc in absurd (omega arith)
 
-module _ (s : State) (e : answerOf (best (points s)) ≡ Nothing) where
-  stays : round s ≡ roundWith s none
-  stays = round-with s none (none-found (best (points s)) e)
+module _ (tail : ℕ) (s : State) (e : answerOf (best tail (points s)) ≡ Nothing) where
+  stays : round tail s ≡ roundWith tail s none
+  stays = round-with tail s none (none-found (best tail (points s)) e)
 
-  pub next-stays : s ≡ round s .next
+  pub next-stays : s ≡ round tail s .next
   unfolding roundWith
   next-stays = sym (ap (λ (r : RoundResult). r .next) stays)
 
-  pub added-stays : false ≡ adds (round s .answer)
+  pub added-stays : false ≡ adds (round tail s .answer)
   unfolding roundWith
   added-stays = sym (ap (λ (r : RoundResult). adds (r .answer)) stays)
 
-  pub step-stays : Finished ≡ stepOf (round s .answer)
+  pub step-stays : Finished ≡ stepOf (round tail s .answer)
   unfolding roundWith stepOf
   step-stays = sym (ap (λ (r : RoundResult). stepOf (r .answer)) stays)
 
 -- One was found: what is known of its code.
-pub record Joins (s : State) (u v k : ℕ) : Type 0 where
+pub record Joins (tail : ℕ) (s : State) (u v k : ℕ) : Type 0 where
   pub isPoint : T (isCode k)
   pub candidate : Candidate (points s) (pointOf k)
-  pub chosen : best (points s) ≡ some (pointOf k)
+  pub chosen : best tail (points s) ≡ some (pointOf k)
   pub atX : coordinate u ≡ pointOf k .x
   pub atY : coordinate v ≡ pointOf k .y
-  pub shorter : treeLength (put lower (pointOf k) (points s)) < treeLength (points s)
+  pub shorter : treeLengthWith tail (put lower (pointOf k) (points s)) < treeLengthWith tail (points s)
 
-pub found-at : (s : State) → Valid s → (u v k : ℕ) → k ≡ packed u v → answerOf (best (points s)) ≡ At u v → Joins s u v k
+pub found-at : (tail : ℕ) (s : State) → Valid s → (u v k : ℕ) → k ≡ packed u v → answerOf (best tail (points s)) ≡ At u v → Joins tail s u v k
 unfolding code
-found-at s valid u v k is e = go (best-choice (points s)) refl e
+found-at tail s valid u v k is e = go (best-choice tail (points s)) refl e
   where
-    go : {o : Option Point} → Choice (points s) o → best (points s) ≡ o → answerOf o ≡ At u v → Joins s u v k
+    go : {o : Option Point} → Choice tail (points s) o → best tail (points s) ≡ o → answerOf o ≡ At u v → Joins tail s u v k
     go (none-saves f) b q = let z : _≡_ {A = ℕ} 0 1 = cc in absurd (omega arith)
     go (some-chosen c w) b q =
         let h = w .candidate in
-        let less = saved-shorter (points s) c (w .saves) in
+        let less = saved-shorter tail (points s) c (w .saves) in
         let x : storedOf (c .x) ≡ u = cc in
         let y : storedOf (c .y) ≡ v = cc in
         let r = candidate-range s (valid .placed) c h in
@@ -92,34 +92,34 @@ found-at s valid u v k is e = go (best-choice (points s)) refl e
           chosen = b ∙ ap some back;
           atX = ap coordinate (sym x) ∙ coordinate-stored (c .x) (ins .0) ∙ ap (λ (p : Point). p .x) back;
           atY = ap coordinate (sym y) ∙ coordinate-stored (c .y) (ins .1) ∙ ap (λ (p : Point). p .y) back;
-          shorter = subst (λ (z : Point). treeLength (put lower z (points s)) < treeLength (points s)) back less;
+          shorter = subst (λ (z : Point). treeLengthWith tail (put lower z (points s)) < treeLengthWith tail (points s)) back less;
         }
 
-module _ (s : State) (u v k : ℕ) (j : Joins s u v k) where
-  joins : round s ≡ roundWith s (some (pointOf k))
-  joins = round-with s (some (pointOf k)) (j .chosen)
+module _ (tail : ℕ) (s : State) (u v k : ℕ) (j : Joins tail s u v k) where
+  joins : round tail s ≡ roundWith tail s (some (pointOf k))
+  joins = round-with tail s (some (pointOf k)) (j .chosen)
 
-  pub next-joins : (s′ : State) → s′ ≡ prune (withSteiner (pointOf k) s) → s′ ≡ round s .next
+  pub next-joins : (s′ : State) → s′ ≡ prune (withSteiner (pointOf k) s) → s′ ≡ round tail s .next
   unfolding roundWith
   next-joins s′ e = e ∙ sym (ap (λ (r : RoundResult). r .next) joins)
 
-  pub added-joins : true ≡ adds (round s .answer)
+  pub added-joins : true ≡ adds (round tail s .answer)
   unfolding roundWith
   added-joins = sym (ap (λ (r : RoundResult). adds (r .answer)) joins)
 
   pub step-joins : (s′ : State) (x y : ℤ) (m n : ℕ) → s′ ≡ prune (withSteiner (pointOf k) s) → x ≡ coordinate u → y ≡ coordinate v
-      → m ≡ treeLength (points s) → n ≡ treeLength (points s′)
-      → Tap x y (m - n) ≡ stepOf (round s .answer)
+      → m ≡ treeLengthWith tail (points s) → n ≡ treeLengthWith tail (points s′)
+      → Tap x y (m - n) ≡ stepOf (round tail s .answer)
   unfolding roundWith stepOf
   step-joins s′ x y m n e ex ey em en =
-      (λ i. Tap ((ex ∙ j .atX) i) ((ey ∙ j .atY) i) (em i - (en ∙ ap (λ (z : State). treeLength (points z)) e) i))
+      (λ i. Tap ((ex ∙ j .atX) i) ((ey ∙ j .atY) i) (em i - (en ∙ ap (λ (z : State). treeLengthWith tail (points z)) e) i))
       ∙ sym (ap (λ (r : RoundResult). stepOf (r .answer)) joins)
 
   pub joins-free : List·Memᴰ (pointOf k) (s .pins) → ⊥
   joins-free i = j .candidate .free (points-in s (pointOf k) .1 (inl i))
 
-  pub joins-shorter : Valid s → treeLength (points (prune (withSteiner (pointOf k) s))) ≤ treeLength (points s)
-  joins-shorter w = omega (arith, j .shorter, prune-shorter s w (pointOf k) (j .candidate))
+  pub joins-shorter : Valid s → treeLengthWith tail (points (prune (withSteiner (pointOf k) s))) ≤ treeLengthWith tail (points s)
+  joins-shorter w = omega (arith, j .shorter, prune-shorter tail s w (pointOf k) (j .candidate))
 
 -- There is room for one more point.
 pub point-room : (w : Working) → work.InOrder w → Valid (work.stateOf w) → w .points .npins + w .points .nsteiner < maxPoints

@@ -1,5 +1,6 @@
 -- A working form has what the search for the best crossing asks for, and the search is over the points of its state.
 use mathlib.Core.Path.{_≡_, ap}
+use Prim.Native.Nat.{ℕ}
 use native.Mathlib.Omega.{arith}
 use lib.ListN.{length}
 use Rattle.model.specs.State.{points}
@@ -20,5 +21,5 @@ module _ (w : Working) (p : InOrder w) (hx : length (w .xs) ≡ 128) (hy : lengt
         tree = p .tree;
       }
 
-  pub best-is : answerOf (best (pointsOf (w .xs) (w .ys) (w .npoints))) ≡ answerOf (best (points (stateOf w)))
-  best-is = ap (λ ps. answerOf (best ps)) (p .points)
+  pub best-is : (tail : ℕ) → answerOf (best tail (pointsOf (w .xs) (w .ys) (w .npoints))) ≡ answerOf (best tail (points (stateOf w)))
+  best-is tail = ap (λ ps. answerOf (best tail ps)) (p .points)

@@ -1,6 +1,7 @@
 -- What a round and a run to the end on a working form leave and answer, by the model.
 use mathlib.Core.Path.{_≡_}
 use mathlib.Core.Bool.{Bool, true, false}
+use Prim.Native.Nat.{ℕ}
 use Rattle.model.specs.Round.{RoundAnswer, finished, tap, round, finish}
 use Rattle.working.specs.declared.Working.{Working}
 use Rattle.working.specs.InOrder as work
@@ -20,14 +21,14 @@ stepOf finished = Finished
 stepOf (tap p fall) = Tap (p .x) (p .y) fall
 
 -- A round on w leaves and answers r: the model's next state and answer, in a working form in order.
-pub record RoundOf (w : Working) (r : Rounded) : Type 0 where
+pub record RoundOf (tail : ℕ) (w : Working) (r : Rounded) : Type 0 where
   pub inOrder : work.InOrder (r .working)
-  pub next : work.stateOf (r .working) ≡ round (work.stateOf w) .next
-  pub added : r .added ≡ adds (round (work.stateOf w) .answer)
-  pub step : r .step ≡ stepOf (round (work.stateOf w) .answer)
+  pub next : work.stateOf (r .working) ≡ round tail (work.stateOf w) .next
+  pub added : r .added ≡ adds (round tail (work.stateOf w) .answer)
+  pub step : r .step ≡ stepOf (round tail (work.stateOf w) .answer)
 
 -- A run to the end of w leaves and answers r.
-pub record FinishOf (w : Working) (r : Ended) : Type 0 where
+pub record FinishOf (tail : ℕ) (w : Working) (r : Ended) : Type 0 where
   pub inOrder : work.InOrder (r .working)
-  pub final : work.stateOf (r .working) ≡ finish (work.stateOf w) .final
-  pub count : r .count ≡ finish (work.stateOf w) .count
+  pub final : work.stateOf (r .working) ≡ finish tail (work.stateOf w) .final
+  pub count : r .count ≡ finish tail (work.stateOf w) .count

@@ -2,7 +2,7 @@
 use mathlib.Core.Path.{_≡_}
 use mathlib.Core.Option.{Option, none, some}
 use mathlib.Core.List.{List, [], _∷_, map}
-use Prim.Native.Nat.{ℕ, _≤_, _<_}
+use Prim.Native.Nat.{ℕ, _+_, _*_, _≤_, _<_}
 use lib.Dec.{ltb}
 use lib.IntN.{ℤ}
 use lib.ListN.{length, take, getD}
@@ -80,11 +80,12 @@ unfoldable pub tryAll : List Point → Greatest → List Point → Greatest
 tryAll ps s [] = s
 tryAll ps s (c ∷ l) = tryAll ps (tried ps s c) l
 
--- What the point that was found spares; `far` where none was, which is what a crossing spares that saves nothing.
-abbrev pub gainAt : List Point → Option Point → ℕ
-gainAt ps none = far
-gainAt ps (some c) = sparedBy ps c
+-- What the point that was found spares. Where none was, the bar: `far` and the two tails of one run more, which is what a crossing spares that saves
+-- nothing.
+abbrev pub gainAt : ℕ → List Point → Option Point → ℕ
+gainAt tail ps none = far + 2 * tail
+gainAt tail ps (some c) = sparedBy ps c
 
 -- What was found, with that gain.
-abbrev pub greatestAt : List Point → Option Point → Greatest
-greatestAt ps found = record { gain = gainAt ps found; best = answerOf found }
+abbrev pub greatestAt : ℕ → List Point → Option Point → Greatest
+greatestAt tail ps found = record { gain = gainAt tail ps found; best = answerOf found }

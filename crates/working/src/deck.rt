@@ -1,4 +1,4 @@
-// A deck in working form: the working form of its points, and the kinds of its pins. Trees, sweeps and rounds are of the form alone.
+// A deck in working form: the working form of its points, the kinds of its pins, and its tail length. Trees and sweeps are of the form alone.
 use super::Working;
 use super::arrange;
 use points::MAX_PINS;
@@ -8,10 +8,14 @@ ghost use Rattle.model.specs.Contents.{following, emptyContents};
 ghost use Rattle.working.specs.InOrder.{InOrder, stateOf};
 ghost use Rattle.working.specs.WorkingDeck.{contentsOf};
 
+// The longest tail.
+pub const LONGEST_TAIL: u64 = 500;
+
 // Only as many kinds count as there are pins.
 pub struct WorkingDeck {
     pub form: Working,
     pub kinds: [u8; MAX_PINS],
+    pub tail: u64,
 }
 
 // Returns an empty deck in working form.
@@ -21,10 +25,11 @@ pub fn empty() -> WorkingDeck
     WorkingDeck {
         form: arrange(Points::empty()),
         kinds: [0u8; MAX_PINS],
+        tail: 0,
     }
 }
 
-// Returns the deck of another form, where the kinds follow their pins: each pin that was there keeps its kind, any other takes `kind`.
+// Returns the deck of another form with the same tail, where the kinds follow their pins: each pin that was there keeps its kind, any other takes `kind`.
 pub fn follow(d: WorkingDeck, next: Working, kind: u8) -> WorkingDeck
     requires { ⌜ InOrder (d .form) ⌝ }
     requires { ⌜ InOrder next ⌝ }
@@ -43,5 +48,9 @@ pub fn follow(d: WorkingDeck, next: Working, kind: u8) -> WorkingDeck
         kind,
         &mut kinds,
     );
-    WorkingDeck { form: next, kinds }
+    WorkingDeck {
+        form: next,
+        kinds,
+        tail: d.tail,
+    }
 }

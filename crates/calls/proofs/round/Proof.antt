@@ -11,4 +11,4 @@ returns c =
     round-is _ (entry .pre .0) (entry .pre .1) _ _ (at-round-of .round-of .ensures) (c .reply-of .ensures)
 
 pub round-spec : {M : Type 1} → statement M
-round-spec = tie.close (tie.spec (λ c κs. search needs) (λ c κs. search needs) returns)
+round-spec = tie.close (tie.spec (λ c κs. (c .pre .0, (c .pre .1 .state, c .pre .1 .tailed))) (λ c κs. search needs) returns)

@@ -11,4 +11,4 @@ returns c =
     end-is _ (entry .pre .0) (entry .pre .1) _ (at-finish-of .finish-of .ensures)
 
 pub run-to-end-spec : {M : Type 1} → statement M
-run-to-end-spec = tie.close (tie.spec (λ c κs. search needs) returns)
+run-to-end-spec = tie.close (tie.spec (λ c κs. (c .pre .0, (c .pre .1 .state, c .pre .1 .tailed))) returns)

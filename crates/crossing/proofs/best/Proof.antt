@@ -9,7 +9,7 @@ returns c =
     let at-keys = c .before in
     let entry = at-keys .before .before .before in
     let a = entry .args in
-    none-best (a .xs .now) (a .ys .now) _ (c .if1 .taken)
+    none-best _ (a .xs .now) (a .ys .now) _ (c .if1 .taken)
 
 pub best-spec : {M : Type 1} → statement M
 best-spec =

@@ -33,7 +33,7 @@ prepare-requires c κs =
     let at-keys = at-blank .before in
     let entry = at-keys .before .before .before in
     let p = entry .pre in
-    (p, (at-blank .blank .ensures, at-blank2 .blank2 .ensures, omega (arith, p .0 .few), omega (arith, p .0 .few)))
+    ((p .0, p .1), (at-blank .blank .ensures, at-blank2 .blank2 .ensures, omega (arith, p .0 .few), omega (arith, p .0 .few)))
 
 all-columns-requires : tie.Need-all-columns-requires
 all-columns-requires c κs =
@@ -51,7 +51,7 @@ returns c =
     let at-prepare = prepared at-lines in
     let entry = start at-prepare in
     let call = at-prepare .prepare in
-    best-found (entry .pre .0) (columns at-lines) (call .ensures .1) (c .all-columns .ensures _ (call .ensures .0))
+    best-found _ (entry .pre .0) (entry .pre .1) (columns at-lines) (call .ensures .1) (c .all-columns .ensures _ (call .ensures .0))
 
 pub search-all-spec : {M : Type 1} → statement M
 search-all-spec =
@@ -66,6 +66,8 @@ search-all-spec =
     prepare-requires
     (λ c. search needs)
     (λ c κs. search needs)
+    (λ c. search needs)
+    (λ c. search needs)
     (λ c. search needs)
     (λ c. search needs)
     (λ c. search needs)

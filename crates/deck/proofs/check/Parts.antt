@@ -19,6 +19,7 @@ use Rattle.plane.specs.Point.{Point}
 use Rattle.model.specs.Tree.{mst, edgesAt}
 use Rattle.model.specs.State.{State, points, Valid, valid, lowestWeak, maxPins}
 use Rattle.model.specs.DeviceKinds.{largestKind, isKind}
+use Rattle.model.specs.Tail.{longestTail}
 use Rattle.model.proofs.Prune.{LowestWeakView, all-strong, weak, lowest-weak-view}
 use Rattle.model.proofs.Validity.{valid-is}
 use Rattle.points.specs.declared.Points.{Points}
@@ -109,7 +110,11 @@ refused d r e never =
       inOrder = λ t. absurd (never t);
       points = λ t. absurd (never t);
       kinds = λ t. absurd (never t);
+      tail = λ t. absurd (never t);
     }
+
+pub tail-fail : (d : Deck) → longestTail < d .tail → ¬ T (sound d)
+tail-fail d h t = omega (arith, h, sound-is d .0 t .valid .tailed)
 
 -- The points of a deck, by the working form of points that are arranged.
 module _ (q : Points) (w : Working) (a : work.InOrder w × (w .points ≡ q)) (j : ℕ) (is : j ≡ weakAt w) where
@@ -144,10 +149,10 @@ module _ (d : Deck) (f : Formed) (c : Forms (validPoints (d .points)) (d .points
     points-order = c .inOrder test
 
     abbrev whole : WorkingDeck
-    whole = record { form = f .form; kinds = d .kinds }
+    whole = record { form = f .form; kinds = d .kinds; tail = d .tail }
 
     same : workingDeck.contentsOf whole ≡ contentsOf d
-    same = same-contents d whole (c .same test) refl
+    same = same-contents d whole (c .same test) refl refl
 
     pub rest-fail : (a : Deck) → a ≡ deckOf (workingDeck.contentsOf whole)
         → ¬ T (sameList (d .kinds) (a .kinds) && sameList (d .ends) (a .ends)) → ¬ T (sound d)
@@ -156,11 +161,11 @@ module _ (d : Deck) (f : Formed) (c : Forms (validPoints (d .points)) (d .points
         (sound-is d .0 t .same ∙ sym (ap deckOf same) ∙ sym is)
         (and-both (sameList (d .kinds) (d .kinds)) (sameList (d .ends) (d .ends)) (same-refl (d .kinds)) (same-refl (d .ends))))
 
-    pub rest-pass : length (d .kinds) ≡ maxPins → T (all isKind (contentsOf d .kinds)) → (a : Deck) → a ≡ deckOf (workingDeck.contentsOf whole)
+    pub rest-pass : d .tail ≤ longestTail → length (d .kinds) ≡ maxPins → T (all isKind (contentsOf d .kinds)) → (a : Deck) → a ≡ deckOf (workingDeck.contentsOf whole)
         → T (sameList (d .kinds) (a .kinds) && sameList (d .ends) (a .ends)) → (r : Checked) → r ≡ record { ok = true; working = whole } → Checks (sound d) d r
-    rest-pass long known a is t r made =
+    rest-pass tailed long known a is t r made =
         subst⁻¹ (Checks (sound d) d) made
-        (record { ok = sym (true-of (sound d) (sound-is d .1 proved)); inOrder = λ u. points-order; points = λ u. c .same test; kinds = λ u. refl })
+        (record { ok = sym (true-of (sound d) (sound-is d .1 proved)); inOrder = λ u. points-order; points = λ u. c .same test; kinds = λ u. refl; tail = λ u. refl })
       where
         arranged : coded.Arranged (d .points)
         arranged = subst coded.Arranged (c .same test) (points-order .arranged)
@@ -183,12 +188,14 @@ module _ (d : Deck) (f : Formed) (c : Forms (validPoints (d .points)) (d .points
                     kindCount =
                         length-take-le (d .points .npins) (d .kinds) (omega (arith, arranged .pinCodes .few, long)) ∙ sym (pins-count (d .points) arranged);
                     known = λ k i. leb→le k largestKind (all-in isKind (contentsOf d .kinds) .0 known k i);
+                    tailed = tailed;
                   };
               same =
                   unfold deckOf in
                   (λ i. record {
                     points = arranged-coded (d .points) arranged i;
                     kinds = (same-eq (d .kinds) (a .kinds) (parts .0) ∙ (λ k. deck-is k .kinds)) i;
+                    tail = d .tail;
                     ends = (same-eq (d .ends) (a .ends) (parts .1) ∙ (λ k. deck-is k .ends)) i;
                   });
             }

@@ -45,7 +45,7 @@ edge-at-requires : tie.Need-edge-at-requires Inv-loop μ-loop
 edge-at-requires c κs =
     let at-test = c .before in
     let at-loop = at-test .before .before in
-    (entry-of at-loop .pre .0, (at-loop .before .edge-numbers .ensures, at-test .if1 .taken))
+    (entry-of at-loop .pre .0, (at-loop .before .edge-numbers .ensures, (at-test .if1 .taken, entry-of at-loop .pre .1 .tailed)))
 
 kinds-sized : (entry : tie.Start Inv-loop μ-loop) → length (entry .args .d .kinds) ≡ 64
 kinds-sized entry = search needs
@@ -69,7 +69,7 @@ add-sums c =
     let at-test = test-of (edge-of at) in
     let at-loop = at-test .before .before in
     let k = known at in
-    omega (arith, sum-fits _ _ _ _ _ (at-loop .loop .inv) (edge-of at .edge-at .ensures) (k .0) (k .1), at-test .if1 .taken, entry-of at-loop .pre .0 .keysFew)
+    omega (arith, sum-fits _ _ _ _ _ (at-loop .loop .inv) (edge-of at .edge-at .ensures) (k .0) (k .1) (entry-of at-loop .pre .1 .tailed), at-test .if1 .taken, entry-of at-loop .pre .0 .keysFew)
 
 array-write-sums : tie.Need-array-write-sums Inv-loop μ-loop
 array-write-sums c = omega (arith, known (c .before) .1)
@@ -79,7 +79,7 @@ loop-again c =
     let at = c .before in
     let at-loop = test-of (edge-of at) .before .before in
     let k = known at in
-    sums-more _ _ _ _ _ (at-loop .loop .inv) (edge-of at .edge-at .ensures) (k .0) (k .1)
+    sums-more _ _ _ _ _ (at-loop .loop .inv) (edge-of at .edge-at .ensures) (k .0) (k .1) (entry-of at-loop .pre .1 .tailed)
 
 returns : tie.Need-returns Inv-loop μ-loop
 returns c =

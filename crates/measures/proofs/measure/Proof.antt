@@ -9,7 +9,7 @@ use Rattle.measures.proofs.measure.Tie as tie
 returns : tie.Need-returns
 returns c =
     let entry = c .before in
-    let p = entry .pre in
+    let p = entry .pre .0 in
     λ i. record {
       pins = sym (pins-count _ (p .arranged)) i;
       steiner = sym (steiner-count _ (p .arranged)) i;
@@ -18,4 +18,4 @@ returns c =
     }
 
 pub measure-spec : {M : Type 1} → statement M
-measure-spec = tie.close (tie.spec (λ c κs. search needs) returns)
+measure-spec = tie.close (tie.spec (λ c κs. (c .pre .0, c .pre .1 .tailed)) returns)

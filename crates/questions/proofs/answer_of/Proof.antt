@@ -22,7 +22,7 @@ returns c =
     let y = toZ-ofZ w32 _ (record { sfits = signed-y .ok }) ∙ signed-y .ensures ∙ ap coordinate (at-to-signed2 .before .y-of .ensures) in
     let u = toZ-ofZ w32 _ (record { sfits = signed-u .ok }) ∙ signed-u .ensures ∙ ap coordinate (at-to-signed3 .before .x-of2 .ensures) in
     let v = toZ-ofZ w32 _ (record { sfits = signed-v .ok }) ∙ signed-v .ensures ∙ ap coordinate (c .before .y-of2 .ensures) in
-    λ i. Edge (x i) (y i) (u i) (v i) (entry .args .e .distance)
+    λ i. Edge (x i) (y i) (u i) (v i) (entry .args .e .length)
 
 pub answer-of-spec : {M : Type 1} → statement M
 answer-of-spec =

@@ -19,14 +19,14 @@ best-requires : tie.Need-best-requires
 best-requires c κs =
     let at-keys = c .before .before .before in
     let entry = at-keys .before .before .before in
-    given (entry .args .w) (entry .pre) (xs-sized entry) (ys-sized entry) (keys-sized entry)
+    (given (entry .args .w) (entry .pre .0) (xs-sized entry) (ys-sized entry) (keys-sized entry), entry .pre .1)
 
 returns : tie.Need-returns
 returns c =
     let at-xs = c .before .before .before in
     let at-ys = at-xs .before .before in
     let entry = at-ys .before .before in
-    c .best .ensures ∙ best-is (entry .args .w) (entry .pre) (xs-sized entry) (ys-sized entry) (keys-sized entry)
+    c .best .ensures ∙ best-is (entry .args .w) (entry .pre .0) (xs-sized entry) (ys-sized entry) (keys-sized entry) (entry .args .tail)
 
 pub best-of-spec : {M : Type 1} → statement M
 best-of-spec =

@@ -11,7 +11,7 @@ use Rattle.plane.specs.Point.{Point}
 use Rattle.plane.specs.Code.{pointOf}
 use Rattle.plane.proofs.codes.Sets.{points-beside}
 use Rattle.model.specs.State.{empty}
-use Rattle.model.specs.Contents.{kindOr, withKinds, ofState, following, emptyContents}
+use Rattle.model.specs.Contents.{kindOr, withKinds, withTail, ofState, following, emptyContents}
 use Rattle.model.proofs.Session.{empty-valid}
 use Rattle.points.specs.declared.Points.{Points}
 use Rattle.points.specs.Coded as points
@@ -28,7 +28,7 @@ map-along g h [] e = refl
 map-along g h (k ∷ l) e = ap₂ _∷_ (e k (head refl)) (map-along g h l (λ j i. e j (tail i)))
 
 pub empty-contents : (w : Working) (q : Points) → q ≡ coded empty → InOrder w × (w .points ≡ q) → (zeros : List ℕ)
-    → contentsOf (record { form = w; kinds = zeros }) ≡ emptyContents
+    → contentsOf (record { form = w; kinds = zeros; tail = 0 }) ≡ emptyContents
 unfolding coded
 empty-contents w q e a zeros =
     ap (λ (z : Points). withKinds (points.stateOf z) (take (z .npins) zeros)) (a .1 ∙ e) ∙ ap ofState (state-coded empty (empty-valid .placed))
@@ -47,11 +47,11 @@ module _ (d : WorkingDeck) (p : InOrder (d .form)) (w : Working) (q : InOrder w)
   kindOf j = beside ltb k j pins kinds
 
   pub followed : {zeros row : List ℕ} {r : ℕ} → Pasted (map (λ (j : ℕ). beside ltb k j pins kinds) next) zeros row 0 r
-      → contentsOf (record { form = w; kinds = row }) ≡ following k (contentsOf d) (stateOf w)
+      → contentsOf (record { form = w; kinds = row; tail = d .tail }) ≡ following k (contentsOf d) (stateOf w)
   unfolding kindOf
   followed {row = row} {r = r} put =
       let count : r ≡ w .points .npins = front-count put ∙ length-map next kindOf ∙ codes-full (q .arranged .pinCodes) in
-      ap (withKinds (stateOf w))
+      ap (λ (l : List ℕ). withTail (d .tail) (withKinds (stateOf w) l))
       (ap (λ (z : ℕ). take z row) (sym count) ∙ front-take put
       ∙ map-along kindOf (kindOr k (contentsOf d)) next
       (λ j i. points-beside k j (q .arranged .pinCodes .codes j i) pins (p .arranged .pinCodes .codes) kinds))

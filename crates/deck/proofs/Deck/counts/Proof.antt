@@ -16,4 +16,4 @@ counts-spec =
     tie.close
     (tie.spec (λ c κs. search needs)
     (λ c. refused-answer _ (c .before .before .check .ensures) _ (c .if1 .taken))
-    (λ c κs. ready _ (c .before .before .check .ensures) (c .if1 .left) .0) returned)
+    (λ c κs. ready _ (c .before .before .check .ensures) (c .if1 .left)) returned)

@@ -11,7 +11,7 @@ use Rattle.deck.proofs.Deck.empty.Tie as tie
 
 returns : tie.Need-returns
 unfolding deckOf listed union mst kruskal edges pairs points
-returns c = λ i. record { points = c .empty .ensures i; kinds = replicate 64 0; ends = replicate 128 0 }
+returns c = λ i. record { points = c .empty .ensures i; kinds = replicate 64 0; tail = 0; ends = replicate 128 0 }
 
 pub empty-spec : {M : Type 1} → statement M
 empty-spec = tie.close (tie.spec (λ c κs. tt) returns)

@@ -35,6 +35,7 @@ returns c =
     λ i. record {
       points = arranged-coded _ (entry .pre .arranged) i;
       kinds = c .in-front .ensures i;
+      tail = entry .args .w .tail;
       ends = at-edges .edge-numbers .ensures i;
     }
 
