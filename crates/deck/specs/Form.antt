@@ -6,6 +6,7 @@ use lib.ListN.{take}
 use Rattle.arrays.specs.Same.{sameList}
 use Rattle.model.specs.State.{State, maxPins}
 use Rattle.model.specs.Contents.{Contents, withKinds, withTail, ValidContents, validContents}
+use Rattle.model.specs.Tail.{noTail}
 use Rattle.points.specs.declared.Points.{Points}
 use Rattle.points.specs.Coded as coded
 use Rattle.edges.specs.Edges.{edgeRow}
@@ -21,6 +22,10 @@ contentsOf d = withTail (d .tail) (withKinds (coded.stateOf (d .points)) (take (
 
 abbrev pub stateOf : Deck → State
 stateOf d = contentsOf d .state
+
+-- A deck without its tail, and all else kept.
+abbrev pub withoutTail : Deck → Deck
+withoutTail d = record { points = d .points; kinds = d .kinds; tail = noTail; ends = d .ends }
 
 -- A sound deck (SPEC 5.2): it is the deck of valid contents, in every place.
 pub record Sound (d : Deck) : Type 0 where

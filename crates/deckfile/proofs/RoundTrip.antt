@@ -25,7 +25,7 @@ use Rattle.model.proofs.Session.{empty-contents}
 use Rattle.deck.specs.declared.Deck.{Deck}
 use Rattle.deck.specs.declared.Outcome.{Outcome}
 use Rattle.calls.specs.declared.Reply.the-variants as reply
-use Rattle.deck.specs.Form.{deckOf, contentsOf, Sound, sound}
+use Rattle.deck.specs.Form.{deckOf, contentsOf, withoutTail, Sound, sound}
 use Rattle.deck.proofs.Form.{contents-deck, deck-sound, sound-is, sound-arranged}
 use Rattle.deckfile.specs.declared.Written.the-variants.{Refused, Length}
 use Rattle.deckfile.specs.Reading.{readOutcome, reading, acceptedDeck}
@@ -103,10 +103,10 @@ sound-fits d l s h =
     }
 
 pub written-then-read : WrittenRead
-unfolding readOutcome
+unfolding readOutcome deckOf
 written-then-read d l n e =
     let w = wrote d l n e in
-    ap reading (wrote-file d l n w) ∙ ap readOutcome (written-read (contentsOf d) (w .sound .valid)) ∙ ap acceptedDeck (sym (w .sound .same))
+    ap reading (wrote-file d l n w) ∙ ap readOutcome (written-read (contentsOf d) (w .sound .valid)) ∙ ap (λ (z : Deck). acceptedDeck (withoutTail z)) (sym (w .sound .same))
 
 pub full-back : FullWrittenBack
 full-back b d l h e full k =

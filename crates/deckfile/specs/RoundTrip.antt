@@ -11,7 +11,7 @@ use Rattle.model.specs.Contents.{kindAt}
 use Rattle.model.specs.Sections.{sectionCount}
 use Rattle.model.specs.File.{plain}
 use Rattle.deck.specs.declared.Deck.{Deck}
-use Rattle.deck.specs.Form.{contentsOf, stateOf, Sound}
+use Rattle.deck.specs.Form.{contentsOf, stateOf, withoutTail, Sound}
 use Rattle.deckfile.specs.declared.Written.the-variants.{Length}
 use Rattle.deckfile.specs.Reading.{reading, acceptedDeck}
 use Rattle.deckfile.specs.Writing.{written, bufferAfter}
@@ -30,9 +30,9 @@ pub record Fits (d : Deck) (l : List ℕ) : Type 0 where
 abbrev pub SoundFits : Type 0
 SoundFits = (d : Deck) (l : List ℕ) → Sound d → 856 ≤ length l → Fits d l
 
--- What was written, read again, is the same deck (SPEC 7.6).
+-- What was written, read again, is the same deck but for its tail, which is 0 (SPEC 7.6).
 abbrev pub WrittenRead : Type 0
-WrittenRead = (d : Deck) (l : List ℕ) (n : ℕ) → written d l ≡ Length n → reading (take n (bufferAfter d l)) ≡ acceptedDeck d
+WrittenRead = (d : Deck) (l : List ℕ) (n : ℕ) → written d l ≡ Length n → reading (take n (bufferAfter d l)) ≡ acceptedDeck (withoutTail d)
 
 -- A full file read is written back the same, byte for byte; so is one of 0 or 1 pin, which is full and plain at once (SPEC 7.4, 7.6).
 abbrev pub FullWrittenBack : Type 0

@@ -129,7 +129,7 @@ fn kinds_of(b: &[u8], n: usize) -> [u8; MAX_PINS]
     in_front(&b[at..at + n])
 }
 
-// Check 15: returns the deck of the file, whose working form is given, and done, or refusal 15.
+// Check 15: returns the deck of the file, whose working form is given, without tails, and done, or refusal 15.
 fn with_kinds(b: &[u8], w: Working) -> Changed
     requires { ⌜ Sections (now b) ⌝ }
     requires { ⌜ InOrder w ⌝ }
@@ -140,6 +140,7 @@ fn with_kinds(b: &[u8], w: Working) -> Changed
         return accept(WorkingDeck {
             form: w,
             kinds: [SENSOR; MAX_PINS],
+            tail: 0,
         });
     }
     let n = w.points.npins;
@@ -147,7 +148,11 @@ fn with_kinds(b: &[u8], w: Working) -> Changed
         return refuse(15);
     }
     let kinds = kinds_of(b, n);
-    accept(WorkingDeck { form: w, kinds })
+    accept(WorkingDeck {
+        form: w,
+        kinds,
+        tail: 0,
+    })
 }
 
 // Checks 6 and 15: a file that is not plain has the edges of its deck, and every file shows the points of a valid state; then the kinds.

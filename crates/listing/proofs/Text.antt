@@ -37,12 +37,12 @@ kindsText l = numbersLine kindsWord (getD l 0 0) (getD l 1 0) (getD l 2 0)
 
 pub listing-put : (d : WorkingDeck) (m : Measures) (l : List ℕ) → m ≡ measuresOf (workingDeck.contentsOf d) → l ≡ kindLengths (workingDeck.contentsOf d)
     → {old new : List ℕ} {at r : ℕ}
-    → (let s = work.stateOf (d .form) in Pasted (headText m ++ (kindsText l ++ (tapLines (s .steiner) ++ runLines (question.listed s)))) old new at r)
+    → (let s = work.stateOf (d .form) in Pasted (headText m ++ (kindsText l ++ (tapLines (s .steiner) ++ runLines (d .tail) (question.listed s)))) old new at r)
     → Pasted (listing (workingDeck.contentsOf d)) old new at r
 unfolding listing
 listing-put d m l e f =
     let s = work.stateOf (d .form) in
-    pasted-same (λ i. headText (e i) ++ (kindsText (f i) ++ (tapLines (s .steiner) ++ runLines (question.listed s))))
+    pasted-same (λ i. headText (e i) ++ (kindsText (f i) ++ (tapLines (s .steiner) ++ runLines (d .tail) (question.listed s))))
 
 -- The text of a file, by what reading it gives.
 pub text-refused : (b : List ℕ) (n : ℕ) → readFile b ≡ refusal n → refusedLine n ≡ listingOfFile b

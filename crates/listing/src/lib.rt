@@ -62,7 +62,7 @@ pub fn list_working(d: WorkingDeck, out: &mut [u8]) -> usize
     let kinds = numbers_line(out, 0, b"deck", m.pins, m.steiner, m.length);
     let taps = numbers_line(out, kinds, b"kinds", lengths[0], lengths[1], lengths[2]);
     let runs = write_taps(d.form, out, taps);
-    run_lines(out, runs, d.form)
+    run_lines(out, runs, d.form, d.tail)
 }
 
 // The listing of a deck at the front of `out`, or the line of refusal 11 where the deck is not sound; `out` has to have room for LISTING_ROOM

@@ -17,6 +17,7 @@ ghost use Rattle.plane.specs.Coordinate.{coordinate};
 ghost use Rattle.model.specs.Listing as model;
 ghost use Rattle.plane.specs.Code.{pointOf};
 ghost use Rattle.model.specs.State.{Valid};
+ghost use Rattle.model.specs.Tail.{longestTail};
 ghost use Rattle.model.specs.Question.{listed};
 ghost use Rattle.working.specs.InOrder.{InOrder, stateOf};
 ghost use Rattle.edges.specs.Edges.{edgeOf};
@@ -83,28 +84,29 @@ pub fn tap_lines(out: &mut [u8], at: usize, codes: &[u64], n: usize) -> usize
 // The run line of an edge.
 fn run_line(out: &mut [u8], at: usize, e: CodedEdge) -> usize
     requires { ⌜ at + 53 ≤ length (now out) ⌝ }
-    ensures { λ r. ⌜ Pasted (runLine (edgeOf e) (e .distance)) (now (out .entry)) (now (out .exit)) at r ⌝ }
+    ensures { λ r. ⌜ Pasted (runLine (edgeOf e) (e .length)) (now (out .entry)) (now (out .exit)) at r ⌝ }
     ensures { λ r. ⌜ r ≤ at + 53 ⌝ }
 {
     let n = put_bytes(out, at, b"run");
     let p = point_fields(out, n, e.low);
     let q = point_fields(out, p, e.high);
-    let r = decimal_field(out, q, e.distance);
+    let r = decimal_field(out, q, e.length);
     put_byte(out, r, b'\n')
 }
 
-// Puts the run lines of a working form from place `at` on. Returns the place behind them.
-pub fn run_lines(out: &mut [u8], at: usize, w: Working) -> usize
+// Puts the run lines of a working form from place `at` on, with the tails in their lengths. Returns the place behind them.
+pub fn run_lines(out: &mut [u8], at: usize, w: Working, tail: u64) -> usize
     requires { ⌜ at + 6625 ≤ length (now out) ⌝ }
     requires { ⌜ InOrder w ⌝ }
     requires { ⌜ Valid (stateOf w) ⌝ }
-    ensures { λ r. ⌜ Pasted (model.runLines (listed (stateOf w))) (now (out .entry)) (now (out .exit)) at r ⌝ }
+    requires { ⌜ tail ≤ longestTail ⌝ }
+    ensures { λ r. ⌜ Pasted (model.runLines tail (listed (stateOf w))) (now (out .entry)) (now (out .exit)) at r ⌝ }
 {
     let ends = edge_numbers(w);
     let mut next = at;
     let mut i = 0;
     while i < w.nkeys {
-        next = run_line(out, next, edge_at(w, &ends, i));
+        next = run_line(out, next, edge_at(w, &ends, i, tail));
         i += 1;
     }
     next

@@ -8,25 +8,31 @@ use Rattle.arrays.specs.Number.{number4}
 use Rattle.arrays.specs.Test.{if}
 use Rattle.plane.specs.Point.{Point}
 use Rattle.model.specs.Contents.{emptyContents}
-use Rattle.model.specs.Call.{Call, add, withdraw, oneRound, runToEnd}
+use Rattle.model.specs.Call.{Call, add, withdraw, oneRound, runToEnd, setTail}
 use Rattle.model.specs.File.{Read, deck, readFile}
 
 -- The whole number that is n in 32 bits of two's complement: 4,294,967,296 less from 2,147,483,648 on.
 unfoldable pub signed32 : ℕ → ℤ
 signed32 n = subℕ n (4294967296 * (n / 2147483648))
 
--- The call with this number: 0 adds a device of kind k and 1 withdraws, at p; 2 is a round, 3 a run to the end. Any other number is no call.
-unfoldable pub callOf : ℕ → ℕ → Point → List Call
-callOf n k p =
-    if (eqb n 0) (λ _. add p k ∷ [])
-    (λ _. if (eqb n 1) (λ _. withdraw p ∷ [])
-    (λ _. if (eqb n 2) (λ _. oneRound ∷ [])
-    (λ _. if (eqb n 3) (λ _. runToEnd ∷ []) (λ _. []))))
+-- The point of two numbers of 32 bits, each in two's complement.
+abbrev pub pointOf : ℕ → ℕ → Point
+pointOf u v = record { x = signed32 u; y = signed32 v }
 
--- The twelve bytes of a call from place i on: its number, a kind, two bytes that are not looked at (for a storey and for nothing yet), then x
--- and y.
+-- The call with this number: 0 adds a device of kind k and 1 withdraws, at the point of u and v; 2 is a round, 3 a run to the end; 4 sets the tail
+-- length to u, which has no sign. Any other number is no call.
+unfoldable pub callOf : ℕ → ℕ → ℕ → ℕ → List Call
+callOf n k u v =
+    if (eqb n 0) (λ _. add (pointOf u v) k ∷ [])
+    (λ _. if (eqb n 1) (λ _. withdraw (pointOf u v) ∷ [])
+    (λ _. if (eqb n 2) (λ _. oneRound ∷ [])
+    (λ _. if (eqb n 3) (λ _. runToEnd ∷ [])
+    (λ _. if (eqb n 4) (λ _. setTail u ∷ []) (λ _. [])))))
+
+-- The twelve bytes of a call from place i on: its number, a kind, two bytes that are not looked at (for a storey and for nothing yet), then two
+-- numbers of four bytes each.
 unfoldable pub callAt : List ℕ → ℕ → List Call
-callAt b i = callOf (getD b i 0) (getD b (i + 1) 0) (record { x = signed32 (number4 b (i + 4)); y = signed32 (number4 b (i + 8)) })
+callAt b i = callOf (getD b i 0) (getD b (i + 1) 0) (number4 b (i + 4)) (number4 b (i + 8))
 
 -- The calls in the first n times twelve bytes.
 unfoldable pub firstCalls : ℕ → List ℕ → List Call

@@ -24,17 +24,19 @@ fn signed32(n: usize) -> i32
     (n - HALF) as i32 + -2147483648
 }
 
-// The deck after the call of this number, with a kind and at x, y. A number that is not known is no call.
-fn call(d: Deck, number: u8, kind: u8, x: i32, y: i32) -> Deck
-    ensures { λ r. ⌜ r ≡ deckAfter d (bytes.callOf number kind (record { x = x; y = y })) ⌝ }
+// The deck after the call of this number, with a kind and two numbers of 32 bits: a place, or a tail length in the first. A number that is not
+// known is no call.
+fn call(d: Deck, number: u8, kind: u8, first: usize, second: usize) -> Deck
+    requires { ⌜ (first < 4294967296) × (second < 4294967296) ⌝ }
+    ensures { λ r. ⌜ r ≡ deckAfter d (bytes.callOf number kind first second) ⌝ }
 {
     match number {
         0 => {
-            let o = d.add(x, y, kind as u32);
+            let o = d.add(signed32(first), signed32(second), kind as u32);
             o.next
         }
         1 => {
-            let o = d.withdraw(x, y);
+            let o = d.withdraw(signed32(first), signed32(second));
             o.next
         }
         2 => {
@@ -45,7 +47,11 @@ fn call(d: Deck, number: u8, kind: u8, x: i32, y: i32) -> Deck
             let o = d.run_to_end();
             o.next
         }
-        4..=255 => d,
+        4 => {
+            let o = d.set_tail(first as u32);
+            o.next
+        }
+        5..=255 => d,
     }
 }
 
@@ -54,9 +60,9 @@ fn call_at(d: Deck, calls: &[u8], at: usize) -> Deck
     requires { ⌜ at + 12 ≤ length (now calls) ⌝ }
     ensures { λ r. ⌜ r ≡ deckAfter d (bytes.callAt (now (calls .entry)) at) ⌝ }
 {
-    let x = signed32(number4(calls, at + 4));
-    let y = signed32(number4(calls, at + 8));
-    call(d, calls[at], calls[at + 1], x, y)
+    let first = number4(calls, at + 4);
+    let second = number4(calls, at + 8);
+    call(d, calls[at], calls[at + 1], first, second)
 }
 
 // Returns the deck after all calls, each made on the deck of the one before. Fewer than twelve bytes at the end are no call.

@@ -22,7 +22,7 @@ use Rattle.working.specs.declared.deck.WorkingDeck.{WorkingDeck}
 use Rattle.calls.specs.Changes.{refusalNumber, ChangedBy}
 use Rattle.deck.specs.declared.Deck.{Deck}
 use Rattle.deck.specs.declared.Outcome.{Outcome}
-use Rattle.deck.specs.Form.{deckOf}
+use Rattle.deck.specs.Form.{deckOf, withoutTail}
 use Rattle.deck.specs.Session.{deckAfter}
 use Rattle.deck.proofs.Form.{contents-deck}
 use Rattle.deck.proofs.Session.{valid-passes, after-deck}
@@ -117,7 +117,10 @@ entered r p calls l =
       least = λ c e. file-size (contentsAfter c calls) (after-valid calls c (possible-valid r p c e)) .0;
     }
 
--- The file after the calls is read as the deck after the calls.
-pub answer-read : (c : Contents) → ValidContents c → (calls : List Call) → reading (fileOf (contentsAfter c calls)) ≡ acceptedDeck (deckAfter (deckOf c) calls)
-unfolding readOutcome
-answer-read c v calls = ap readOutcome (written-read (contentsAfter c calls) (after-valid calls c v)) ∙ ap acceptedDeck (sym (after-deck calls c v))
+-- The file after the calls is read as the deck after the calls, without its tail.
+pub answer-read : (c : Contents) → ValidContents c → (calls : List Call)
+    → reading (fileOf (contentsAfter c calls)) ≡ acceptedDeck (withoutTail (deckAfter (deckOf c) calls))
+unfolding readOutcome deckOf
+answer-read c v calls =
+    ap readOutcome (written-read (contentsAfter c calls) (after-valid calls c v))
+    ∙ ap (λ (z : Deck). acceptedDeck (withoutTail z)) (sym (after-deck calls c v))

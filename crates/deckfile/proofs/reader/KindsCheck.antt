@@ -96,7 +96,7 @@ module _ (b : List ℕ) (d : Sections b) where
     count : w .points .npins ≡ length (fileState b .pins)
     count = sym (pins-count (w .points) (p .arranged)) ∙ ap (λ z. length (z .pins)) is
 
-    pub shows-sensors : hasKinds b ≡ false → deck (contentsOf (record { form = w; kinds = replicate maxPins sensor })) ≡ kindsAnswer b
+    pub shows-sensors : hasKinds b ≡ false → deck (contentsOf (record { form = w; kinds = replicate maxPins sensor; tail = 0 })) ≡ kindsAnswer b
     shows-sensors e =
         let k = three-kinds b (three e) in
         ap deck
@@ -118,7 +118,7 @@ module _ (b : List ℕ) (d : Sections b) where
           (and-parts (eqb (length (section b kindsPlace)) (w .points .npins)) _ (of-true (sym f ∙ g)) .0))
 
       pub shows-kinds : {t : Bool} → t ≡ allKinds (section b kindsPlace) (w .points .npins) → t ≡ true
-          → {row : List ℕ} → row ≡ padded maxPins (section b kindsPlace) → deck (contentsOf (record { form = w; kinds = row })) ≡ kindsAnswer b
+          → {row : List ℕ} → row ≡ padded maxPins (section b kindsPlace) → deck (contentsOf (record { form = w; kinds = row; tail = 0 })) ≡ kindsAnswer b
       shows-kinds f g r =
           ap deck
           (λ i. withKinds (is i)

@@ -7,41 +7,35 @@ use native.Mathlib.Omega.{arith}
 use lib.IntN.{ℤ}
 use lib.ListN.{getD}
 use borrow.Author.Tests.{ne-eqb}
-use mir.Syntax.{w32}
-use mir.Val.{SFits}
 use Rattle.plane.specs.Point.{Point}
 use Rattle.model.specs.Call.{Call}
-use Rattle.arrays.proofs.Signed.{read, read-two}
 use Rattle.arrays.specs.Number.{number4}
 use Rattle.deck.specs.declared.Deck.{Deck}
 use Rattle.deck.specs.declared.Outcome.{Outcome}
 use Rattle.deck.specs.Calls.{called}
 use Rattle.deck.specs.Session.{deckAfter}
-use Rattle.replay.specs.Calls.{signed32, callOf, callAt, firstCalls}
-
-abbrev at : ℤ → ℤ → Point
-at x y = record { x = x; y = y }
+use Rattle.replay.specs.Calls.{signed32, pointOf, callOf, callAt, firstCalls}
 
 -- The call of the number k, on the deck d.
-module _ (d : Deck) {o : Outcome} {n k : ℕ} (is : n ≡ k) (kind : ℕ) where
-  pub one-call : (p : Point) {c : Call} → callOf k kind p ≡ c ∷ [] → o ≡ called d c → o .next ≡ deckAfter d (callOf n kind p)
+module _ (d : Deck) {o : Outcome} {n k : ℕ} (is : n ≡ k) (kind u v : ℕ) where
+  pub one-call : {c : Call} → callOf k kind u v ≡ c ∷ [] → o ≡ called d c → o .next ≡ deckAfter d (callOf n kind u v)
   unfolding deckAfter
-  one-call p f e = ap (λ (z : Outcome). z .next) e ∙ sym (ap (deckAfter d) (ap (λ (m : ℕ). callOf m kind p) is ∙ f))
+  one-call f e = ap (λ (z : Outcome). z .next) e ∙ sym (ap (deckAfter d) (ap (λ (m : ℕ). callOf m kind u v) is ∙ f))
 
   -- That of a call at a point, whose numbers are read back from their bits.
-  pub point-call : (call : Point → Call) (x y : ℤ) → SFits w32 x → SFits w32 y → callOf k kind (at x y) ≡ call (at x y) ∷ []
-      → o ≡ called d (call (at (read x) (read y))) → o .next ≡ deckAfter d (callOf n kind (at x y))
-  point-call call x y fx fy f e = one-call (at x y) f (e ∙ read-two (λ (u v : ℤ). called d (call (at u v))) x y fx fy)
+  pub point-call : (call : Point → Call) (x y : ℤ) → x ≡ signed32 u → y ≡ signed32 v → callOf k kind u v ≡ call (pointOf u v) ∷ []
+      → o ≡ called d (call (record { x = x; y = y })) → o .next ≡ deckAfter d (callOf n kind u v)
+  point-call call x y ex ey f e = one-call f (e ∙ (λ i. called d (call (record { x = ex i; y = ey i }))))
 
-pub no-call : (d : Deck) (n kind : ℕ) (p : Point) → ¬ (n ≡ 0) → ¬ (n ≡ 1) → ¬ (n ≡ 2) → ¬ (n ≡ 3) → d ≡ deckAfter d (callOf n kind p)
+pub no-call : (d : Deck) (n kind u v : ℕ) → ¬ (n ≡ 0) → ¬ (n ≡ 1) → ¬ (n ≡ 2) → ¬ (n ≡ 3) → ¬ (n ≡ 4) → d ≡ deckAfter d (callOf n kind u v)
 unfolding deckAfter callOf
-no-call d n kind p a b c e = rw (ne-eqb n 0 a, ne-eqb n 1 b, ne-eqb n 2 c, ne-eqb n 3 e)
+no-call d n kind u v a b c e f = rw (ne-eqb n 0 a, ne-eqb n 1 b, ne-eqb n 2 c, ne-eqb n 3 e, ne-eqb n 4 f)
 
 -- The call in the twelve bytes from place i on.
-pub call-read : (d : Deck) (l : List ℕ) (i : ℕ) {x y : ℤ} → x ≡ signed32 (number4 l (i + 4)) → y ≡ signed32 (number4 l (i + 8))
-    → deckAfter d (callOf (getD l i 0) (getD l (i + 1) 0) (at x y)) ≡ deckAfter d (callAt l i)
+pub call-read : (d : Deck) (l : List ℕ) (i : ℕ) {u v : ℕ} → u ≡ number4 l (i + 4) → v ≡ number4 l (i + 8)
+    → deckAfter d (callOf (getD l i 0) (getD l (i + 1) 0) u v) ≡ deckAfter d (callAt l i)
 unfolding callAt
-call-read d l i e f = λ k. deckAfter d (callOf (getD l i 0) (getD l (i + 1) 0) (at (e k) (f k)))
+call-read d l i e f = λ k. deckAfter d (callOf (getD l i 0) (getD l (i + 1) 0) (e k) (f k))
 
 -- One call more of a list.
 after-both : (l m : List Call) (d : Deck) → deckAfter d (l ++ m) ≡ deckAfter (deckAfter d l) m

@@ -13,30 +13,30 @@ use Rattle.listing.proofs.rows.run_lines.Statement.{statement}
 use Rattle.listing.proofs.rows.run_lines.Tie as tie
 
 abbrev Inv-loop : tie.InvT-loop
-Inv-loop out₀ at w ends next₀ i₀ out next i = PutFirst (runText (listed (stateOf w))) 53 (w .nkeys) out₀ out at next i
+Inv-loop out₀ at w tail ends next₀ i₀ out next i = PutFirst (runText tail (listed (stateOf w))) 53 (w .nkeys) out₀ out at next i
 
 abbrev μ-loop : tie.MeasureT-loop
-μ-loop out₀ at w ends next₀ i₀ out next i = w .nkeys - i
+μ-loop out₀ at w tail ends next₀ i₀ out next i = w .nkeys - i
 
 loop-holds : tie.Need-loop-holds Inv-loop μ-loop
 loop-holds c =
     let entry = c .before .before in
     let l = listed (stateOf (entry .args .w)) in
-    first-none (runText l) 53 _ _ _ (run-none l)
+    first-none (runText (entry .args .tail) l) 53 _ _ _ (run-none _ l)
 
 edge-at-requires : tie.Need-edge-at-requires Inv-loop μ-loop
 edge-at-requires c κs =
     let at-test = c .before .before in
     let at-edge-numbers = at-test .before .before .before in
     let entry = at-edge-numbers .before .before in
-    (entry .pre .1 .0, (at-edge-numbers .edge-numbers .ensures, at-test .if1 .taken))
+    (entry .pre .1 .0, (at-edge-numbers .edge-numbers .ensures, (at-test .if1 .taken, entry .pre .1 .1 .1)))
 
 run-line-requires : tie.Need-run-line-requires Inv-loop μ-loop
 run-line-requires c κs =
     let at-test = c .before .before .before in
     let at-loop = at-test .before .before in
     let entry = at-loop .before .before .before in
-    let few = edges-few _ (entry .pre .1 .1) in
+    let few = edges-few _ (entry .pre .1 .1 .0) in
     let inv = at-loop .loop .inv in
     omega (arith, inv .most, inv .same, few, edge-count _ (entry .pre .1 .0), at-test .if1 .taken)
 
@@ -48,10 +48,10 @@ loop-again c =
     let at-loop = at-test .before .before in
     let entry = at-loop .before .before .before in
     let s = stateOf (entry .args .w) in
-    let few = edges-few _ (entry .pre .1 .1) in
+    let few = edges-few _ (entry .pre .1 .1 .0) in
     let inv = at-loop .loop .inv in
     let line = at-run-line .run-line in
-    first-more (runText (listed s)) 53 _ _ _ _ _ _ _ _ _ inv (at-test .if1 .taken) (run-more s _ _ (at-edge-at .edge-at .ensures))
+    first-more (runText (entry .args .tail) (listed s)) 53 _ _ _ _ _ _ _ _ _ inv (at-test .if1 .taken) (run-more _ s _ _ (at-edge-at .edge-at .ensures))
     (omega (arith, inv .most, inv .same, few, edge-count _ (entry .pre .1 .0), at-test .if1 .taken)) (line .ensures .0) (line .ensures .1) (line .kept .0)
 
 same-length : tie.Need-same-length Inv-loop μ-loop
@@ -62,8 +62,8 @@ returns c =
     let at-loop = c .before .before in
     let entry = at-loop .before .before .before in
     let w = entry .args .w in
-    let all = first-end (runText (listed (stateOf w))) 53 _ _ _ _ _ _ (at-loop .loop .inv) (c .if1 .left) in
-    pasted-same (run-all (stateOf w) (w .nkeys) (omega (arith, listed-length w (entry .pre .1 .0)))) (all .0)
+    let all = first-end (runText (entry .args .tail) (listed (stateOf w))) 53 _ _ _ _ _ _ (at-loop .loop .inv) (c .if1 .left) in
+    pasted-same (run-all _ (stateOf w) (w .nkeys) (omega (arith, listed-length w (entry .pre .1 .0)))) (all .0)
 
 pub run-lines-spec : {M : Type 1} → statement M
 run-lines-spec =

@@ -1,7 +1,5 @@
--- `replay::list::call_at` meets its contract: the call of the number and of the two signed numbers read.
-use mathlib.Core.Path.{ap, _∙_}
-use Rattle.arrays.proofs.Signed.{read-is}
-use Rattle.replay.specs.Calls.{signed32}
+-- `replay::list::call_at` meets its contract: the call of the number and of the two numbers read.
+use mathlib.Core.Path.{_∙_}
 use Rattle.replay.proofs.list.Calls.{call-read}
 use borrow.Author.Needs.{needs}
 use Rattle.replay.proofs.list.call_at.Statement.{statement}
@@ -9,11 +7,9 @@ use Rattle.replay.proofs.list.call_at.Tie as tie
 
 returns : tie.Need-returns
 returns c =
-    let at-signed322 = c .before .before .before in
-    let at-signed32 = at-signed322 .before .before in
-    c .call .ensures ∙ call-read _ _ _
-    (read-is (record { sfits = at-signed32 .signed32 .ok }) (at-signed32 .signed32 .ensures ∙ ap signed32 (at-signed32 .before .number4 .ensures .0)))
-    (read-is (record { sfits = at-signed322 .signed322 .ok }) (at-signed322 .signed322 .ensures ∙ ap signed32 (at-signed322 .before .number42 .ensures .0)))
+    let at-second = c .before .before .before in
+    let at-first = at-second .before in
+    c .call .ensures ∙ call-read _ _ _ (at-first .number4 .ensures .0) (at-second .number42 .ensures .0)
 
 pub call-at-spec : {M : Type 1} → statement M
 call-at-spec =
@@ -21,9 +17,7 @@ call-at-spec =
     (tie.spec
     (λ c. search needs)
     (λ c κs. search needs)
-    (λ c κs. search needs)
     (λ c. search needs)
-    (λ c κs. search needs)
     (λ c κs. search needs)
     (λ c. search needs)
     (λ c. search needs)
