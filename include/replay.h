@@ -25,15 +25,17 @@ extern "C" {
 
 /* Makes a list of calls on the deck of a file, or on an empty deck where file_len is 0, and writes the deck file that they leave
  * into out. A call is twelve bytes:
- *   0      its number: 0 adds a pin at x, y; 1 withdraws the pin there; 2 is a round; 3 a run to the end
+ *   0      its number: 0 adds a pin at x, y; 1 withdraws the pin there; 2 is a round; 3 a run to the end; 4 sets the tail length
  *   1      the kind of the pin that call 0 adds: 0 a sensor, 1 a display, 2 a lane controller; the call is refused where it is
- *          above 2. Unused in calls 1 to 3: zero
+ *          above 2. Unused in calls 1 to 4: zero
  *   2 3    a storey and a spare byte, unused today: zeros
- *   4      x, a 32-bit two's complement number, little-endian
- *   8      y, the same; x and y of calls 2 and 3 are unused: zeros
- * Lists of calls 0 to 3 with zeros in the unused bytes keep their meaning for good. Today a call of any other number does nothing,
- * unused bytes are not looked at, and fewer than twelve bytes at the end are no call; what other numbers, and other bytes in the
- * unused places, mean may be settled later. A call that is refused leaves the deck, and the next one follows.
+ *   4      x, a 32-bit two's complement number, little-endian; in call 4 the tail length in centimetres, without sign: the spare
+ *          cable at each end of every run, 0 to 500; the call is refused where it is above 500
+ *   8      y, as x; unused are y of call 4, and x and y of calls 2 and 3: zeros
+ * The tail length is not filed: the deck of a file has 0, and the file that is written does not show it. Lists of calls 0 to 4 with
+ * zeros in the unused bytes keep their meaning for good. Today a call of any other number does nothing, unused bytes are not looked
+ * at, and fewer than twelve bytes at the end are no call; what other numbers, and other bytes in the unused places, mean may be
+ * settled later. A call that is refused leaves the deck, and the next one follows.
  *
  * Returns how many bytes it wrote, 30 at least, or the number of a refusal:
  *   1  fewer than 30 or more than 856 bytes, not DECK, or neither 3 nor 4 sections

@@ -62,6 +62,7 @@ callFor (change.Add x y kind) = call.add (point x y) kind
 callFor (change.Withdraw x y) = call.withdraw (point x y)
 callFor change.Round = call.oneRound
 callFor change.Finish = call.runToEnd
+callFor (change.Tail n) = call.setTail n
 
 unfoldable pub questionFor : Query → Question
 questionFor query.Length = ofLength

@@ -160,6 +160,7 @@ fn call(d: Deck, c: Change, out: &mut [u8]) -> Played
         Change::Withdraw(x, y) => changed(d.withdraw(x, y), out),
         Change::Round => changed(d.round(), out),
         Change::Finish => changed(d.run_to_end(), out),
+        Change::Tail(n) => changed(d.set_tail(n), out),
     }
 }
 

@@ -7,7 +7,7 @@ use lib.IntN.{ℤ, pos, natAbs}
 use lib.Signed.{ltZ}
 use Rattle.arrays.proofs.Signed.{if-negative, if-natural}
 use Rattle.commands.specs.declared.Command.the-variants.{Error, Write, Call, Ask, Direct}
-use Rattle.commands.specs.declared.Change.the-variants.{Add, Withdraw, Round, Finish}
+use Rattle.commands.specs.declared.Change.the-variants.{Add, Withdraw, Round, Finish, Tail}
 use Rattle.commands.specs.declared.Query.the-variants.{Length, Counts, Run, Degree, Kinds}
 use Rattle.commands.specs.declared.Direction.the-variants.{Octant, Arrow, Glyph}
 use Rattle.commands.specs.declared.Command.the-variants as command
@@ -71,9 +71,14 @@ module _ (w : List ℕ) (n : ℕ) where
     unfolding withSize
     sized-run b = rw (a, b) refl
 
-    pub sized-none : sameList w (bytes "run") ≡ false → Error ≡ withSize w n
-    unfolding withSize
-    sized-none b = rw (a, b) refl
+    module _ (b : sameList w (bytes "run") ≡ false) where
+      pub sized-tail : sameList w (bytes "tail") ≡ true → Call (Tail n) ≡ withSize w n
+      unfolding withSize
+      sized-tail c = rw (a, b, c) refl
+
+      pub sized-none : sameList w (bytes "tail") ≡ false → Error ≡ withSize w n
+      unfolding withSize
+      sized-none c = rw (a, b, c) refl
 
 -- Those with a number: `glyph` with any, the others with a size.
 module _ (w : List ℕ) (i : ℤ) where

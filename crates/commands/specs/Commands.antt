@@ -7,7 +7,7 @@ use lib.Signed.{leZ}
 use Rattle.arrays.specs.Test.{if, ifNatural}
 use Rattle.commands.specs.declared.Command.{Command}
 use Rattle.commands.specs.declared.Command.the-variants.{Error, Write, Call, Ask, Direct}
-use Rattle.commands.specs.declared.Change.the-variants.{Add, Withdraw, Round, Finish}
+use Rattle.commands.specs.declared.Change.the-variants.{Add, Withdraw, Round, Finish, Tail}
 use Rattle.commands.specs.declared.Query.the-variants.{Length, Counts, Run, Degree, Kinds}
 use Rattle.commands.specs.declared.Direction.the-variants.{Octant, Arrow, Glyph}
 use Rattle.commands.specs.declared.Command.the-variants as command
@@ -35,11 +35,12 @@ ofOneWord w =
     (λ _. if (sameList w (bytes "finish")) (λ _. Call Finish)
     (λ _. if (sameList w (bytes "list")) (λ _. command.List) (λ _. questionWord w))))
 
--- A word and a size: `write CAPACITY`, `run I`.
+-- A word and a size: `write CAPACITY`, `run I`, `tail T`.
 unfoldable pub withSize : List ℕ → ℕ → Command
 withSize w n =
     if (sameList w (bytes "write")) (λ _. Write n)
-    (λ _. if (sameList w (bytes "run")) (λ _. Ask (Run n)) (λ _. Error))
+    (λ _. if (sameList w (bytes "run")) (λ _. Ask (Run n))
+    (λ _. if (sameList w (bytes "tail")) (λ _. Call (Tail n)) (λ _. Error)))
 
 -- A word and a number: `glyph N`, and the commands with a size, which is not negative.
 unfoldable pub withNumber : List ℕ → ℤ → Command

@@ -11,6 +11,7 @@ pub enum Change {
     Withdraw(i32, i32),
     Round,
     Finish,
+    Tail(u32),
 }
 
 // A question on the deck.
@@ -126,6 +127,9 @@ fn with_size(name: &[u8], n: u32) -> Command
     }
     if same_bytes(name, b"run") {
         return Command::Ask(Query::Run(n));
+    }
+    if same_bytes(name, b"tail") {
+        return Command::Call(Change::Tail(n));
     }
     Command::Error
 }

@@ -106,7 +106,8 @@ pub written-then-read : WrittenRead
 unfolding readOutcome deckOf
 written-then-read d l n e =
     let w = wrote d l n e in
-    ap reading (wrote-file d l n w) ∙ ap readOutcome (written-read (contentsOf d) (w .sound .valid)) ∙ ap (λ (z : Deck). acceptedDeck (withoutTail z)) (sym (w .sound .same))
+    ap reading (wrote-file d l n w)
+    ∙ ap readOutcome (written-read (contentsOf d) (w .sound .valid)) ∙ ap (λ (z : Deck). acceptedDeck (withoutTail z)) (sym (w .sound .same))
 
 pub full-back : FullWrittenBack
 full-back b d l h e full k =

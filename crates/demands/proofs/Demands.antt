@@ -44,6 +44,7 @@ use Rattle.listing.proofs.Text.{text-refused, text-deck}
 use Rattle.demands.proofs.Sessions.{after-calls, bounds}
 use Rattle.demands.proofs.KindLengths.{deck-lengths}
 use Rattle.demands.proofs.KindsFollow.{deck-kinds}
+use Rattle.demands.proofs.Tails.{deck-tails}
 use Rattle.demands.proofs.Replies.{refused-reply}
 use Rattle.demands.proofs.Method.{passes, calls-model, next-is, reply-is, next-sound, answered, runs-are-tree, round-of, sweeps-of, end-of}
 use Rattle.demands.specs.Demands.{InCase, FileAnswer, Demand1, Demand2, StartDeck, fresh, file, Demand3}
@@ -58,6 +59,7 @@ refused-case c (call.add p k) n e = let o = call.insertRefusal p k (c .state) in
 refused-case c (call.withdraw p) n e = let o = call.removeRefusal p (c .state) in (unless-kept o c _ n e, unless-number o c _ n .0 e)
 refused-case c call.oneRound n e = let z : _≡_ {A = ℕ} 0 1 = cc in absurd (omega arith)
 refused-case c call.runToEnd n e = let z : _≡_ {A = ℕ} 0 1 = cc in absurd (omega arith)
+refused-case c (call.setTail tail) n e = let o = call.tailRefusal tail in (unless-kept o c _ n e, unless-number o c _ n .0 e)
 
 refused-call : (d : Deck) (s : Sound d) (c : call.Call) (n : ℕ) → called d c .reply ≡ reply.Refused n → (called d c .next ≡ d) × InCase (contentsOf d) c n
 refused-call d s c n e =
@@ -119,6 +121,7 @@ demand2 =
       writtenSections = written-sections;
       writtenSizes = sound-fits;
       kinds = deck-kinds;
+      tails = deck-tails;
       lengths = deck-lengths;
       planned = λ b l. entered (readFile b) (read-possible b) toEnd l;
       listed = λ b. record {

@@ -18,7 +18,7 @@ use Rattle.demands.proofs.Method.{passes, answered}
 abbrev textWith : Contents → ℕ → List ℕ
 textWith c n =
     let s = c .state in
-    numbersLine deckWord (pinCount s) (steinerCount s) n ++ (kindsLine c ++ (tapLines (s .steiner) ++ runLines (listed s)))
+    numbersLine deckWord (pinCount s) (steinerCount s) n ++ (kindsLine c ++ (tapLines (s .steiner) ++ runLines (c .tail) (listed s)))
 
 pub deck-lengths : (d : Deck) → Sound d → DeckLengths d
 unfolding listing

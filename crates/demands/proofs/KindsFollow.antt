@@ -46,5 +46,6 @@ module _ (d : Deck) (s : Sound d) where
             (subst (λ (z : Contents). List·Memᴰ q (z .state .pins)) (next-contents d s (call.withdraw p)) i);
         rounded = same-devices call.oneRound (follows .rounded);
         ended = same-devices call.runToEnd (follows .ended);
+        set = λ tail. same-devices (call.setTail tail) (follows .set tail);
         turnedDown = λ c n e. same-devices c (follows .turnedDown c n (refused-reply (call.step (contentsOf d) c .reply) n (sym (reply-is d s c) ∙ e)));
       }

@@ -4,4 +4,5 @@ pub mod KindsFollow
 pub mod Method
 mod Replies
 pub mod Sessions
+pub mod Tails
 pub mod ThreePins

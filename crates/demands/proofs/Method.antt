@@ -16,14 +16,16 @@ use Rattle.arrays.proofs.Test.{true-of}
 use Rattle.plane.specs.Point.{Point, point, lower, Lower}
 use Rattle.plane.specs.Edge.{Edge}
 use Rattle.plane.proofs.Order.{lower-order}
-use Rattle.model.specs.Tree.{mst, treeLength}
+use Rattle.model.specs.Tree.{mst}
+use Rattle.model.specs.Tail.{treeLengthWith}
 use Rattle.model.specs.Contents.{Contents, keeping}
 use Rattle.model.specs.State.{State, points, withPin, withoutPin, insert, remove, prune}
-use Rattle.model.specs.Round.{RoundAnswer, RoundResult, finished, tap, withSteiner, round}
+use Rattle.model.specs.Round.{RoundAnswer, RoundResult, finished, tap, withSteiner, roundWith, round}
 use Rattle.model.specs.Choice.{Candidate, saved, Chosen, SweptTo}
 use Rattle.model.specs.Question as model
 use Rattle.model.specs.Call as call
 use Rattle.model.proofs.Tree.{mst-the-tree}
+use Rattle.model.proofs.TailClaim.{tails}
 use Rattle.model.proofs.Prune.{points-rise}
 use Rattle.model.proofs.Choice.{Choice, none-saves, some-chosen, best-choice}
 use Rattle.model.proofs.Sweep.{prune-swept}
@@ -76,30 +78,31 @@ module _ (d : Deck) (s : Sound d) where
 
   -- The tree.
   pub runs-are-tree : (t : List Edge) × RunsAreTree d t
-  unfolding model.listed treeLength
+  unfolding model.listed treeLengthWith
   runs-are-tree = (
     mst (points (stateOf d)),
     record {
-      tree = mst-the-tree (points (stateOf d)) (points-rise (stateOf d) (s .valid .state .placed .steinerRise));
+      tree = mst-the-tree (points (stateOf d)) rise;
+      withTails = tails (d .tail) .tree (points (stateOf d)) rise (mst (points (stateOf d))) .1 (mst-the-tree (points (stateOf d)) rise);
       edges = λ i. answered (ofEdge i);
       total = answered ofLength;
     },
   )
+    where
+      rise : Sorted Lower (points (stateOf d))
+      rise = points-rise (stateOf d) (s .valid .state .placed .steinerRise)
 
 -- What a round does, by the choice.
-data View (s : State) : RoundResult → Type 0 where
-  stays : ((c : Point) → Candidate (points s) c → ¬ T (ltZ (pos 0) (saved (points s) c))) → View s (record { next = s; answer = finished })
-  adds : (c : Point) (fall : ℕ) → Chosen (points s) c → View s (record { next = prune (withSteiner c s); answer = tap c fall })
+data View (tail : ℕ) (s : State) : RoundResult → Type 0 where
+  stays : ((c : Point) → Candidate (points s) c → ¬ T (ltZ (pos 0) (saved tail (points s) c))) → View tail s (record { next = s; answer = finished })
+  adds : (c : Point) (fall : ℕ) → Chosen tail (points s) c → View tail s (record { next = prune (withSteiner c s); answer = tap c fall })
 
-view : (s : State) → View s (round s)
+view : (tail : ℕ) (s : State) → View tail s (round tail s)
 unfolding round
-view s = go (best-choice (points s))
+view tail s = go (best-choice tail (points s))
   where
-    go : {o : Option Point} → Choice (points s) o
-        → View s (elim o as (λ _. RoundResult) [
-          | none ↦ record { next = s; answer = finished }
-          | some c ↦ record { next = prune (withSteiner c s); answer = tap c (treeLength (points s) - treeLength (points (prune (withSteiner c s)))) }
-        ])
+    go : {o : Option Point} → Choice tail (points s) o
+        → View tail s (roundWith tail s o)
     go (none-saves f) = stays f
     go (some-chosen c h) = adds c _ h
 
@@ -120,69 +123,71 @@ module _ (d : Deck) (s : Sound d) where
   abbrev st : State
   st = stateOf d
 
-  round-reply : called d call.oneRound .reply ≡ replied (round st)
+  round-reply : called d call.oneRound .reply ≡ replied (round (d .tail) st)
   unfolding call.step
   round-reply = reply-is d s call.oneRound
 
-  round-next : called d call.oneRound .next ≡ deckOf (keeping (contentsOf d) (round st .next))
+  round-next : called d call.oneRound .next ≡ deckOf (keeping (contentsOf d) (round (d .tail) st .next))
   unfolding call.step
   round-next = next-is d s call.oneRound
 
-  round-state : stateOf (called d call.oneRound .next) ≡ round st .next
+  round-state : stateOf (called d call.oneRound .next) ≡ round (d .tail) st .next
   unfolding call.step
   round-state = ap (λ (c : Contents). c .state) (next-contents d s call.oneRound)
 
-  either : {r : RoundResult} → View st r → (replied r ≡ reply.Finished) ⊎ ((x y : ℤ) × (fall : ℕ) × (replied r ≡ reply.Tap x y fall))
+  either : {r : RoundResult} → View (d .tail) st r → (replied r ≡ reply.Finished) ⊎ ((x y : ℤ) × (fall : ℕ) × (replied r ≡ reply.Tap x y fall))
   unfolding replyOf
   either (stays f) = inl refl
   either (adds c fall h) = inr (c .x, c .y, fall, refl)
 
-  none-saves-of : {r : RoundResult} → View st r → replied r ≡ reply.Finished
-      → ((c : Point) → Candidate (points st) c → ¬ T (ltZ (pos 0) (saved (points st) c))) × (r .next ≡ st)
+  none-saves-of : {r : RoundResult} → View (d .tail) st r → replied r ≡ reply.Finished
+      → ((c : Point) → Candidate (points st) c → ¬ T (ltZ (pos 0) (saved (d .tail) (points st) c))) × (r .next ≡ st)
   unfolding replyOf
   none-saves-of (stays f) e = (f, refl)
   none-saves-of (adds c fall h) e = absurd (let z : _≡_ {A = ℕ} 0 1 = cc in omega arith)
 
-  finished-if : {r : RoundResult} → View st r → ((c : Point) → Candidate (points st) c → ¬ T (ltZ (pos 0) (saved (points st) c)))
+  finished-if : {r : RoundResult} → View (d .tail) st r → ((c : Point) → Candidate (points st) c → ¬ T (ltZ (pos 0) (saved (d .tail) (points st) c)))
       → replied r ≡ reply.Finished
   unfolding replyOf
   finished-if (stays f) g = refl
   finished-if (adds c fall h) g = absurd (g c (h .candidate) (h .saves))
 
-  tapped : {r : RoundResult} → View st r → (c : Point) (fall : ℕ) → r .answer ≡ tap c fall
-      → Chosen (points st) c × SweptTo (withSteiner c st) (r .next)
+  tapped : {r : RoundResult} → View (d .tail) st r → (c : Point) (fall : ℕ) → r .answer ≡ tap c fall
+      → Chosen (d .tail) (points st) c × SweptTo (withSteiner c st) (r .next)
   tapped (stays f) c fall e = absurd (let z : _≡_ {A = ℕ} 0 1 = cc in omega arith)
   tapped (adds b n h) c fall e =
       let q : b ≡ c = cc in
-      subst (λ (z : Point). Chosen (points st) z × SweptTo (withSteiner z st) (prune (withSteiner b st))) q (h, swept)
+      subst (λ (z : Point). Chosen (d .tail) (points st) z × SweptTo (withSteiner z st) (prune (withSteiner b st))) q (h, swept)
     where
       swept : SweptTo (withSteiner b st) (prune (withSteiner b st))
       swept = prune-swept (withSteiner b st) (with-placed st (s .valid .state .placed) b (h .candidate) .steinerRise)
 
   module _ (x y : ℤ) (fall : ℕ) (e : called d call.oneRound .reply ≡ reply.Tap x y fall) where
-    is : round st .answer ≡ tap (point x y) fall
-    is = is-tap (round st .answer) x y fall (sym round-reply ∙ e)
+    is : round (d .tail) st .answer ≡ tap (point x y) fall
+    is = is-tap (round (d .tail) st .answer) x y fall (sym round-reply ∙ e)
 
-    both : Chosen (points st) (point x y) × SweptTo (withSteiner (point x y) st) (round st .next)
-    both = tapped (view st) (point x y) fall is
+    both : Chosen (d .tail) (points st) (point x y) × SweptTo (withSteiner (point x y) st) (round (d .tail) st .next)
+    both = tapped (view (d .tail) st) (point x y) fall is
 
     falls : (before after : ℕ) → asked d ofLength ≡ Length before → asked (called d call.oneRound .next) ofLength ≡ Length after → after + fall ≡ before
+    unfolding call.step
     falls before after p q =
-        let f = round-falls st (s .valid .state) (point x y) fall is .1 in
-        let a : Length (model.lengthOfState st) ≡ Length before = sym (answered d s ofLength) ∙ p in
-        let b : Length (model.lengthOfState (round st .next)) ≡ Length after =
-        ap (λ (z : State). Length (model.lengthOfState z)) (sym round-state)
+        let f = round-falls (d .tail) st (s .valid .state) (point x y) fall is .1 in
+        let a : Length (model.lengthOfState (d .tail) st) ≡ Length before = sym (answered d s ofLength) ∙ p in
+        let b : Length (model.lengthOfState (d .tail) (round (d .tail) st .next)) ≡ Length after =
+        ap (λ (z : Contents). Length (model.lengthOfContents z)) (sym (next-contents d s call.oneRound))
         ∙ sym (answered (called d call.oneRound .next) (next-sound d s call.oneRound) ofLength) ∙ q in
-        let m : model.lengthOfState st ≡ before = cc in
-        let n : model.lengthOfState (round st .next) ≡ after = cc in
+        let m : model.lengthOfState (d .tail) st ≡ before = cc in
+        let n : model.lengthOfState (d .tail) (round (d .tail) st .next) ≡ after = cc in
         ap (λ (z : ℕ). z + fall) (sym n) ∙ f ∙ m
 
   pub round-of : RoundOf d
   round-of =
       record {
-        either = rw round-reply (either (view st));
-        finished = (λ e. none-saves-of (view st) (sym round-reply ∙ e) .0, λ f. round-reply ∙ finished-if (view st) f);
-        unchanged = λ e. round-next ∙ ap (λ (z : State). deckOf (keeping (contentsOf d) z)) (none-saves-of (view st) (sym round-reply ∙ e) .1) ∙ sym (s .same);
+        either = rw round-reply (either (view (d .tail) st));
+        finished = (λ e. none-saves-of (view (d .tail) st) (sym round-reply ∙ e) .0, λ f. round-reply ∙ finished-if (view (d .tail) st) f);
+        unchanged = λ e. round-next ∙ ap (λ (z : State). deckOf (keeping (contentsOf d) z)) (none-saves-of (view (d .tail) st) (sym round-reply ∙ e) .1)
+            ∙ sym (s .same);
         chosen = λ x y fall e. both x y fall e .0;
         swept = λ x y fall e. rw round-state (both x y fall e .1);
         falls = λ x y fall before after e. falls x y fall e before after;

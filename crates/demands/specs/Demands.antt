@@ -39,18 +39,20 @@ use Rattle.demands.specs.Sessions.{AfterCalls, Bounds}
 use Rattle.demands.specs.Method.{RunsAreTree, RoundOf, SweepsOf, EndOf}
 use Rattle.demands.specs.KindLengths.{DeckLengths}
 use Rattle.demands.specs.KindsFollow.{DeckKinds}
+use Rattle.demands.specs.Tails.{DeckTails}
 use Rattle.ascii.specs.Text.{fitting}
 use Rattle.listing.specs.Whole.{listingRoom}
 use Rattle.planner.specs.Entry.{toEnd}
 use Rattle.display.specs.Entry.{Numbered}
 use Rattle.replay.specs.Claim.{Replayed}
 
--- The calls that a number can refuse (SPEC 8.3): 7, 15, 8 and 10 adding, 9 withdrawing, none a round or a run to the end.
+-- The calls that a number can refuse (SPEC 8.3): 7, 15, 8 and 10 adding, 9 withdrawing, 16 setting the tail, none a round or a run to the end.
 abbrev pub InCase : Contents → call.Call → ℕ → Type 0
 InCase c (call.add p k) n = call.insertRefusal p k (c .state) ≡ some n
 InCase c (call.withdraw p) n = call.removeRefusal p (c .state) ≡ some n
 InCase c call.oneRound n = ⊥
 InCase c call.runToEnd n = ⊥
+InCase c (call.setTail tail) n = call.tailRefusal tail ≡ some n
 
 -- What reading a file can answer (SPEC 8.1, 8.2): the deck of valid contents, or a number from 1 to 6, or 15, and an empty deck.
 abbrev pub FileAnswer : Outcome → Type 0
@@ -105,7 +107,7 @@ pub record Demand2 : Type 0 where
       → asked d ofCounts ≡ question.Counts (length (stateOf d .pins)) (length (stateOf d .steiner)) (length (points (stateOf d)) - 1)
   pub noEdge : (d : Deck) → Sound d → (i : ℕ) → (asked d (ofEdge i) ≡ question.NoEdge) ↔ (length (points (stateOf d)) - 1 ≤ i)
   pub noPoint : (d : Deck) → Sound d → (p : Point) → ¬ List·Memᴰ p (points (stateOf d)) → asked d (ofDegree p) ≡ question.Degree 0
-  -- a deck that is written and read, and a full file that is read and written, come back the same (SPEC 7.6)
+  -- a deck that is written and read comes back the same but for its tail, and a full file that is read and written the same (SPEC 7.6)
   pub writtenRead : WrittenRead
   pub fullWrittenBack : FullWrittenBack
   pub plainWrittenFull : PlainWrittenFull
@@ -114,6 +116,8 @@ pub record Demand2 : Type 0 where
   pub writtenSizes : SoundFits
   -- the kinds follow their pins (KindsFollow.antt)
   pub kinds : (d : Deck) → Sound d → DeckKinds d
+  -- setting the tail, and what tails leave as it was (Tails.antt)
+  pub tails : (d : Deck) → Sound d → DeckTails d
   -- the cable of each kind (KindLengths.antt)
   pub lengths : (d : Deck) → Sound d → DeckLengths d
   -- the C entry (SPEC 10.1), for every file and every buffer of any size
@@ -136,5 +140,5 @@ pub data StartDeck : Deck → Contents → Type 0 where
 pub record Demand3 : Type 0 where
   pub lists : {d : Deck} {c : Contents} → StartDeck d c → (calls : List call.Call) → AfterCalls (deckAfter d calls) (call.contentsAfter c calls)
   pub replied : {d : Deck} {c : Contents} → StartDeck d c → (calls : List call.Call) → replies d calls ≡ reckoned c calls
-  pub bounded : {d : Deck} {c : Contents} → StartDeck d c → (calls : List call.Call) → Bounds (call.contentsAfter c calls .state)
+  pub bounded : {d : Deck} {c : Contents} → StartDeck d c → (calls : List call.Call) → (let e = call.contentsAfter c calls in Bounds (e .tail) (e .state))
   pub replayed : (b calls l : List ℕ) → Replayed b calls l

@@ -25,4 +25,4 @@ pub record DeckLengths (d : Deck) : Type 0 where
   -- the listing: the sum in its first line, the three in its second, and then the taps and the runs
   pub text : deckText d
       ≡ numbersLine deckWord (pinCount (stateOf d)) (steinerCount (stateOf d)) (lengthOf d 0 + lengthOf d 1 + lengthOf d 2)
-      ++ (numbersLine kindsWord (lengthOf d 0) (lengthOf d 1) (lengthOf d 2) ++ (tapLines (stateOf d .steiner) ++ runLines (listed (stateOf d))))
+      ++ (numbersLine kindsWord (lengthOf d 0) (lengthOf d 1) (lengthOf d 2) ++ (tapLines (stateOf d .steiner) ++ runLines (d .tail) (listed (stateOf d))))

@@ -1,4 +1,4 @@
--- The kinds of a deck's pins follow them (SPEC 4.2 to 4.5), as claims on the kind at a point of the deck that each call leaves.
+-- The kinds of a deck's pins follow them (SPEC 4.2 to 4.5, 4.8), as claims on the kind at a point of the deck that each call leaves.
 use mathlib.Core.Path.{_≡_}
 use mathlib.Core.List.{List·Memᴰ}
 use Prim.Native.Nat.{ℕ, _≤_}
@@ -29,7 +29,8 @@ pub record DeckKinds (d : Deck) : Type 0 where
   -- every pin that a withdrawal leaves keeps its own
   pub left : (p : Point) → called d (call.withdraw p) .reply ≡ reply.Done → (q : Point)
       → List·Memᴰ q (stateOf (called d (call.withdraw p) .next) .pins) → kindIn (called d (call.withdraw p) .next) q ≡ kindIn d q
-  -- a round, a run to the end and a refused call keep all
+  -- a round, a run to the end, setting the tail and a refused call keep all
   pub rounded : SameDevices d (called d call.oneRound .next)
   pub ended : SameDevices d (called d call.runToEnd .next)
+  pub set : (tail : ℕ) → SameDevices d (called d (call.setTail tail) .next)
   pub turnedDown : (c : call.Call) (n : ℕ) → called d c .reply ≡ reply.Refused n → SameDevices d (called d c .next)

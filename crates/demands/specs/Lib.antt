@@ -3,4 +3,5 @@ pub mod KindLengths
 pub mod KindsFollow
 pub mod Method
 pub mod Sessions
+pub mod Tails
 pub mod ThreePins

@@ -10,7 +10,9 @@ use lib.ListN.{getElem?}
 use Rattle.arrays.specs.Set.{setOf}
 use Rattle.plane.specs.Point.{Point, point}
 use Rattle.plane.specs.Edge.{Edge, listedBefore}
-use Rattle.model.specs.Tree.{lengthOf, TheTree}
+use Rattle.model.specs.Tree.{TheTree}
+use Rattle.model.specs.Tail.{lengthWith}
+use Rattle.model.specs.TailClaim.{TheTreeWith}
 use Rattle.model.specs.State.{points, withPin, withoutPin}
 use Rattle.model.specs.Round.{withSteiner}
 use Rattle.model.specs.Choice.{Candidate, saved, Chosen, SweptTo}
@@ -24,11 +26,13 @@ use Rattle.deck.specs.Calls.{called}
 use Rattle.deck.specs.Questions.{asked}
 use Rattle.deck.specs.Session.{DeckRoundsTo}
 
--- The tree of a deck's points, by the rule for equals (SPEC 2.2), is what the deck answers: its edges in the listing order and its length.
+-- The tree of a deck's points, by the rule for equals (SPEC 2.2), with the deck's tails and without, is what the deck answers: its edges in the
+-- listing order and its length.
 pub record RunsAreTree (d : Deck) (t : List Edge) : Type 0 where
   pub tree : TheTree (points (stateOf d)) t
-  pub edges : (i : ℕ) → asked d (ofEdge i) ≡ edgeOrNone (getElem? (setOf listedBefore t) i)
-  pub total : asked d ofLength ≡ Length (lengthOf t)
+  pub withTails : TheTreeWith (d .tail) (points (stateOf d)) t
+  pub edges : (i : ℕ) → asked d (ofEdge i) ≡ edgeOrNone (d .tail) (getElem? (setOf listedBefore t) i)
+  pub total : asked d ofLength ≡ Length (lengthWith (d .tail) t)
 
 -- A round on a deck (SPEC 4.4), which is finished or adds a tap.
 pub record RoundOf (d : Deck) : Type 0 where
@@ -36,10 +40,10 @@ pub record RoundOf (d : Deck) : Type 0 where
       ⊎ ((x y : ℤ) × (fall : ℕ) × (called d call.oneRound .reply ≡ reply.Tap x y fall))
   -- finished exactly if no candidate saves anything, and then the deck is the same
   pub finished : (called d call.oneRound .reply ≡ reply.Finished)
-      ↔ ((c : Point) → Candidate (points (stateOf d)) c → ¬ T (ltZ (pos 0) (saved (points (stateOf d)) c)))
+      ↔ ((c : Point) → Candidate (points (stateOf d)) c → ¬ T (ltZ (pos 0) (saved (d .tail) (points (stateOf d)) c)))
   pub unchanged : called d call.oneRound .reply ≡ reply.Finished → called d call.oneRound .next ≡ d
   -- the tap is the candidate that SPEC 4.4 chooses, a sweep follows, and the fall is the length before less the length after
-  pub chosen : (x y : ℤ) (fall : ℕ) → called d call.oneRound .reply ≡ reply.Tap x y fall → Chosen (points (stateOf d)) (point x y)
+  pub chosen : (x y : ℤ) (fall : ℕ) → called d call.oneRound .reply ≡ reply.Tap x y fall → Chosen (d .tail) (points (stateOf d)) (point x y)
   pub swept : (x y : ℤ) (fall : ℕ) → called d call.oneRound .reply ≡ reply.Tap x y fall
       → SweptTo (withSteiner (point x y) (stateOf d)) (stateOf (called d call.oneRound .next))
   pub falls : (x y : ℤ) (fall before after : ℕ) → called d call.oneRound .reply ≡ reply.Tap x y fall

@@ -1,4 +1,4 @@
--- Three pins and the half perimeter of the box around them (SPEC 6.6), as claims on what a deck answers for its length.
+-- Three pins and the half perimeter of the box around them (SPEC 6.6), as claims on what a deck without tails answers for its length.
 use mathlib.Core.Path.{_≡_}
 use mathlib.Core.Logic.{_↔_}
 use mathlib.Core.List.{List, [], _∷_, _++_, List·Memᴰ}
@@ -43,12 +43,12 @@ pub record ThreePins : Type 0 where
       → LengthIsHalfPerimeter (deckAfter (deckOf emptyContents) (adding p q r i j k (call.runToEnd ∷ []))) p q r
   -- no tree over points and any further points is shorter, be these out of range, repeated, or the same points again
   pub least : (ps further : List Point) (t : List Edge) → Tree planar (ps ++ further) t → halfPerimeter ps ≤ lengthOf t
-  -- every sound deck of these pins, whatever taps a file or earlier calls left in it, has that length after a run to the end; a round on it is
+  -- every sound deck of these pins without tails, whatever taps a file or earlier calls left in it, has that length after a run to the end; a round on it is
   -- finished exactly if it has that length; and where it has no tap, it has that length after one round
-  pub atEnd : (d : Deck) → Sound d → (p q r : Point) → PinsAre d p q r → LengthIsHalfPerimeter (called d call.runToEnd .next) p q r
-  pub finished : (d : Deck) → Sound d → (p q r : Point) → PinsAre d p q r
+  pub atEnd : (d : Deck) → Sound d → d .tail ≡ 0 → (p q r : Point) → PinsAre d p q r → LengthIsHalfPerimeter (called d call.runToEnd .next) p q r
+  pub finished : (d : Deck) → Sound d → d .tail ≡ 0 → (p q r : Point) → PinsAre d p q r
       → (called d call.oneRound .reply ≡ reply.Finished) ↔ LengthIsHalfPerimeter d p q r
-  pub afterOneRound : (d : Deck) → Sound d → (p q r : Point) → PinsAre d p q r → stateOf d .steiner ≡ []
+  pub afterOneRound : (d : Deck) → Sound d → d .tail ≡ 0 → (p q r : Point) → PinsAre d p q r → stateOf d .steiner ≡ []
       → LengthIsHalfPerimeter (called d call.oneRound .next) p q r
   -- the half perimeter is that of the box around the points, by its corners, and there is such a box
   pub ofBox : (ps : List Point) (low high : Point) → BoxAround ps low high → halfPerimeter ps ≡ dist low high

@@ -39,7 +39,8 @@ edges-fewer [] n rise h = omega (arith, ap length (tree-none planar (mst []) (ms
 edges-fewer (p ∷ l) n rise h =
     omega (arith, tree-count planar (p ∷ l) (mst (p ∷ l)) (sorted-distinct lower-order (p ∷ l) rise) (mst-run-tree (p ∷ l) rise .tree) (omega arith))
 
-pub length-bound : (tail : ℕ) → tail ≤ longestTail → (ps : List Point) → Sorted Lower ps → length ps ≤ suc mostPoints → ((p : Point) → List·Memᴰ p ps → T (inRange p))
+pub length-bound : (tail : ℕ) → tail ≤ longestTail → (ps : List Point) → Sorted Lower ps → length ps ≤ suc mostPoints
+    → ((p : Point) → List·Memᴰ p ps → T (inRange p))
     → treeLengthWith tail ps ≤ longestTree
 unfolding treeLengthWith planar
 length-bound tail h ps rise few range =

@@ -118,7 +118,8 @@ pub saved-shorter : (tail : ℕ) (ps : List Point) (c : Point) → T (ltZ (pos 0
 unfolding saving
 saved-shorter tail ps c t = omega (arith, less-value (pos 0) (saved tail ps c) t, sub-value (treeLengthWith tail ps) (treeLengthWith tail (put lower c ps)))
 
-pub unsaved-longer : (tail : ℕ) (ps : List Point) (c : Point) → ¬ T (ltZ (pos 0) (saved tail ps c)) → treeLengthWith tail ps ≤ treeLengthWith tail (put lower c ps)
+pub unsaved-longer : (tail : ℕ) (ps : List Point) (c : Point) → ¬ T (ltZ (pos 0) (saved tail ps c))
+    → treeLengthWith tail ps ≤ treeLengthWith tail (put lower c ps)
 unfolding saving
 unsaved-longer tail ps c n = go (decLt (treeLengthWith tail (put lower c ps)) (treeLengthWith tail ps))
   where
@@ -127,10 +128,12 @@ unsaved-longer tail ps c n = go (decLt (treeLengthWith tail (put lower c ps)) (t
     go (no h) = omega arith
 
 -- With a point that saves no more than c the tree is at least as long as with c.
-pub no-more-saved : (tail : ℕ) (ps : List Point) (c d : Point) → ¬ T (ltZ (saved tail ps c) (saved tail ps d)) → treeLengthWith tail (put lower c ps) ≤ treeLengthWith tail (put lower d ps)
+pub no-more-saved : (tail : ℕ) (ps : List Point) (c d : Point) → ¬ T (ltZ (saved tail ps c) (saved tail ps d))
+    → treeLengthWith tail (put lower c ps) ≤ treeLengthWith tail (put lower d ps)
 unfolding saving
 no-more-saved tail ps c d n = go (decLt (treeLengthWith tail (put lower d ps)) (treeLengthWith tail (put lower c ps)))
   where
-    go : Dec (treeLengthWith tail (put lower d ps) < treeLengthWith tail (put lower c ps)) → treeLengthWith tail (put lower c ps) ≤ treeLengthWith tail (put lower d ps)
+    go : Dec (treeLengthWith tail (put lower d ps) < treeLengthWith tail (put lower c ps))
+        → treeLengthWith tail (put lower c ps) ≤ treeLengthWith tail (put lower d ps)
     go (yes h) = absurd (n (less-save (treeLengthWith tail ps) (treeLengthWith tail (put lower c ps)) (treeLengthWith tail (put lower d ps)) h))
     go (no h) = omega arith

@@ -17,7 +17,7 @@ use Rattle.arrays.specs.Set.{put}
 use Rattle.model.specs.Tree.{mst}
 use Rattle.model.specs.Tail.{lengthWith, treeLengthWith}
 use Rattle.model.specs.State.{State, points, Placed, Valid, prune}
-use Rattle.model.specs.Round.{RoundAnswer, finished, tap, RoundResult, withSteiner, round, Ended, roundsFrom, finish}
+use Rattle.model.specs.Round.{RoundAnswer, finished, tap, RoundResult, withSteiner, roundWith, round, Ended, roundsFrom, finish}
 use Rattle.model.specs.Choice.{Candidate}
 use Rattle.model.specs.Question.{lengthOfState}
 use Rattle.model.specs.Session.{RoundsTo, ended, added, NoShorter}
@@ -69,19 +69,16 @@ with-placed s h c k =
 -- What a round does: it is finished and no candidate shortens the tree, or it adds a candidate that does, and prunes.
 pub data Rounded (tail : ℕ) (s : State) : RoundResult → Type 0 where
   stays : ((c : Point) → Candidate (points s) c → treeLengthWith tail (points s) ≤ treeLengthWith tail (put lower c (points s)))
-      → Rounded tail s (record { next = s; answer = finished })
+      → Rounded tail s (roundWith tail s none)
   adds : (c : Point) → Candidate (points s) c → treeLengthWith tail (put lower c (points s)) < treeLengthWith tail (points s)
-      → Rounded tail s (record { next = prune (withSteiner c s); answer = tap c (treeLengthWith tail (points s) - treeLengthWith tail (points (prune (withSteiner c s)))) })
+      → Rounded tail s (roundWith tail s (some c))
 
 pub round-view : (tail : ℕ) (s : State) → Rounded tail s (round tail s)
 unfolding round
 round-view tail s = go (best-choice tail (points s))
   where
     go : {o : Option Point} → Choice tail (points s) o
-        → Rounded tail s (elim o as (λ _. RoundResult) [
-          | none ↦ record { next = s; answer = finished }
-          | some c ↦ record { next = prune (withSteiner c s); answer = tap c (treeLengthWith tail (points s) - treeLengthWith tail (points (prune (withSteiner c s)))) }
-        ])
+        → Rounded tail s (roundWith tail s o)
     go (none-saves f) = stays (λ c k. unsaved-longer tail (points s) c (f c k))
     go (some-chosen c h) = adds c (h .candidate) (saved-shorter tail (points s) c (h .saves))
 
@@ -104,11 +101,13 @@ round-valid tail s v = go (round-view tail s)
 
 -- A round that names a tap takes 1 cm off the tree at least, and its answer says how much.
 pub round-falls : (tail : ℕ) (s : State) → Valid s → (c : Point) (fall : ℕ) → round tail s .answer ≡ tap c fall
-    → (1 ≤ fall) × (lengthOfState tail (round tail s .next) + fall ≡ lengthOfState tail s) × (lengthOfState tail s ≤ treeLengthWith tail (put lower c (points s)) + fall)
+    → (1 ≤ fall) × (lengthOfState tail (round tail s .next) + fall ≡ lengthOfState tail s)
+    × (lengthOfState tail s ≤ treeLengthWith tail (put lower c (points s)) + fall)
 round-falls tail s v c fall e = go (round-view tail s) e
   where
     go : {r : RoundResult} → Rounded tail s r → r .answer ≡ tap c fall
-        → (1 ≤ fall) × (treeLengthWith tail (points (r .next)) + fall ≡ treeLengthWith tail (points s)) × (treeLengthWith tail (points s) ≤ treeLengthWith tail (put lower c (points s)) + fall)
+        → (1 ≤ fall) × (lengthOfState tail (r .next) + fall ≡ lengthOfState tail s)
+        × (lengthOfState tail s ≤ treeLengthWith tail (put lower c (points s)) + fall)
     go (stays f) q = absurd (let z : _≡_ {A = ℕ} 0 1 = cc in omega arith)
     go (adds d k h) q =
         let ec : d ≡ c = cc in
@@ -137,10 +136,12 @@ round-finished tail s v = go (round-view tail s)
         with-length = unfold treeLengthWith in refl
 
 -- Where a round is finished, the tree of the points and one more, held already or not, is at least as long.
-pub finished-least : (tail : ℕ) (s : State) → Valid s → round tail s .answer ≡ finished → (c : Point) → lengthOfState tail s ≤ treeLengthWith tail (put lower c (points s))
+pub finished-least : (tail : ℕ) (s : State) → Valid s → round tail s .answer ≡ finished → (c : Point)
+    → lengthOfState tail s ≤ treeLengthWith tail (put lower c (points s))
 unfolding treeLengthWith
 finished-least tail s v e c =
-    ⊎-elim (λ same. omega (arith, ap (treeLengthWith tail) same)) (λ free. round-finished tail s v .0 e c free (mst (put lower c (points s))) (put-tree (points s) rise c))
+    ⊎-elim (λ same. omega (arith, ap (treeLengthWith tail) same))
+    (λ free. round-finished tail s v .0 e c free (mst (put lower c (points s))) (put-tree (points s) rise c))
     (put-or-free lower lower-order c (points s) rise)
   where
     rise : Sorted Lower (points s)
@@ -157,10 +158,7 @@ round-best tail s v d onX onY = go (best-choice tail (points s)) (put-or-free lo
     candidate free = record { onX = onX; onY = onY; free = free }
 
     go : {o : Option Point} → Choice tail (points s) o → (put lower d (points s) ≡ points s) ⊎ ¬ List·Memᴰ d (points s)
-        → lengthOfState tail (elim o as (λ _. RoundResult) [
-          | none ↦ record { next = s; answer = finished }
-          | some c ↦ record { next = prune (withSteiner c s); answer = tap c (treeLengthWith tail (points s) - treeLengthWith tail (points (prune (withSteiner c s)))) }
-        ] .next) ≤ treeLengthWith tail (put lower d (points s))
+        → lengthOfState tail (roundWith tail s o .next) ≤ treeLengthWith tail (put lower d (points s))
     go (none-saves f) (inl same) = omega (arith, ap (treeLengthWith tail) same)
     go (none-saves f) (inr free) = unsaved-longer tail (points s) d (f d (candidate free))
     go (some-chosen c h) (inl same) =
@@ -193,8 +191,8 @@ rounds-from tail (suc k) s v h =
         elim a [ finished ↦ record { final = s; count = 0 } | tap c fall ↦ record { final = e .final; count = suc (e .count) } ]
 
     go : (a : RoundAnswer) → round tail s .answer ≡ a
-        → (lengthOfState tail (round tail s .next) ≤ k → RoundsTo tail (round tail s .next) (roundsFrom tail k (round tail s .next) .count) (roundsFrom tail k (round tail s .next) .final)
-        × (roundsFrom tail k (round tail s .next) .count ≤ lengthOfState tail (round tail s .next)))
+        → (lengthOfState tail next ≤ k → RoundsTo tail next (roundsFrom tail k next .count) (roundsFrom tail k next .final)
+        × (roundsFrom tail k next .count ≤ lengthOfState tail next))
         → RoundsTo tail s (result a .count) (result a .final) × (result a .count ≤ lengthOfState tail s)
     go finished e rec = (ended e, omega arith)
     go (tap c fall) e rec =
@@ -202,7 +200,8 @@ rounds-from tail (suc k) s v h =
         let r = rec (omega arith) in
         (added e (r .0), omega arith)
 
-pub finish-rounds : (tail : ℕ) (s : State) → Valid s → RoundsTo tail s (finish tail s .count) (finish tail s .final) × (finish tail s .count ≤ lengthOfState tail s)
+pub finish-rounds : (tail : ℕ) (s : State) → Valid s
+    → RoundsTo tail s (finish tail s .count) (finish tail s .final) × (finish tail s .count ≤ lengthOfState tail s)
 unfolding finish
 finish-rounds tail s v = rounds-from tail (treeLengthWith tail (points s)) s v (le-refl (treeLengthWith tail (points s)))
 

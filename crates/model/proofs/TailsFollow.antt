@@ -1,12 +1,16 @@
 -- Setting the tail changes nothing else, and no other call changes it: contents are made by makers that keep the rest.
-use mathlib.Core.Path.{_≡_, refl, ap}
+use mathlib.Core.Path.{_≡_, refl, ap, _∙_}
 use mathlib.Core.Option.{Option, none, some}
+use mathlib.Core.List.{List, [], _∷_}
 use Prim.Native.Nat.{ℕ}
 use native.Mathlib.Omega.{arith}
+use Rattle.arrays.specs.Set.{Each}
+use Rattle.plane.specs.Point.{Point}
 use Rattle.model.specs.State.{State, insert, remove}
 use Rattle.model.specs.DeviceKinds.{sensor}
 use Rattle.model.specs.Contents.{Contents, withTail, following}
-use Rattle.model.specs.Call.{Call, add, withdraw, oneRound, runToEnd, setTail, done, refused, insertRefusal, removeRefusal, tailRefusal, unless, step}
+use Rattle.model.specs.Call.{Call, add, withdraw, oneRound, runToEnd, setTail, done, refused}
+use Rattle.model.specs.Call.{insertRefusal, removeRefusal, tailRefusal, unless, step, contentsAfter}
 use Rattle.model.specs.TailClaim.{TailsFollow}
 use Rattle.model.proofs.Refusal.{unless-next, unless-kept}
 
@@ -42,3 +46,15 @@ module _ (c : Contents) where
         turnedDown = turned-down;
         besides = besides;
       }
+
+-- A list of calls none of which sets it.
+abbrev pub SetsNoTail : Call → Type 0
+SetsNoTail k = (tail : ℕ) → ¬ (k ≡ setTail tail)
+
+pub adding-sets-none : (p : Point) (k : ℕ) → SetsNoTail (add p k)
+adding-sets-none p k tail e = let z : _≡_ {A = ℕ} 0 1 = cc in omega arith
+
+pub tail-after : (calls : List Call) → Each SetsNoTail calls → (c : Contents) → contentsAfter c calls .tail ≡ c .tail
+unfolding contentsAfter
+tail-after [] h c = refl
+tail-after (k ∷ ks) h c = tail-after ks (h .1) (step c k .next) ∙ besides c k (h .0)

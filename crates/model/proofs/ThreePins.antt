@@ -215,8 +215,13 @@ module _ (s : State) (v : Valid s) (p q r : Point) (pins : (u : Point) → List�
   -- The other way round: a state of that length is finished, since no further point can make its tree shorter.
   pub perimeter-finished : treeLength (points s) ≡ halfPerimeter (p ∷ q ∷ r ∷ []) → round noTail s .answer ≡ finished
   perimeter-finished e =
-      round-finished noTail s v .1 (λ d far t tree. omega (arith, e, tree-no-tails (points s), no-tails t,
-      connected-perimeter (p ∷ q ∷ r ∷ []) t (λ a b i j. tree .spans a b (tail (held a i)) (tail (held b j)))))
+      round-finished noTail s v .1 (λ d far t tree. omega (
+        arith,
+        e,
+        tree-no-tails (points s),
+        no-tails t,
+        connected-perimeter (p ∷ q ∷ r ∷ []) t (λ a b i j. tree .spans a b (tail (held a i)) (tail (held b j))),
+      ))
 
 -- Where rounds lead from three pins, which they keep.
 module _ (s : State) (v : Valid s) (p q r : Point) (pins : (u : Point) → List·Memᴰ u (s .pins) ↔ List·Memᴰ u (p ∷ q ∷ r ∷ [])) where

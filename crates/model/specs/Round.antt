@@ -59,15 +59,17 @@ pub record RoundResult : Type 0 where
 abbrev pub withSteiner : Point → State → State
 withSteiner c s = record { pins = s .pins; steiner = put lower c (s .steiner) }
 
--- A round (SPEC 4.4): finished where no candidate is chosen, and then the state stays; else the candidate joins the taps, a sweep follows,
--- and the answer names it with the fall in length over both.
+-- What a round does (SPEC 4.4) with the candidate that it chooses: none, and it is finished and the state stays; else the candidate joins the taps, a
+-- sweep follows, and the answer names it with the fall in length over both.
+abbrev pub roundWith : ℕ → State → Option Point → RoundResult
+roundWith tail s none = record { next = s; answer = finished }
+roundWith tail s (some c) =
+    let s′ = prune (withSteiner c s) in
+    record { next = s′; answer = tap c (treeLengthWith tail (points s) - treeLengthWith tail (points s′)) }
+
+-- A round.
 unfoldable pub round : ℕ → State → RoundResult
-round tail s =
-    elim (best tail (points s)) [
-      | none ↦ record { next = s; answer = finished }
-      | some c ↦ let s′ = prune (withSteiner c s) in
-          record { next = s′; answer = tap c (treeLengthWith tail (points s) - treeLengthWith tail (points s′)) }
-    ]
+round tail s = roundWith tail s (best tail (points s))
 
 -- Where a run to the end comes to, and how many of its rounds added a tap.
 pub record Ended : Type 0 where

@@ -18,7 +18,7 @@ use Rattle.plane.proofs.Order.{lower-order}
 use Rattle.model.specs.DeviceKinds.{isKind}
 use Rattle.model.specs.State.{maxPins}
 use Rattle.model.specs.Contents.{Contents, ValidContents}
-use Rattle.model.specs.Call.{Call, add, withdraw, oneRound, runToEnd, done, addChecks, step}
+use Rattle.model.specs.Call.{Call, add, withdraw, oneRound, runToEnd, setTail, done, addChecks, step}
 use Rattle.model.specs.Refusal.{Pass}
 use Rattle.model.proofs.Refusal.{add-taken}
 use Rattle.model.proofs.Step.{step-valid}
@@ -32,6 +32,7 @@ Fits c (add p k) = T (inRange p) × T (isKind k) × ¬ List·Memᴰ p (c .state 
 Fits c (withdraw p) = ⊥
 Fits c oneRound = ⊥
 Fits c runToEnd = ⊥
+Fits c (setTail t) = ⊥
 
 -- Two calls do not add at one place.
 abbrev Apart : Call → Call → Type 0
@@ -114,6 +115,7 @@ done-addable (add p k ∷ ks) a c v h =
 done-addable (withdraw p ∷ ks) a c v h = absurd (a .0)
 done-addable (oneRound ∷ ks) a c v h = absurd (a .0)
 done-addable (runToEnd ∷ ks) a c v h = absurd (a .0)
+done-addable (setTail t ∷ ks) a c v h = absurd (a .0)
 
 pub addable-done : (calls : List Call) → (c : Contents) → ValidContents c → Addable c calls → AllDone c calls
 addable-done [] c v h = tt
@@ -127,3 +129,4 @@ addable-done (add p k ∷ ks) c v h =
 addable-done (withdraw p ∷ ks) c v h = absurd (h .fit (withdraw p) (head refl))
 addable-done (oneRound ∷ ks) c v h = absurd (h .fit oneRound (head refl))
 addable-done (runToEnd ∷ ks) c v h = absurd (h .fit runToEnd (head refl))
+addable-done (setTail t ∷ ks) c v h = absurd (h .fit (setTail t) (head refl))

@@ -10,14 +10,16 @@ use native.Mathlib.Decide.{decLe}
 use native.Mathlib.Omega.{arith}
 use lib.ListN.{length}
 use borrow.Author.Tests.{lt-ltb, le-ltb}
-use Rattle.arrays.specs.Set.{out}
+use Rattle.arrays.specs.Set.{Each, out}
 use Rattle.arrays.specs.Test.{if}
 use Rattle.plane.specs.Point.{Point, lower}
 use Rattle.model.specs.State.{pruneFrom, prune, insert}
-use Rattle.model.specs.Contents.{Contents, emptyContents, following}
+use Rattle.model.specs.Contents.{Contents, withTail, emptyContents, following}
+use Rattle.model.specs.Tail.{noTail}
 use Rattle.model.specs.Call.{Call, add, done, refused, insertRefusal, unless, step, contentsAfter}
 use Rattle.model.specs.File.{deck, plainFileOf, readFile}
 use Rattle.model.proofs.PlainFile.{pins-alone, plain-read}
+use Rattle.model.proofs.TailsFollow.{SetsNoTail, adding-sets-none, tail-after}
 use Rattle.model.proofs.Session.{empty-contents}
 use Rattle.model.proofs.Step.{after-valid}
 use Rattle.lines.specs.Lines.{allLines, stateAfter}
@@ -237,6 +239,16 @@ calls-bare (l ∷ ls) c e = go (pinLineOf l) (λ d. calls-bare ls d)
     go pin_line.Error rest = rest c e
     go (pin_line.Pin x y kind) rest = rest (step c (add (record { x = x; y = y }) kind) .next) (added-bare c (record { x = x; y = y }) kind e)
 
+-- The calls of lines set no tail.
+calls-set-none : (ls : List (List ℕ)) → Each SetsNoTail (callsOf ls)
+calls-set-none [] = tt
+calls-set-none (l ∷ ls) = go (pinLineOf l) (calls-set-none ls)
+  where
+    go : (q : PinLine) → Each SetsNoTail (callsOf ls) → Each SetsNoTail (callOf q ++ callsOf ls)
+    go pin_line.Passed rest = rest
+    go pin_line.Error rest = rest
+    go (pin_line.Pin x y kind) rest = (adding-sets-none (record { x = x; y = y }) kind, rest)
+
 -- What is printed.
 pub input-packed : InputPacked
 unfolding packed packInput
@@ -256,7 +268,8 @@ input-packed input = ⊎-elim (λ t. inl (whole t)) (λ f. inr (stopped f)) (all
           out = out;
           back =
               ap readFile out ∙ plain-read c (after-valid (callsOf (allLines input)) emptyContents empty-contents)
-              ∙ ap deck (pins-alone c (calls-bare (allLines input) emptyContents refl));
+              ∙ ap deck (ap (withTail noTail) (pins-alone c (calls-bare (allLines input) emptyContents refl))
+              ∙ (λ i. withTail (sym (tail-after (callsOf (allLines input)) (calls-set-none (allLines input)) emptyContents) i) c));
           err = ap faultText (t .fault);
         }
 

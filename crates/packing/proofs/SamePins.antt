@@ -15,8 +15,8 @@ use Rattle.plane.specs.Point.{Point, inRange, lower}
 use Rattle.plane.proofs.Order.{lower-order}
 use Rattle.model.specs.State.{maxPins}
 use Rattle.model.specs.DeviceKinds.{sensor, isKind}
-use Rattle.model.specs.Contents.{Contents, kindAt, emptyContents, ValidContents}
-use Rattle.model.specs.Call.{Call, add, withdraw, oneRound, runToEnd, done, addChecks, step, contentsAfter}
+use Rattle.model.specs.Contents.{Contents, kindAt, withKinds, emptyContents, ValidContents}
+use Rattle.model.specs.Call.{Call, add, withdraw, oneRound, runToEnd, setTail, done, addChecks, step, contentsAfter}
 use Rattle.model.specs.File.{plainFileOf}
 use Rattle.model.specs.Refusal.{Pass}
 use Rattle.model.proofs.KindsFollow.{kinds-follow}
@@ -36,6 +36,7 @@ IsAdd (add p k) = Unit {0}
 IsAdd (withdraw p) = ⊥
 IsAdd oneRound = ⊥
 IsAdd runToEnd = ⊥
+IsAdd (setTail t) = ⊥
 
 pub calls-add : (ls : List (List ℕ)) → Each IsAdd (callsOf ls)
 calls-add [] = tt
@@ -107,6 +108,7 @@ all-added (add p k ∷ ks) a c v h =
 all-added (withdraw p ∷ ks) a c v h = absurd (a .0)
 all-added (oneRound ∷ ks) a c v h = absurd (a .0)
 all-added (runToEnd ∷ ks) a c v h = absurd (a .0)
+all-added (setTail t ∷ ks) a c v h = absurd (a .0)
 
 -- What contents hold that calls lead to from the empty deck, those hold too that more calls lead to.
 held : (c d : Contents) (k l : List Call) → Added emptyContents k c → Added emptyContents l d → ((a : Call) → List·Memᴰ a k → List·Memᴰ a l)
@@ -119,7 +121,7 @@ same-file : (c d : Contents) → ValidContents c → ValidContents d
     → ((p : Point) → List·Memᴰ p (c .state .pins) → List·Memᴰ p (d .state .pins) × (kindAt c p ≡ kindAt d p))
     → ((p : Point) → List·Memᴰ p (d .state .pins) → List·Memᴰ p (c .state .pins)) → plainFileOf c ≡ plainFileOf d
 unfolding plainFileOf
-same-file c d v w there back = λ i. plainFileOf (record { state = record { pins = pins i; steiner = [] }; kinds = kinds i })
+same-file c d v w there back = λ i. plainFileOf (withKinds (record { pins = pins i; steiner = [] }) (kinds i))
   where
     pins : c .state .pins ≡ d .state .pins
     pins = sorted-ext lower-order _ _ (v .state .placed .pinsRise) (w .state .placed .pinsRise) (λ p i. there p i .0) back

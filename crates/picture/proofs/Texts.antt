@@ -26,18 +26,18 @@ use Rattle.measures.specs.Measures.{measuresOf}
 use Rattle.picture.specs.Picture.{edgeText, runTexts, symbolTexts, tapSymbol, pointTexts, pictureOf}
 
 -- The paths of the first i runs, one more, and all.
-abbrev pub runsTo : Box → State → ℕ → List ℕ
-runsTo b s i = eachTo (edgeText b) (listed s) i
+abbrev pub runsTo : ℕ → Box → State → ℕ → List ℕ
+runsTo tail b s i = eachTo (edgeText tail b) (listed s) i
 
-pub run-more : (b : Box) (s : State) (i : ℕ) (e : CodedEdge) → EdgeAt s i e
-    → runsTo b s (i + 1) ≡ runsTo b s i ++ runText b (pointOf (e .low)) (pointOf (e .high)) (e .distance)
+pub run-more : (tail : ℕ) (b : Box) (s : State) (i : ℕ) (e : CodedEdge) → EdgeAt tail s i e
+    → runsTo tail b s (i + 1) ≡ runsTo tail b s i ++ runText b (pointOf (e .low)) (pointOf (e .high)) (e .length)
 unfolding edgeText
-run-more b s i e f =
-    ap (each (edgeText b)) (edges-more s i e f) ∙ each-snoc (edgeText b) (take i (listed s)) (edgeOf e)
-    ∙ ap (λ (n : ℕ). runsTo b s i ++ runText b (pointOf (e .low)) (pointOf (e .high)) n) (sym (f .measured))
+run-more tail b s i e f =
+    ap (each (edgeText tail b)) (edges-more tail s i e f) ∙ each-snoc (edgeText tail b) (take i (listed s)) (edgeOf e)
+    ∙ ap (λ (n : ℕ). runsTo tail b s i ++ runText b (pointOf (e .low)) (pointOf (e .high)) n) (sym (f .measured))
 
-pub run-all : (b : Box) (s : State) (m : ℕ) → length (listed s) ≤ m → runsTo b s m ≡ runTexts b (listed s)
-run-all b s m h = ap (each (edgeText b)) (take-all m (listed s) h)
+pub run-all : (tail : ℕ) (b : Box) (s : State) (m : ℕ) → length (listed s) ≤ m → runsTo tail b s m ≡ runTexts tail b (listed s)
+run-all tail b s m h = ap (each (edgeText tail b)) (take-all m (listed s) h)
 
 -- The symbols of the first i points, and one more.
 abbrev pub symbolsTo : Box → List ℕ → List ℕ → ℕ → List ℕ
@@ -97,10 +97,10 @@ module _ (b : Box) (d : WorkingDeck) where
 pub picture-put : (d : WorkingDeck) (m : Measures) (b : Box) {before after : List ℕ} {at r : ℕ} → m ≡ measuresOf (contentsOf d)
     → b ≡ boxOf (points (contentsOf d .state))
     → (let c = contentsOf d in Pasted (headText b
-    ++ (runTexts b (listed (c .state)) ++ (bytes "</g>\n" ++ (pointTexts b c ++ footText b (m .pins) (m .steiner) (m .length))))) before after at r)
+    ++ (runTexts (d .tail) b (listed (c .state)) ++ (bytes "</g>\n" ++ (pointTexts b c ++ footText b (m .pins) (m .steiner) (m .length))))) before after at r)
     → Pasted (pictureOf (contentsOf d)) before after at r
 unfolding pictureOf
 picture-put d m b e f p =
     let c = contentsOf d in
     pasted-same (λ i. headText (f i)
-    ++ (runTexts (f i) (listed (c .state)) ++ (bytes "</g>\n" ++ (pointTexts (f i) c ++ footText (f i) (e i .pins) (e i .steiner) (e i .length))))) p
+    ++ (runTexts (d .tail) (f i) (listed (c .state)) ++ (bytes "</g>\n" ++ (pointTexts (f i) c ++ footText (f i) (e i .pins) (e i .steiner) (e i .length))))) p

@@ -5,20 +5,21 @@ use lib.ListN.{length, replicate}
 use Rattle.arrays.specs.Text.{bytes}
 use Rattle.arrays.specs.Paste.{each}
 use Rattle.plane.specs.Point.{Point}
-use Rattle.plane.specs.Edge.{Edge, edgeLength}
+use Rattle.plane.specs.Edge.{Edge}
 use Rattle.model.specs.State.{points}
 use Rattle.model.specs.Contents.{Contents}
-use Rattle.model.specs.Question.{listed, lengthOfState, pinCount, steinerCount}
+use Rattle.model.specs.Tail.{runLength}
+use Rattle.model.specs.Question.{listed, lengthOfContents, pinCount, steinerCount}
 use Rattle.frame.specs.Frame.{Box, boxOf}
 use Rattle.drawing.specs.Elements.{headText, runText, symbolText, footText}
 
--- The path of a run, with its length.
-unfoldable pub edgeText : Box → Edge → List ℕ
-edgeText b e = runText b (e .lo) (e .hi) (edgeLength e)
+-- The path of a run, with its length, tails included.
+unfoldable pub edgeText : ℕ → Box → Edge → List ℕ
+edgeText tail b e = runText b (e .lo) (e .hi) (runLength tail e)
 
 -- The paths of runs.
-abbrev pub runTexts : Box → List Edge → List ℕ
-runTexts b l = each (edgeText b) l
+abbrev pub runTexts : ℕ → Box → List Edge → List ℕ
+runTexts tail b l = each (edgeText tail b) l
 
 -- The symbols of points, of which as many are given.
 unfoldable pub symbolTexts : Box → List ℕ → List Point → List ℕ
@@ -42,4 +43,4 @@ pictureOf c =
     let s = c .state in
     let b = boxOf (points s) in
     headText b
-    ++ (runTexts b (listed s) ++ (bytes "</g>\n" ++ (pointTexts b c ++ footText b (pinCount s) (steinerCount s) (lengthOfState s))))
+    ++ (runTexts (c .tail) b (listed s) ++ (bytes "</g>\n" ++ (pointTexts b c ++ footText b (pinCount s) (steinerCount s) (lengthOfContents c))))

@@ -20,6 +20,7 @@ ghost use lib.ListN.{length, take};
 ghost use Rattle.arrays.specs.Paste.{Pasted};
 ghost use Rattle.plane.specs.Code.{pointOf};
 ghost use Rattle.model.specs.State.{Valid, points};
+ghost use Rattle.model.specs.Tail.{longestTail};
 ghost use Rattle.model.specs.Contents.{ValidContents};
 ghost use Rattle.model.specs.Question.{listed};
 ghost use Rattle.ascii.specs.Text.{fitting};
@@ -45,19 +46,20 @@ fn frame_for(w: Working) -> Frame
 }
 
 // The paths of the runs of a working form, from place `at` on.
-fn put_runs(out: &mut [u8], at: usize, f: Frame, w: Working) -> usize
+fn put_runs(out: &mut [u8], at: usize, f: Frame, w: Working, tail: u64) -> usize
     requires { ⌜ at + runsRoom ≤ length (now out) ⌝ }
     requires { ⌜ InOrder w ⌝ }
     requires { ⌜ Valid (stateOf w) ⌝ }
-    ensures { λ r. ⌜ Pasted (runTexts (boxIn f) (listed (stateOf w))) (now (out .entry)) (now (out .exit)) at r ⌝ }
+    requires { ⌜ tail ≤ longestTail ⌝ }
+    ensures { λ r. ⌜ Pasted (runTexts tail (boxIn f) (listed (stateOf w))) (now (out .entry)) (now (out .exit)) at r ⌝ }
     ensures { λ r. ⌜ r ≤ at + runsRoom ⌝ }
 {
     let ends = edge_numbers(w);
     let mut next = at;
     let mut i = 0;
     while i < w.nkeys {
-        let e = edge_at(w, &ends, i);
-        next = put_run(out, next, f, e.low, e.high, e.distance);
+        let e = edge_at(w, &ends, i, tail);
+        next = put_run(out, next, f, e.low, e.high, e.length);
         i += 1;
     }
     next
@@ -116,7 +118,7 @@ pub fn draw_working(d: WorkingDeck, out: &mut [u8]) -> usize
     let f = frame_for(d.form);
     let m = measure(d);
     let runs = put_head(out, f);
-    let end = put_runs(out, runs, f, d.form);
+    let end = put_runs(out, runs, f, d.form, d.tail);
     let symbols = put_bytes(out, end, b"</g>\n");
     let foot = put_points(out, symbols, f, d);
     put_foot(out, foot, f, m.pins, m.steiner, m.length)

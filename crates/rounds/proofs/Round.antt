@@ -15,7 +15,7 @@ use Rattle.plane.specs.Coordinate.{coordinate, storedOf}
 use Rattle.arrays.specs.Set.{put}
 use Rattle.model.specs.State.{State, Valid, points, prune}
 use Rattle.model.specs.Tail.{treeLengthWith}
-use Rattle.model.specs.Round.{RoundResult, finished, tap, withSteiner, best, round}
+use Rattle.model.specs.Round.{RoundResult, withSteiner, roundWith, best, round}
 use Rattle.model.specs.Choice.{Candidate}
 use Rattle.model.proofs.Prune.{points-in}
 use Rattle.model.proofs.Choice.{Choice, none-saves, some-chosen, best-choice, saved-shorter}
@@ -31,15 +31,10 @@ use Rattle.search.specs.Search.{answerOf}
 use Rattle.rounds.specs.declared.Step.the-variants.{Finished, Tap}
 use Rattle.rounds.specs.Rounds.{adds, stepOf}
 
--- What a round answers for the best candidate.
-roundWith : ℕ → State → Option Point → RoundResult
-roundWith tail s none = record { next = s; answer = finished }
-roundWith tail s (some c) = record { next = prune (withSteiner c s); answer = tap c (treeLengthWith tail (points s) - treeLengthWith tail (points (prune (withSteiner c s)))) }
-
+-- A round, by the candidate that it chooses.
 round-with : (tail : ℕ) (s : State) (o : Option Point) → best tail (points s) ≡ o → round tail s ≡ roundWith tail s o
-unfolding round roundWith
-round-with tail s none e = ap (λ (o : Option Point). elim o as (λ _. RoundResult) [ none ↦ roundWith tail s none | some c ↦ roundWith tail s (some c) ]) e
-round-with tail s (some c) e = ap (λ (o : Option Point). elim o as (λ _. RoundResult) [ none ↦ roundWith tail s none | some d ↦ roundWith tail s (some d) ]) e
+unfolding round
+round-with tail s o e = ap (roundWith tail s) e
 
 -- No crossing was found: the round is finished.
 none-found : (o : Option Point) → answerOf o ≡ Nothing → o ≡ none
@@ -51,15 +46,13 @@ module _ (tail : ℕ) (s : State) (e : answerOf (best tail (points s)) ≡ Nothi
   stays = round-with tail s none (none-found (best tail (points s)) e)
 
   pub next-stays : s ≡ round tail s .next
-  unfolding roundWith
   next-stays = sym (ap (λ (r : RoundResult). r .next) stays)
 
   pub added-stays : false ≡ adds (round tail s .answer)
-  unfolding roundWith
   added-stays = sym (ap (λ (r : RoundResult). adds (r .answer)) stays)
 
   pub step-stays : Finished ≡ stepOf (round tail s .answer)
-  unfolding roundWith stepOf
+  unfolding stepOf
   step-stays = sym (ap (λ (r : RoundResult). stepOf (r .answer)) stays)
 
 -- One was found: what is known of its code.
@@ -100,17 +93,15 @@ module _ (tail : ℕ) (s : State) (u v k : ℕ) (j : Joins tail s u v k) where
   joins = round-with tail s (some (pointOf k)) (j .chosen)
 
   pub next-joins : (s′ : State) → s′ ≡ prune (withSteiner (pointOf k) s) → s′ ≡ round tail s .next
-  unfolding roundWith
   next-joins s′ e = e ∙ sym (ap (λ (r : RoundResult). r .next) joins)
 
   pub added-joins : true ≡ adds (round tail s .answer)
-  unfolding roundWith
   added-joins = sym (ap (λ (r : RoundResult). adds (r .answer)) joins)
 
   pub step-joins : (s′ : State) (x y : ℤ) (m n : ℕ) → s′ ≡ prune (withSteiner (pointOf k) s) → x ≡ coordinate u → y ≡ coordinate v
       → m ≡ treeLengthWith tail (points s) → n ≡ treeLengthWith tail (points s′)
       → Tap x y (m - n) ≡ stepOf (round tail s .answer)
-  unfolding roundWith stepOf
+  unfolding stepOf
   step-joins s′ x y m n e ex ey em en =
       (λ i. Tap ((ex ∙ j .atX) i) ((ey ∙ j .atY) i) (em i - (en ∙ ap (λ (z : State). treeLengthWith tail (points z)) e) i))
       ∙ sym (ap (λ (r : RoundResult). stepOf (r .answer)) joins)

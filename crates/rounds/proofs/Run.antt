@@ -35,7 +35,8 @@ pub record Running (tail : ℕ) (w at : Working) (t : Rounded) (count : ℕ) : T
   pub left : lengthOfState tail (work.stateOf at) + count ≤ lengthOfState tail (work.stateOf w)
   pub fits : lengthOfState tail (work.stateOf w) ≤ 15246000
 
-pub running-start : (tail : ℕ) (w : Working) (t : Rounded) → work.InOrder w → Valid (work.stateOf w) → tail ≤ longestTail → RoundOf tail w t → Running tail w w t 0
+pub running-start : (tail : ℕ) (w : Working) (t : Rounded) → work.InOrder w → Valid (work.stateOf w) → tail ≤ longestTail
+    → RoundOf tail w t → Running tail w w t 0
 running-start tail w t p v h r =
     record {
       inOrder = p;
@@ -52,12 +53,16 @@ module _ (tail : ℕ) (w at : Working) (t : Rounded) (count : ℕ) (run : Runnin
 
   -- The round added a Steiner point: the tree was shortened.
   module _ (more : t .added ≡ true) where
-    falls : (a : RoundAnswer) → round tail s .answer ≡ a → adds a ≡ true
-        → (lengthOfState tail (round tail s .next) < lengthOfState tail s) × ((k : ℕ) (r : State) → RoundsTo tail (round tail s .next) k r → RoundsTo tail s (suc k) r)
+    abbrev Fell : Type 0
+    Fell =
+        (lengthOfState tail (round tail s .next) < lengthOfState tail s)
+        × ((k : ℕ) (r : State) → RoundsTo tail (round tail s .next) k r → RoundsTo tail s (suc k) r)
+
+    falls : (a : RoundAnswer) → round tail s .answer ≡ a → adds a ≡ true → Fell
     falls finished e m = let z : _≡_ {A = ℕ} 0 1 = cc in absurd (omega arith)
     falls (tap c fall) e m = let f = round-falls tail s (run .valid) c fall e in (omega (arith, f .0, f .1), λ k r x. added e x)
 
-    fell : (lengthOfState tail (round tail s .next) < lengthOfState tail s) × ((k : ℕ) (r : State) → RoundsTo tail (round tail s .next) k r → RoundsTo tail s (suc k) r)
+    fell : Fell
     fell = falls (round tail s .answer) refl (sym (run .rounded .added) ∙ more)
 
     pub running-less : count < lengthOfState tail (work.stateOf w)

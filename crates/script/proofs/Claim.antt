@@ -43,12 +43,13 @@ none-negative : (k : ℕ) → OnlyNames (bytes "glyph" ∷ []) (One (negsuc k))
 unfolding ofNumbers
 none-negative k w n = sym (number-negative w (negsuc k) (not-same w (bytes "glyph") (λ e. n (head e))) refl)
 
-none-one : (z : ℤ) → OnlyNames (bytes "write" ∷ bytes "run" ∷ bytes "glyph" ∷ []) (One z)
+none-one : (z : ℤ) → OnlyNames (bytes "write" ∷ bytes "run" ∷ bytes "tail" ∷ bytes "glyph" ∷ []) (One z)
 unfolding ofNumbers withNumber
 none-one (pos k) w n =
-    rw (not-same w (bytes "glyph") (λ e. n (tail (tail (head e)))))
-    (sym (sized-none w k (not-same w (bytes "write") (λ e. n (head e))) (not-same w (bytes "run") (λ e. n (tail (head e))))))
-none-one (negsuc k) w n = rw (not-same w (bytes "glyph") (λ e. n (tail (tail (head e))))) refl
+    rw (not-same w (bytes "glyph") (λ e. n (tail (tail (tail (head e))))))
+    (sym (sized-none w k (not-same w (bytes "write") (λ e. n (head e))) (not-same w (bytes "run") (λ e. n (tail (head e))))
+    (not-same w (bytes "tail") (λ e. n (tail (tail (head e)))))))
+none-one (negsuc k) w n = rw (not-same w (bytes "glyph") (λ e. n (tail (tail (tail (head e)))))) refl
 
 none-two : (x y : ℤ) → OnlyNames (bytes "add" ∷ bytes "withdraw" ∷ bytes "degree" ∷ bytes "octant" ∷ []) (Two x y)
 unfolding ofNumbers
@@ -118,6 +119,7 @@ names =
       noNumber = none-alone;
       writeInto = λ n. refl;
       run = λ n. refl;
+      tail = λ n. refl;
       glyph = λ z. refl;
       oneNumber = none-one;
       oneNegative = none-negative;

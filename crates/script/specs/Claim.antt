@@ -13,7 +13,7 @@ use Rattle.words.specs.Hex.{isHex}
 use Rattle.arguments.specs.Arguments.{argumentsOf}
 use Rattle.commands.specs.declared.Command.the-variants.{Error, Read, Write, Call, Ask, Direct}
 use Rattle.commands.specs.declared.Command.the-variants as command
-use Rattle.commands.specs.declared.Change.the-variants.{Add, Withdraw, Round, Finish}
+use Rattle.commands.specs.declared.Change.the-variants.{Add, Withdraw, Round, Finish, Tail}
 use Rattle.commands.specs.declared.Query.the-variants.{Length, Counts, Run, Degree, Kinds}
 use Rattle.commands.specs.declared.Direction.the-variants.{Octant, Arrow, Glyph}
 use Rattle.commands.specs.Commands.{areShort, ofNumbers}
@@ -33,11 +33,12 @@ pub record Names : Type 0 where
   pub counts : ofNumbers (bytes "counts") Zero ≡ Ask Counts
   pub kinds : ofNumbers (bytes "kinds") Zero ≡ Ask Kinds
   pub noNumber : OnlyNames (bytes "write" ∷ bytes "round" ∷ bytes "finish" ∷ bytes "list" ∷ bytes "length" ∷ bytes "counts" ∷ bytes "kinds" ∷ []) Zero
-  -- one: `write` and `run` with one that is not negative
+  -- one: `write`, `run` and `tail` with one that is not negative
   pub writeInto : (n : ℕ) → ofNumbers (bytes "write") (One (pos n)) ≡ Write n
   pub run : (n : ℕ) → ofNumbers (bytes "run") (One (pos n)) ≡ Ask (Run n)
+  pub tail : (n : ℕ) → ofNumbers (bytes "tail") (One (pos n)) ≡ Call (Tail n)
   pub glyph : (z : ℤ) → ofNumbers (bytes "glyph") (One z) ≡ Direct (Glyph z)
-  pub oneNumber : (z : ℤ) → OnlyNames (bytes "write" ∷ bytes "run" ∷ bytes "glyph" ∷ []) (One z)
+  pub oneNumber : (z : ℤ) → OnlyNames (bytes "write" ∷ bytes "run" ∷ bytes "tail" ∷ bytes "glyph" ∷ []) (One z)
   pub oneNegative : (n : ℕ) → OnlyNames (bytes "glyph" ∷ []) (One (negsuc n))
   -- two
   pub add : (x y : ℤ) → ofNumbers (bytes "add") (Two x y) ≡ Call (Add x y 0)

@@ -25,8 +25,11 @@ steinerWord = pinCountWord + 1
 abbrev pub steinerCountWord : ℕ
 steinerCountWord = steinerWord + steinerPlaces
 
+abbrev pub tailWord : ℕ
+tailWord = steinerCountWord + 1
+
 abbrev pub endsWord : ℕ
-endsWord = steinerCountWord + 1
+endsWord = tailWord + 1
 
 abbrev pub wordCount : ℕ
 wordCount = endsWord + endPlaces
@@ -42,9 +45,10 @@ deckIn w kinds =
         nsteiner = getD w steinerCountWord 0;
       };
       kinds = kinds;
+      tail = getD w tailWord 0;
       ends = take endPlaces (drop endsWord w);
     }
 
 -- The words of a deck.
 abbrev pub wordsOf : Deck → List ℕ
-wordsOf d = let p = d .points in p .pins ++ p .npins ∷ (p .steiner ++ p .nsteiner ∷ d .ends)
+wordsOf d = let p = d .points in p .pins ++ p .npins ∷ (p .steiner ++ p .nsteiner ∷ d .tail ∷ d .ends)

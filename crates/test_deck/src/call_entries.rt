@@ -103,3 +103,19 @@ pub extern "C" fn entry_run_to_end(
     let d = deck_in(*words, *kinds);
     put_outcome(d.run_to_end(), words, kinds, numbers, places)
 }
+
+// Sets the tail length. Returns as `entry_add` does.
+#[no_mangle]
+pub extern "C" fn entry_set_tail(
+    tail: u32,
+    words: &mut [u64; WORDS],
+    kinds: &mut [u8; KIND_PLACES],
+    numbers: &mut [u64; 3],
+    places: &mut [i32; 4],
+) -> u8
+    ensures { λ r. ⌜ Holds (called (deckIn (now (words .entry)) (now (kinds .entry))) (call.setTail tail))
+        (now (words .exit)) (now (kinds .exit)) (partsIn r (now (numbers .exit)) (now (places .exit))) ⌝ }
+{
+    let d = deck_in(*words, *kinds);
+    put_outcome(d.set_tail(tail), words, kinds, numbers, places)
+}

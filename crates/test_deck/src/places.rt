@@ -10,7 +10,7 @@ pub const STEINER_PLACES: usize = 128;
 
 pub const END_PLACES: usize = 128;
 
-// The first word of each part, behind the part in front of it: the pins, their number, the Steiner points, their number, the ends of edges.
+// The first word of each part, behind the part in front of it: the pins, their number, the Steiner points, their number, the tail, the ends of edges.
 pub const PINS: usize = 0;
 
 pub const PIN_COUNT: usize = PINS + PIN_PLACES;
@@ -19,7 +19,9 @@ pub const STEINER: usize = PIN_COUNT + 1;
 
 pub const STEINER_COUNT: usize = STEINER + STEINER_PLACES;
 
-pub const ENDS: usize = STEINER_COUNT + 1;
+pub const TAIL: usize = STEINER_COUNT + 1;
+
+pub const ENDS: usize = TAIL + 1;
 
 // The number of words of a deck.
 pub const WORDS: usize = ENDS + END_PLACES;

@@ -9,6 +9,7 @@ use super::places::PINS;
 use super::places::STEINER;
 use super::places::STEINER_COUNT;
 use super::places::STEINER_PLACES;
+use super::places::TAIL;
 use super::places::WORDS;
 use arrays::paste::put_numbers;
 use deck::Deck;
@@ -37,6 +38,7 @@ pub fn deck_in(words: [u64; WORDS], kinds: [u8; KIND_PLACES]) -> Deck
     Deck {
         points,
         kinds,
+        tail: words[TAIL],
         ends,
     }
 }
@@ -55,6 +57,7 @@ pub fn put_deck<'a>(d: Deck, words: &'a mut [u64; WORDS], kinds: &'a mut [u8; KI
     w[PIN_COUNT] = d.points.npins as u64;
     put_numbers(&mut w, STEINER, &steiner);
     w[STEINER_COUNT] = d.points.nsteiner as u64;
+    w[TAIL] = d.tail;
     put_numbers(&mut w, ENDS, &ends);
     *words = w;
     *kinds = k;

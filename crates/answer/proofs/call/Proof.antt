@@ -47,9 +47,18 @@ finishes c =
     makes _ (at-finish .before .enum-told2 .given .1) (ap changes (at-finish .run-to-end .ensures))
     (at-changed .changed4 .ensures)
 
+tails : tie.Need-returns-5
+unfolding callFor
+tails c =
+    let at-changed = c .before .before in
+    let at-set-tail = at-changed .before .before in
+    makes _ (at-set-tail .before .before .c3 .given .1) (ap changes (at-set-tail .set-tail .ensures))
+    (at-changed .changed5 .ensures)
+
 pub call-spec : {M : Type 1} → statement M
 call-spec =
     tie.close
     (tie.spec (λ c. search needs) (λ c κs. search needs) (λ c κs. search needs) (λ c. search needs) (λ c κs. search needs) (λ c κs. search needs)
     (λ c. search needs) (λ c κs. search needs) (λ c κs. search needs) (λ c. search needs) (λ c κs. search needs) (λ c κs. search needs)
-    (λ c. search needs) adds (λ c. search needs) withdraws (λ c. search needs) rounds (λ c. search needs) finishes)
+    (λ c. search needs) (λ c κs. search needs) (λ c κs. search needs)
+    (λ c. search needs) adds (λ c. search needs) withdraws (λ c. search needs) rounds (λ c. search needs) finishes (λ c. search needs) tails)

@@ -161,11 +161,18 @@ module _ (d : Deck) (f : Formed) (c : Forms (validPoints (d .points)) (d .points
         (sound-is d .0 t .same ∙ sym (ap deckOf same) ∙ sym is)
         (and-both (sameList (d .kinds) (d .kinds)) (sameList (d .ends) (d .ends)) (same-refl (d .kinds)) (same-refl (d .ends))))
 
-    pub rest-pass : d .tail ≤ longestTail → length (d .kinds) ≡ maxPins → T (all isKind (contentsOf d .kinds)) → (a : Deck) → a ≡ deckOf (workingDeck.contentsOf whole)
+    pub rest-pass : d .tail ≤ longestTail → length (d .kinds) ≡ maxPins → T (all isKind (contentsOf d .kinds))
+        → (a : Deck) → a ≡ deckOf (workingDeck.contentsOf whole)
         → T (sameList (d .kinds) (a .kinds) && sameList (d .ends) (a .ends)) → (r : Checked) → r ≡ record { ok = true; working = whole } → Checks (sound d) d r
     rest-pass tailed long known a is t r made =
         subst⁻¹ (Checks (sound d) d) made
-        (record { ok = sym (true-of (sound d) (sound-is d .1 proved)); inOrder = λ u. points-order; points = λ u. c .same test; kinds = λ u. refl; tail = λ u. refl })
+        (record {
+          ok = sym (true-of (sound d) (sound-is d .1 proved));
+          inOrder = λ u. points-order;
+          points = λ u. c .same test;
+          kinds = λ u. refl;
+          tail = λ u. refl;
+        })
       where
         arranged : coded.Arranged (d .points)
         arranged = subst coded.Arranged (c .same test) (points-order .arranged)

@@ -69,7 +69,8 @@ add-sums c =
     let at-test = test-of (edge-of at) in
     let at-loop = at-test .before .before in
     let k = known at in
-    omega (arith, sum-fits _ _ _ _ _ (at-loop .loop .inv) (edge-of at .edge-at .ensures) (k .0) (k .1) (entry-of at-loop .pre .1 .tailed), at-test .if1 .taken, entry-of at-loop .pre .0 .keysFew)
+    let fits = sum-fits _ _ _ _ _ (at-loop .loop .inv) (edge-of at .edge-at .ensures) (k .0) (k .1) (entry-of at-loop .pre .1 .tailed) in
+    omega (arith, fits, at-test .if1 .taken, entry-of at-loop .pre .0 .keysFew)
 
 array-write-sums : tie.Need-array-write-sums Inv-loop μ-loop
 array-write-sums c = omega (arith, known (c .before) .1)

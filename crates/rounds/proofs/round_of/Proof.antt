@@ -19,7 +19,8 @@ start c =
     let at-match = c .before .before .before in
     at-match .before .before
 
-joined : (c : tie.After-pack) → let at = c .before .before .u .given .0 in Joins (start c .args .tail) (stateOf (start c .args .w)) (at .0) (at .1 .0) (c .pack .result)
+joined : (c : tie.After-pack)
+    → let at = c .before .before .u .given .0 in Joins (start c .args .tail) (stateOf (start c .args .w)) (at .0) (at .1 .0) (c .pack .result)
 joined c =
     let at-u = c .before .before in
     found-at _ _ (start c .pre .1 .0) _ _ _ (c .pack .ensures .0) (sym (at-u .before .before .best-of .ensures) ∙ at-u .u .given .1)

@@ -1,4 +1,5 @@
--- `deck::check::check` meets its contract: the tail is no longer than the longest, the points are those of a valid state, the kinds are kinds, and the rest is that of the deck of both.
+-- `deck::check::check` meets its contract: the tail is not too long, the points are those of a valid state, the kinds are kinds, and the rest is that of
+-- the deck of all three.
 use mathlib.Core.Path.{_≡_, refl, sym, ap, _∙_}
 use native.Mathlib.Omega.{arith}
 use lib.ListN.{length}

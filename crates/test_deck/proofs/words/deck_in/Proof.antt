@@ -2,7 +2,8 @@
 use mathlib.Core.Path.{_≡_, refl}
 use native.Mathlib.Omega.{arith}
 use lib.ListN.{length, getD}
-use Rattle.test_deck.specs.Words.{pinPlaces, steinerPlaces, endPlaces, pinCountWord, steinerWord, steinerCountWord, endsWord, wordCount}
+use Rattle.test_deck.specs.Words.{pinPlaces, steinerPlaces, endPlaces, pinCountWord, steinerWord, steinerCountWord, tailWord, endsWord}
+use Rattle.test_deck.specs.Words.{wordCount}
 use Rattle.test_deck.proofs.words.Places.{part-copied}
 use borrow.Author.Needs.{needs}
 use Rattle.test_deck.proofs.words.deck_in.Statement.{statement}
@@ -27,6 +28,7 @@ returns c =
     λ i. record {
       points = record { pins = pins i; npins = getD w pinCountWord 0; steiner = steiner i; nsteiner = getD w steinerCountWord 0 };
       kinds = entry .args .kinds;
+      tail = getD w tailWord 0;
       ends = ends i;
     }
 
@@ -49,6 +51,7 @@ deck-in-spec =
     (λ c. search needs)
     (λ c. search needs)
     (λ c κs. search needs)
+    (λ c. search needs)
     (λ c. search needs)
     (λ c. search needs)
     returns)
