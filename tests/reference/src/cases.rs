@@ -1,7 +1,8 @@
 //! The cases in which a wrong turn shows at the last call of a list.
 
+use crate::candidates::best_candidate;
 use crate::plane::{Edge, Point};
-use crate::session::{best_candidate, call, prune, Call, Reply, State};
+use crate::session::{call, prune, Call, Reply, State};
 use crate::tree::{length, listing_order};
 use crate::variants::*;
 
@@ -105,7 +106,7 @@ fn other_prune(state: &State, last: Call, other: fn(State) -> State) -> Option<S
     let (right, wrong) = (prune(before.clone()), other(before.clone()));
     (right != wrong).then(|| {
         let taps = show_points(&before.steiner);
-        let gone = length(&wrong.tree());
+        let gone = length(&wrong.tree(), wrong.tail);
         format!(
             "taps before the sweep {taps}; wrong end: taps {}, length {gone}",
             show_points(&wrong.steiner)
@@ -156,13 +157,14 @@ fn show_joined(wrong: &State, edges: &[Edge]) -> String {
     let (taps, runs) = (show_points(&wrong.steiner), show_edges(edges));
     format!(
         "wrong end: taps {taps}, length {}, runs {runs}",
-        length(edges)
+        length(edges, wrong.tail)
     )
 }
 
 fn joined_length(_: &[Call], state: &State, last: Call) -> Option<String> {
     let (_, wrong, fresh, edges) = joined(state, last)?;
-    (length(&fresh) != length(&edges)).then(|| show_joined(&wrong, &edges))
+    let tail = state.tail;
+    (length(&fresh, tail) != length(&edges, tail)).then(|| show_joined(&wrong, &edges))
 }
 
 fn joined_state(_: &[Call], state: &State, last: Call) -> Option<String> {
@@ -172,8 +174,8 @@ fn joined_state(_: &[Call], state: &State, last: Call) -> Option<String> {
 
 fn joined_tree(_: &[Call], state: &State, last: Call) -> Option<String> {
     let (right, wrong, fresh, edges) = joined(state, last)?;
-    (right == wrong && fresh != edges && length(&fresh) == length(&edges))
-        .then(|| show_joined(&wrong, &edges))
+    let equal = length(&fresh, state.tail) == length(&edges, state.tail);
+    (right == wrong && fresh != edges && equal).then(|| show_joined(&wrong, &edges))
 }
 
 fn joined_round(calls: &[Call], state: &State, last: Call) -> Option<String> {

@@ -31,8 +31,8 @@ pub fn deck(pins: &[(i64, i64)]) -> State {
 /// at the lowest pin.
 pub fn mixed(state: State) -> State {
     let pin = |(place, point)| Pin::new(point, (place as u32 + 1) % 3);
-    let pins = state.places().into_iter().enumerate().map(pin);
-    State::new(pins.collect(), state.steiner)
+    let pins = state.places().into_iter().enumerate().map(pin).collect();
+    State { pins, ..state }
 }
 
 /// The example's deck after a run to the end: a tap at (5,0).

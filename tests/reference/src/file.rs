@@ -37,7 +37,8 @@ pub const fn header(sections: usize) -> usize {
     COUNT + 2 + 8 * sections
 }
 
-/// The file of a state, its edges written out (SPEC 7.5: the writer).
+/// The file of a state, its edges written out (SPEC 7.5: the writer). The tail is
+/// not filed.
 pub fn write(state: &State) -> Vec<u8> {
     let points = state.points();
     let number = |point: Point| points.iter().position(|&p| p == point).unwrap() as u8;
@@ -120,7 +121,7 @@ pub fn write_into(state: &State, buffer: &mut [u8]) -> Result<usize, u8> {
     Ok(bytes.len())
 }
 
-/// Reads a file. Checks 1 to 6 and 15, in this order.
+/// Reads a file; its deck has no tail. Checks 1 to 6 and 15, in this order.
 pub fn read(bytes: &[u8]) -> Result<State, u8> {
     let sections = sections(bytes)?;
     let (pins, steiner, edges) = (sections[PINS], sections[STEINER], sections[EDGES]);
@@ -133,7 +134,12 @@ pub fn read(bytes: &[u8]) -> Result<State, u8> {
     let (pins, steiner) = (points_of(pins), points_of(steiner));
     check_points(&pins, &steiner)?;
     let pins = sensors(&pins);
-    let mut state = State { pins, steiner };
+    let tail = 0;
+    let mut state = State {
+        pins,
+        steiner,
+        tail,
+    };
     let plain = state.steiner.is_empty() && edges.is_empty();
     if !plain && !shows_valid(&state, edges) {
         return Err(6);

@@ -6,6 +6,7 @@ use crate::plane::{Point, LIMIT};
 use crate::script::{arrow_line, hex_of};
 use crate::session::{call, prune, Call, State, MOST_PINS};
 use crate::sights::sight;
+use crate::tails::any_tail;
 
 /// A splitmix64 generator: the same seed gives the same numbers.
 pub struct Random {
@@ -184,7 +185,7 @@ pub fn full_state_at(random: &mut Random, place: &Place, most: usize) -> State {
     let mut steiner = place.points(random, most);
     steiner.retain(|tap| !points.contains(tap));
     let pins = devices(random, &points);
-    prune(State { pins, steiner })
+    prune(State::new(pins, steiner))
 }
 
 /// A file that is accepted: plain once in three, else full.
@@ -203,7 +204,7 @@ pub fn one_call(random: &mut Random, place: &Place, state: &State) -> Call {
     let far = random.pick(&[-LIMIT - 1, -LIMIT, LIMIT, LIMIT + 1]);
     let device = any_kind(random);
     let held = state.points();
-    match random.range(0, 15) {
+    match random.range(0, 16) {
         0 => Call::Add(far, near.y, device),
         1 => Call::Add(near.x, far, device),
         2 => Call::Withdraw(near.x, near.y),
@@ -225,21 +226,25 @@ pub fn one_call(random: &mut Random, place: &Place, state: &State) -> Call {
         }
         9 => Call::Finish,
         10 | 11 => Call::Round,
+        12 => Call::SetTail(any_tail(random)),
         _ => Call::Add(near.x, near.y, device),
     }
 }
 
-/// A call list from a state: pins to begin with, then a mixture.
+/// A call list from a state: pins to begin with, now and then a tail among them,
+/// then a mixture.
 pub fn call_list(random: &mut Random, kind: Kind, from: &State, calls: usize) -> Vec<Call> {
     let place = Place::new(random, kind);
     let mut state = from.clone();
     let mut list = Vec::new();
     for i in 0..calls {
-        let next = if 2 * i < calls {
+        let next = if 2 * i >= calls {
+            one_call(random, &place, &state)
+        } else if random.once_in(12) {
+            Call::SetTail(any_tail(random))
+        } else {
             let point = place.point(random);
             Call::Add(point.x, point.y, device_kind(random))
-        } else {
-            one_call(random, &place, &state)
         };
         state = call(&state, next).0;
         list.push(next);

@@ -33,7 +33,7 @@ pub const WRONG_CALLS: [(&str, Answer); 9] = [
 fn renamed(state: State, kinds: &[u32]) -> State {
     let pair = |(point, &kind): (Point, &u32)| Pin::new(point, kind);
     let pins = state.places().into_iter().zip(kinds).map(pair);
-    State::new(pins.collect(), state.steiner)
+    State::new(pins.collect(), state.steiner).with_tail(state.tail)
 }
 
 fn new_kind_last(state: &State, asked: Call) -> (State, Reply) {
@@ -68,7 +68,7 @@ fn sensors_after_round(state: &State, asked: Call) -> (State, Reply) {
     match reply {
         Reply::Tap { .. } | Reply::Rounds(1..) => {
             let pins = sensors(&next.places());
-            (State::new(pins, next.steiner), reply)
+            (State { pins, ..next }, reply)
         }
         _ => (next, reply),
     }

@@ -39,7 +39,7 @@ fn by_rule(state: &State, rule: impl Fn(Edge) -> Option<u32>) -> [i64; 3] {
     let mut lengths = [0; 3];
     for edge in state.tree() {
         if let Some(kind) = rule(edge) {
-            lengths[kind as usize] += edge.length();
+            lengths[kind as usize] += edge.length(state.tail);
         }
     }
     lengths
@@ -81,7 +81,7 @@ fn display_first(state: &State) -> [i64; 3] {
 }
 
 fn exchanged(state: &State) -> [i64; 3] {
-    let [sensors, displays, controllers] = lengths_by_kind(&state.pins, &state.tree());
+    let [sensors, displays, controllers] = lengths_by_kind(&state.pins, &state.tree(), state.tail);
     [sensors, controllers, displays]
 }
 
@@ -107,7 +107,7 @@ fn taps_to_sensors(state: &State) -> [i64; 3] {
 fn with_taps(state: &State, kind: impl Fn(Point) -> u32) -> [i64; 3] {
     let taps = state.steiner.iter().map(|&tap| Pin::new(tap, kind(tap)));
     let pins = [state.pins.clone(), taps.collect()].concat();
-    lengths_by_kind(&pins, &state.tree())
+    lengths_by_kind(&pins, &state.tree(), state.tail)
 }
 
 fn tap_is_display(state: &State) -> [i64; 3] {
@@ -156,7 +156,7 @@ fn tap_is_below(state: &State) -> [i64; 3] {
 fn ends_by_number(state: &State) -> [i64; 3] {
     let points = state.points().into_iter().enumerate();
     let pins = points.map(|(number, point)| Pin::new(point, numbered(state, number)));
-    lengths_by_kind(&pins.collect::<Vec<_>>(), &state.tree())
+    lengths_by_kind(&pins.collect::<Vec<_>>(), &state.tree(), state.tail)
 }
 
 fn both_ends(state: &State) -> [i64; 3] {
@@ -167,17 +167,17 @@ fn both_ends(state: &State) -> [i64; 3] {
 fn number_of_runs(state: &State) -> [i64; 3] {
     let edges = state.tree().into_iter();
     edges.fold([0; 3], |counts, edge| {
-        let one = lengths_by_kind(&state.pins, &[edge]).map(|length| i64::from(length > 0));
+        let one = lengths_by_kind(&state.pins, &[edge], 0).map(|length| i64::from(length > 0));
         [0, 1, 2].map(|kind| counts[kind] + one[kind])
     })
 }
 
 fn metres(state: &State) -> [i64; 3] {
-    lengths_by_kind(&state.pins, &state.tree()).map(|length| length / 100)
+    lengths_by_kind(&state.pins, &state.tree(), state.tail).map(|length| length / 100)
 }
 
 fn pins_alone(state: &State) -> [i64; 3] {
-    lengths_by_kind(&state.pins, &tree(&state.places()))
+    lengths_by_kind(&state.pins, &tree(&state.places()), state.tail)
 }
 
 fn all_to_largest(state: &State) -> [i64; 3] {

@@ -4,6 +4,7 @@
 
 // The implementation.
 pub mod arrows;
+pub mod candidates;
 pub mod entry;
 pub mod file;
 pub mod listing;
@@ -16,6 +17,7 @@ pub mod session;
 pub mod tree;
 
 // What tests put to it and to the proved planner, and how they look at it.
+pub mod all_trees;
 pub mod buffers;
 pub mod cases;
 pub mod damage;
@@ -32,6 +34,7 @@ pub mod picture_rules;
 pub mod picture_variants;
 pub mod refusals;
 pub mod sights;
+pub mod tails;
 pub mod text_rows;
 pub mod texts;
 pub mod variants;

@@ -7,17 +7,18 @@ use crate::tree::{length, listing_order};
 
 /// The listing of a state as it is.
 pub fn listing(state: &State) -> String {
-    let edges = state.tree();
+    let (edges, tail) = (state.tree(), state.tail);
     let (pins, steiner) = (state.pins.len(), state.steiner.len());
-    let mut text = format!("deck {pins} {steiner} {}\n", length(&edges));
-    let [a, b, c] = lengths_by_kind(&state.pins, &edges);
+    let mut text = format!("deck {pins} {steiner} {}\n", length(&edges, tail));
+    let [a, b, c] = lengths_by_kind(&state.pins, &edges, tail);
     text += &format!("kinds {a} {b} {c}\n");
     for tap in &state.steiner {
         text += &format!("tap {} {}\n", tap.x, tap.y);
     }
     for edge in listing_order(&edges) {
         let (a, b) = (edge.lower, edge.higher);
-        text += &format!("run {} {} {} {} {}\n", a.x, a.y, b.x, b.y, edge.length());
+        let length = edge.length(tail);
+        text += &format!("run {} {} {} {} {length}\n", a.x, a.y, b.x, b.y);
     }
     text
 }

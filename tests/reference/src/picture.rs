@@ -58,10 +58,10 @@ impl Frame {
     }
 
     /// The line of a run.
-    fn run(&self, run: Edge) -> String {
+    fn run(&self, run: Edge, tail: u64) -> String {
         let (a, b) = (self.across(run.lower), self.down(run.lower));
         let (c, e) = (self.across(run.higher), self.down(run.higher));
-        let length = run.length();
+        let length = run.length(tail);
         format!("<path d='M{a} {b}H{c}V{e}'><title>{length} cm</title></path>\n")
     }
 
@@ -95,7 +95,7 @@ pub fn picture(state: &State) -> String {
     );
     let runs = state.tree();
     for run in listing_order(&runs) {
-        text += &frame.run(run);
+        text += &frame.run(run, state.tail);
     }
     text += "</g>\n";
     for pin in &state.pins {
@@ -108,7 +108,11 @@ pub fn picture(state: &State) -> String {
     text += &format!(
         "<g transform='translate(0 {deep})scale({unit})' font-family='sans-serif' font-size='14'>\n{LEGEND}"
     );
-    let (pins, taps, length) = (state.pins.len(), state.steiner.len(), length(&runs));
+    let (pins, taps, length) = (
+        state.pins.len(),
+        state.steiner.len(),
+        length(&runs, state.tail),
+    );
     text += &format!("<text x='30' y='100'>pins {pins}, taps {taps}, length {length} cm</text>\n");
     text + "</g>\n</svg>\n"
 }

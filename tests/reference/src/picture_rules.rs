@@ -59,7 +59,7 @@ pub const RIGHT: Rules = Rules {
     marks: |state| [pin_marks(state), tap_marks(state)].concat(),
     title: |name, point| format!("{name} {} {}", point.x, point.y),
     numbers: |state| {
-        let length = state.tree().iter().map(|run| run.length()).sum();
+        let length = state.tree().iter().map(|run| run.length(state.tail)).sum();
         [state.pins.len() as i64, state.steiner.len() as i64, length]
     },
     text: |text| text,
@@ -107,7 +107,7 @@ fn drawn_by(rules: &Rules, state: &State, frame: &Frame) -> Vec<String> {
     let mut lines = Vec::new();
     for run in (rules.runs)(state) {
         let path = (rules.path)(place(run.lower), place(run.higher));
-        let title = format!("<title>{} cm</title>", run.length());
+        let title = format!("<title>{} cm</title>", run.length(state.tail));
         lines.push(format!("<path d='{path}'>{title}</path>"));
     }
     lines.push("</g>".to_string());

@@ -55,10 +55,11 @@ pub fn kind_of(pins: &[Pin], edge: Edge) -> u32 {
     kind_at(pins, edge.lower).max(kind_at(pins, edge.higher))
 }
 
-/// The lengths of the kinds 0, 1 and 2 (SPEC 1.8): those of their edges, added up.
-pub fn lengths_by_kind(pins: &[Pin], edges: &[Edge]) -> [i64; 3] {
+/// The lengths of the kinds 0, 1 and 2 (SPEC 1.8): those of their edges with tails,
+/// added up.
+pub fn lengths_by_kind(pins: &[Pin], edges: &[Edge], tail: u64) -> [i64; 3] {
     [SENSOR, DISPLAY, CONTROLLER].map(|kind| {
         let of_kind = edges.iter().filter(|edge| kind_of(pins, **edge) == kind);
-        of_kind.map(|edge| edge.length()).sum()
+        of_kind.map(|edge| edge.length(tail)).sum()
     })
 }

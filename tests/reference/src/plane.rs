@@ -24,7 +24,7 @@ impl Point {
         -LIMIT <= self.x && self.x <= LIMIT && -LIMIT <= self.y && self.y <= LIMIT
     }
 
-    /// The distance to another point (SPEC 1.4: the length of the run to it).
+    /// The distance to another point.
     pub fn distance(self, other: Point) -> i64 {
         (self.x - other.x).abs() + (self.y - other.y).abs()
     }
@@ -56,9 +56,15 @@ impl Edge {
         }
     }
 
-    /// The length of the edge (SPEC 1.4: the length of a run).
-    pub fn length(self) -> i64 {
+    /// The distance between its ends.
+    pub fn flat(self) -> i64 {
         self.lower.distance(self.higher)
+    }
+
+    /// The length of the edge (SPEC 1.4: the length of a run): the distance, and a
+    /// tail at each end.
+    pub fn length(self, tail: u64) -> i64 {
+        self.flat() + tail as i64 + tail as i64
     }
 
     /// Whether the point is an end of the edge.
@@ -66,10 +72,12 @@ impl Edge {
         self.lower == point || self.higher == point
     }
 
-    /// The order that decides among equals (SPEC 2.1): by length, then by lower end, then by higher end.
+    /// The order that decides among equals (SPEC 2.1): by length, then by lower end,
+    /// then by higher end. All edges of a deck have the same tails, so that distances
+    /// have the order of lengths.
     pub fn compare(self, other: Edge) -> Ordering {
-        self.length()
-            .cmp(&other.length())
+        self.flat()
+            .cmp(&other.flat())
             .then(self.lower.cmp(&other.lower))
             .then(self.higher.cmp(&other.higher))
     }

@@ -10,25 +10,26 @@ use crate::generate::Random;
 use crate::pins::{sensors, Pin, CONTROLLER, SENSOR};
 use crate::plane::Point;
 use crate::script::{arrow_line, call_line, hex_of};
-use crate::session::{Call, State, BAD_KIND};
+use crate::session::{Call, State, BAD_KIND, BAD_TAIL, MOST_TAIL};
 use crate::sights::{across, LEAST, MOST, NO_PITCHES, PITCHES};
+use crate::tails::NO_TAILS;
 
 /// The numbers by which a file is refused.
 pub const OF_FILE: [u8; 7] = [1, 2, 3, 4, 5, 6, BAD_KIND];
 
 /// The numbers by which a call on a sound deck is refused: 7, 15, 8 and 10 for
-/// adding, 9 for withdrawing.
-pub const OF_CALL: [u8; 5] = [7, 8, 9, 10, BAD_KIND];
+/// adding, 9 for withdrawing, 16 for setting the tail.
+pub const OF_CALL: [u8; 6] = [7, 8, 9, 10, BAD_KIND, BAD_TAIL];
 
 /// The numbers that an entry for C answers: those of a file, and 12.
 pub const OF_ENTRY: [u8; 8] = [1, 2, 3, 4, 5, 6, NO_ROOM, BAD_KIND];
 
 /// The numbers that a call on any deck at all is refused by: those of a call on
 /// a sound one, and 11.
-pub const OF_ANY_DECK: [u8; 6] = [7, 8, 9, 10, NOT_SOUND, BAD_KIND];
+pub const OF_ANY_DECK: [u8; 7] = [7, 8, 9, 10, NOT_SOUND, BAD_KIND, BAD_TAIL];
 
 /// The numbers that a script can cause: all but 11, since its decks are sound.
-pub const OF_SCRIPT: [u8; 14] = [1, 2, 3, 4, 5, 6, 7, 8, 9, 10, 12, 13, 14, 15];
+pub const OF_SCRIPT: [u8; 15] = [1, 2, 3, 4, 5, 6, 7, 8, 9, 10, 12, 13, 14, 15, 16];
 
 /// The numbers by which an arrow is refused.
 pub const OF_ARROW: [u8; 2] = [BAD_PITCH, TOO_FAR];
@@ -40,7 +41,7 @@ pub const NOT_SOUND: u8 = 11;
 pub const NO_ROOM: u8 = 12;
 
 /// The last number of a refusal; the first is 1.
-const LAST: u8 = BAD_KIND;
+const LAST: u8 = BAD_TAIL;
 
 /// How many refusals of each number a test has seen.
 #[derive(Clone, Debug, Default, PartialEq, Eq)]
@@ -95,6 +96,9 @@ pub fn refused_calls() -> Vec<(State, Call, u8)> {
         comb(62),
     ] {
         let mut refuse = |call: Call, number: u8| cases.push((state.clone(), call, number));
+        for tail in NO_TAILS {
+            refuse(Call::SetTail(tail), BAD_TAIL);
+        }
         for call in out_of_range() {
             let adds = matches!(call, Call::Add(..));
             refuse(call, if adds { 7 } else { 9 });
@@ -161,11 +165,9 @@ pub fn unsound() -> Vec<State> {
     let state = |pins: &[(i64, i64)], taps: &[(i64, i64)]| State {
         pins: sensors(&points(pins)),
         steiner: points(taps),
+        tail: 0,
     };
-    let of_kind = |kind: u32| State {
-        pins: vec![Pin::new(Point::new(0, 0), kind)],
-        steiner: Vec::new(),
-    };
+    let of_kind = |kind: u32| State::new(vec![Pin::new(Point::new(0, 0), kind)], Vec::new());
     let mut many = square_of_64();
     many.push(Point::new(100, 100));
     vec![
@@ -183,6 +185,8 @@ pub fn unsound() -> Vec<State> {
         State::new(sensors(&many), Vec::new()),
         of_kind(CONTROLLER + 1),
         of_kind(u32::MAX),
+        cross().with_tail(MOST_TAIL + 1),
+        State::default().with_tail(u64::MAX),
     ]
 }
 

@@ -56,6 +56,7 @@ pub fn call_of(words: &[&str]) -> Option<Call> {
         ["withdraw", x, y] => Some(Call::Withdraw(number(x)?, number(y)?)),
         ["round"] => Some(Call::Round),
         ["finish"] => Some(Call::Finish),
+        ["tail", tail] => Some(Call::SetTail(u32::try_from(number(tail)?).ok()?)),
         _ => None,
     }
 }
@@ -75,6 +76,7 @@ pub fn call_line(call: Call) -> String {
         Call::Withdraw(x, y) => format!("withdraw {x} {y}"),
         Call::Round => "round".to_string(),
         Call::Finish => "finish".to_string(),
+        Call::SetTail(tail) => format!("tail {tail}"),
     }
 }
 
@@ -139,9 +141,9 @@ fn answer_question(state: &State, words: &[&str]) -> Option<String> {
 
 fn answer_run(state: &State, place: usize) -> Result<String, u8> {
     Ok(match edge_at(state, place)? {
-        Some(edge) => {
+        Some((edge, length)) => {
             let (a, b) = (edge.lower, edge.higher);
-            format!("run {} {} {} {} {}", a.x, a.y, b.x, b.y, edge.length())
+            format!("run {} {} {} {} {length}", a.x, a.y, b.x, b.y)
         }
         None => "no run".to_string(),
     })

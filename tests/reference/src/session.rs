@@ -1,5 +1,6 @@
 //! The calls and questions on a deck.
 
+use crate::candidates::best_candidate;
 use crate::pins::{lengths_by_kind, places, Pin};
 use crate::plane::{Edge, Point};
 use crate::tree::{degree, length as tree_length, listing_order, tree};
@@ -7,8 +8,14 @@ use crate::tree::{degree, length as tree_length, listing_order, tree};
 /// The greatest number of pins.
 pub const MOST_PINS: usize = 64;
 
+/// The greatest tail, in centimetres.
+pub const MOST_TAIL: u64 = 500;
+
 /// The refusal of a call with a wrong kind, or of a file with wrong kinds.
 pub const BAD_KIND: u8 = 15;
+
+/// The refusal of a tail that is too long.
+pub const BAD_TAIL: u8 = 16;
 
 /// A deck between calls (SPEC 1.2: deck), both lists rising. Its tree is
 /// worked out from them whenever it is needed.
@@ -17,16 +24,19 @@ pub struct State {
     pub pins: Vec<Pin>,
     /// The Steiner points (SPEC 1.2: taps).
     pub steiner: Vec<Point>,
+    /// The tail at each end of a run.
+    pub tail: u64,
 }
 
 /// A call that may change the deck (SPEC 4: add, withdraw, round, run to
-/// the end). Adding names the kind of the device after x and y.
+/// the end, set the tail). Adding names the kind of the device after x and y.
 #[derive(Clone, Copy, Debug, PartialEq, Eq, Hash)]
 pub enum Call {
     Add(i64, i64, u32),
     Withdraw(i64, i64),
     Round,
     Finish,
+    SetTail(u32),
 }
 
 /// The answer to a call.
@@ -47,11 +57,21 @@ pub enum Reply {
 }
 
 impl State {
-    /// The state with these pins and Steiner points, in any order.
+    /// The state with these pins and Steiner points, in any order, and no tail.
     pub fn new(mut pins: Vec<Pin>, mut steiner: Vec<Point>) -> State {
         pins.sort();
         steiner.sort();
-        State { pins, steiner }
+        let tail = 0;
+        State {
+            pins,
+            steiner,
+            tail,
+        }
+    }
+
+    /// The same state with another tail.
+    pub fn with_tail(self, tail: u64) -> State {
+        State { tail, ..self }
     }
 
     /// The points of the pins.
@@ -88,6 +108,7 @@ pub fn is_valid(state: &State) -> bool {
         && rises(&state.steiner)
         && rises(&points)
         && lowest_idle(state).is_none()
+        && state.tail <= MOST_TAIL
 }
 
 /// Whether each point is lower than the next one.
@@ -117,6 +138,7 @@ pub fn call(state: &State, call: Call) -> (State, Reply) {
         Call::Withdraw(x, y) => withdraw(state, Point::new(x, y)),
         Call::Round => round(state),
         Call::Finish => finish(state),
+        Call::SetTail(tail) => set_tail(state, tail.into()),
     }
 }
 
@@ -158,7 +180,7 @@ pub fn with_pin(state: &State, pin: Pin) -> State {
     let mut next = state.clone();
     next.steiner.retain(|&tap| tap != pin.point);
     next.pins.push(pin);
-    State::new(next.pins, next.steiner)
+    State::new(next.pins, next.steiner).with_tail(state.tail)
 }
 
 /// Withdraws a pin. Checks 11, 9.
@@ -179,50 +201,11 @@ pub fn without_pin(state: &State, point: Point) -> State {
     next
 }
 
-/// The candidates of a round, rising: crossings of an x and a y of points
-/// held, at places not held.
-pub fn candidates(points: &[Point]) -> Vec<Point> {
-    let mut found = Vec::new();
-    for a in points {
-        for b in points {
-            let crossing = Point::new(a.x, b.y);
-            if !points.contains(&crossing) {
-                found.push(crossing);
-            }
-        }
-    }
-    found.sort();
-    found.dedup();
-    found
-}
-
-/// The saving of a candidate: how much shorter the tree is with it, below 0 if
-/// it is longer.
-pub fn saving(points: &[Point], now: i64, candidate: Point) -> i64 {
-    let mut more = points.to_vec();
-    more.push(candidate);
-    now - tree_length(&tree(&more))
-}
-
-/// The lowest candidate of greatest saving and that saving, if it is positive.
-pub fn best_candidate(state: &State) -> Option<(Point, i64)> {
-    let points = state.points();
-    let now = tree_length(&tree(&points));
-    let mut best: Option<(Point, i64)> = None;
-    for candidate in candidates(&points) {
-        let saved = saving(&points, now, candidate);
-        if saved > best.map_or(0, |(_, most)| most) {
-            best = Some((candidate, saved));
-        }
-    }
-    best
-}
-
 /// The state with one more Steiner point, before the prune.
 pub fn with_steiner(state: &State, point: Point) -> State {
     let mut steiner = state.steiner.clone();
     steiner.push(point);
-    State::new(state.pins.clone(), steiner)
+    State::new(state.pins.clone(), steiner).with_tail(state.tail)
 }
 
 /// One round. Check 11.
@@ -234,7 +217,7 @@ pub fn round(state: &State) -> (State, Reply) {
         return (state.clone(), Reply::Finished);
     };
     let next = prune(with_steiner(state, tap));
-    let gain = tree_length(&state.tree()) - tree_length(&next.tree());
+    let gain = tree_length(&state.tree(), state.tail) - tree_length(&next.tree(), next.tail);
     let (x, y) = (tap.x, tap.y);
     (next, Reply::Tap { x, y, gain })
 }
@@ -254,10 +237,21 @@ pub fn finish(state: &State) -> (State, Reply) {
     }
 }
 
+/// Sets the tail: pins, taps and runs are kept. Checks 11, 16.
+pub fn set_tail(state: &State, tail: u64) -> (State, Reply) {
+    if !is_valid(state) {
+        return (state.clone(), Reply::Refused(11));
+    }
+    if tail > MOST_TAIL {
+        return (state.clone(), Reply::Refused(BAD_TAIL));
+    }
+    (state.clone().with_tail(tail), Reply::Done)
+}
+
 /// The length of the deck. Check 11, as in every question.
 pub fn length(state: &State) -> Result<i64, u8> {
     valid(state)?;
-    Ok(tree_length(&state.tree()))
+    Ok(tree_length(&state.tree(), state.tail))
 }
 
 /// The numbers of pins, Steiner points and edges.
@@ -270,13 +264,16 @@ pub fn counts(state: &State) -> Result<(usize, usize, usize), u8> {
 /// The lengths of the edges of kinds 0, 1 and 2.
 pub fn kind_lengths(state: &State) -> Result<[i64; 3], u8> {
     valid(state)?;
-    Ok(lengths_by_kind(&state.pins, &state.tree()))
+    Ok(lengths_by_kind(&state.pins, &state.tree(), state.tail))
 }
 
-/// The edge at a place of the listing order, counted from 0, if there is one.
-pub fn edge_at(state: &State, place: usize) -> Result<Option<Edge>, u8> {
+/// The edge at a place of the listing order, counted from 0, and its length, if there
+/// is one.
+pub fn edge_at(state: &State, place: usize) -> Result<Option<(Edge, i64)>, u8> {
     valid(state)?;
-    Ok(listing_order(&state.tree()).get(place).copied())
+    let listed = listing_order(&state.tree());
+    let edge = listed.get(place).copied();
+    Ok(edge.map(|edge| (edge, edge.length(state.tail))))
 }
 
 /// How many edges end at a point, 0 if no point is held there.

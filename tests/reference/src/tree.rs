@@ -18,15 +18,15 @@ pub fn tree(points: &[Point]) -> Vec<Edge> {
     chosen
 }
 
-/// All pairs of points in the order of `Edge::compare`: the length, the edge
-/// and the places of its ends. The length stands first, so that the order of
+/// All pairs of points in the order of `Edge::compare`: the distance, the edge
+/// and the places of its ends. The distance stands first, so that the order of
 /// the tuples is that order, and it is not worked out anew at each comparison.
 fn sorted_pairs(points: &[Point]) -> Vec<(i64, Edge, usize, usize)> {
     let mut pairs = Vec::new();
     for i in 0..points.len() {
         for j in i + 1..points.len() {
             let edge = Edge::between(points[i], points[j]);
-            pairs.push((edge.length(), edge, i, j));
+            pairs.push((edge.flat(), edge, i, j));
         }
     }
     pairs.sort_unstable();
@@ -41,9 +41,10 @@ fn root(parent: &[usize], mut i: usize) -> usize {
     i
 }
 
-/// The sum of the lengths of the edges (SPEC 1.5: the length of a tree).
-pub fn length(edges: &[Edge]) -> i64 {
-    edges.iter().map(|edge| edge.length()).sum()
+/// The sum of the lengths of the edges (SPEC 1.5: the length of a tree), each with
+/// its two tails.
+pub fn length(edges: &[Edge], tail: u64) -> i64 {
+    edges.iter().map(|edge| edge.length(tail)).sum()
 }
 
 /// The degree of a point (SPEC 4.6: the number of runs at a point).

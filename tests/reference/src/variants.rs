@@ -1,10 +1,10 @@
 //! Mistakes that tempt: planners that differ from SPEC in one rule. They serve
 //! to find small decks on which the difference shows.
 
+use crate::candidates::{best_candidate, candidates, saving};
 use crate::pins::Pin;
 use crate::plane::{Edge, Point};
-use crate::session::{best_candidate, Call, State};
-use crate::session::{candidates, saving, with_pin, with_steiner, without_pin};
+use crate::session::{with_pin, with_steiner, without_pin, Call, State};
 use crate::tree::{degree, length, tree};
 
 /// The state after a call's change and before its prune; none for a call that
@@ -23,7 +23,7 @@ pub fn before_prune(state: &State, call: Call) -> Option<State> {
                 .then(|| without_pin(state, point))
         }
         Call::Round => best_candidate(state).map(|(tap, _)| with_steiner(state, tap)),
-        Call::Finish => None,
+        Call::Finish | Call::SetTail(_) => None,
     }
 }
 
@@ -134,14 +134,14 @@ pub fn prune_by_entry(mut state: State, entry: &[Point]) -> State {
 /// The best candidate where candidates come from the lines of pins alone.
 pub fn best_of_pins(state: &State) -> Option<(Point, i64)> {
     let points = state.points();
-    let now = length(&tree(&points));
+    let now = length(&tree(&points), state.tail);
     let mut best: Option<(Point, i64)> = None;
     for candidate in candidates(&state.places()) {
         let held = points.contains(&candidate);
         let saved = if held {
             0
         } else {
-            saving(&points, now, candidate)
+            saving(&points, state.tail, now, candidate)
         };
         if saved > best.map_or(0, |(_, most)| most) {
             best = Some((candidate, saved));
@@ -156,8 +156,8 @@ pub fn best_candidates(state: &State) -> Vec<Point> {
         return Vec::new();
     };
     let points = state.points();
-    let now = length(&tree(&points));
+    let now = length(&tree(&points), state.tail);
     let mut found = candidates(&points);
-    found.retain(|&candidate| saving(&points, now, candidate) == most);
+    found.retain(|&candidate| saving(&points, state.tail, now, candidate) == most);
     found
 }

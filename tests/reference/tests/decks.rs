@@ -132,7 +132,7 @@ fn questions() {
     let run = |place| {
         edge_at(&state, place)
             .unwrap()
-            .map(|e| (e.lower, e.higher, e.length()))
+            .map(|(e, length)| (e.lower, e.higher, length))
     };
     let end = |x, y| Point::new(x, y);
     assert_eq!(kind_lengths(&state), Ok([18, 0, 0]));

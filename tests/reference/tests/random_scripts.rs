@@ -9,7 +9,7 @@ use reference::script::{bytes_of, hex_of, play};
 use reference::session::State;
 
 /// The beginnings of the answers that a random script has to bring about.
-const WORDS: [&str; 22] = [
+const WORDS: [&str; 23] = [
     "ok",
     "refused 7",
     "refused 8",
@@ -18,6 +18,7 @@ const WORDS: [&str; 22] = [
     "refused 13",
     "refused 14",
     "refused 15",
+    "refused 16",
     "tap",
     "finished",
     "rounds",
@@ -34,14 +35,15 @@ const WORDS: [&str; 22] = [
     "file",
 ];
 
-/// The listing that the last file of a script gives is the last listing.
+/// The listing that the last file of a script gives is the last listing, which is one
+/// of no tail, as files have none.
 #[test]
 fn random_scripts() {
     let mut random = Random::new(61);
     let mut all = String::new();
     for kind in KINDS {
         for _ in 0..60 {
-            let text = script(&mut random, kind, 10) + "finish\nlist\nwrite\n";
+            let text = script(&mut random, kind, 10) + "tail 0\nfinish\nlist\nwrite\n";
             let answers = play(text.as_bytes());
             all += &answers;
             let lines: Vec<&str> = answers.lines().collect();

@@ -1,4 +1,4 @@
-//! Refusals 7 to 12 and 15, each beside its nearest accepted neighbour.
+//! Refusals 7 to 12, 15 and 16, each beside its nearest accepted neighbour.
 
 use reference::buffers::lend;
 use reference::devices::NO_KINDS;
@@ -105,7 +105,7 @@ fn refusal_10_on_a_tap() {
 #[test]
 fn refusal_11() {
     let broken = unsound();
-    assert_eq!(broken.len(), 11);
+    assert_eq!(broken.len(), 13);
     for state in broken {
         assert!(!is_valid(&state), "{state:?}");
         refuses(&state, Call::Add(30_001, 0, SENSOR), NOT_SOUND);
@@ -114,6 +114,8 @@ fn refusal_11() {
         refuses(&state, Call::Withdraw(77, 77), NOT_SOUND);
         refuses(&state, Call::Round, NOT_SOUND);
         refuses(&state, Call::Finish, NOT_SOUND);
+        refuses(&state, Call::SetTail(0), NOT_SOUND);
+        refuses(&state, Call::SetTail(501), NOT_SOUND);
         assert_eq!(length(&state), Err(NOT_SOUND));
         assert_eq!(counts(&state), Err(NOT_SOUND));
         assert_eq!(kind_lengths(&state), Err(NOT_SOUND));

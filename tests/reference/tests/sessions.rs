@@ -1,5 +1,6 @@
 //! Random lists of calls: what SPEC 6 says of every deck and every call.
 
+use reference::candidates::best_candidate;
 use reference::examples::square_of_64;
 use reference::file::{read, write};
 use reference::generate::*;
@@ -13,7 +14,9 @@ use reference::tree::{degree, tree};
 /// SPEC 6.1, the sweep by the tree's own degrees.
 fn reckoned(state: &State, asked: Call) -> State {
     let (mut pins, mut taps) = (state.pins.clone(), state.steiner.clone());
+    let mut tail = state.tail;
     match asked {
+        Call::SetTail(given) => tail = given.into(),
         Call::Add(x, y, kind) => {
             pins.push(Pin::new(Point::new(x, y), kind));
             taps.retain(|tap| *tap != Point::new(x, y));
@@ -26,7 +29,7 @@ fn reckoned(state: &State, asked: Call) -> State {
         let edges = tree(&places.chain(taps.clone()).collect::<Vec<_>>());
         let few = taps.iter().filter(|tap| degree(&edges, **tap) < 3);
         let Some(&lowest) = few.min() else {
-            return State::new(pins, taps);
+            return State::new(pins, taps).with_tail(tail);
         };
         taps.retain(|tap| *tap != lowest);
     }
@@ -57,7 +60,8 @@ fn checked(state: &State, asked: Call) -> (State, Reply) {
 
 /// A run to the end is its rounds, and keeps the pins with their kinds.
 fn finishes(state: &State, end: &State, rounds: usize) {
-    assert_eq!(end.pins, state.pins);
+    assert_eq!((&end.pins, end.tail), (&state.pins, state.tail));
+    assert!(rounds as i64 <= length(state).unwrap());
     let mut now = state.clone();
     for _ in 0..rounds {
         let (next, reply) = round(&now);
@@ -85,7 +89,7 @@ fn play(random: &mut Random, kind: Kind, lists: usize) -> [usize; 5] {
             }] += 1;
             state = next;
         }
-        assert_eq!(read(&write(&state)), Ok(state));
+        assert_eq!(read(&write(&state)), Ok(state.with_tail(0)));
     }
     seen
 }

@@ -101,7 +101,7 @@ fn no_shorter_tree() {
     let (mut tried, mut as_short) = (0, 0);
     let mut try_with = |pins: &[Point; 3], further: &[Point]| {
         let least = half_perimeter(pins);
-        let found = tree_length(&tree(&[pins, further].concat()));
+        let found = tree_length(&tree(&[pins, further].concat()), 0);
         assert!(found >= least, "{pins:?} and {further:?}");
         tried += 1;
         as_short += usize::from(found == least);

@@ -1,81 +1,12 @@
 //! The tree against all spanning trees, enumerated.
 
+use reference::all_trees::{all_edges, enumerated};
 use reference::generate::{pins, Kind, Random, KINDS};
-use reference::plane::{Edge, Point};
-use reference::tree::{length, tree};
-use std::cmp::Ordering;
-
-/// All edges between the points.
-fn all_edges(points: &[Point]) -> Vec<Edge> {
-    let mut edges = Vec::new();
-    for (i, &a) in points.iter().enumerate() {
-        edges.extend(points[..i].iter().map(|&b| Edge::between(a, b)));
-    }
-    edges
-}
-
-/// All sets of `count` of the edges.
-fn sets(edges: &[Edge], count: usize) -> Vec<Vec<Edge>> {
-    if count == 0 {
-        return vec![Vec::new()];
-    }
-    let Some((&first, rest)) = edges.split_first() else {
-        return Vec::new();
-    };
-    let mut found = sets(rest, count);
-    for mut set in sets(rest, count - 1) {
-        set.push(first);
-        found.push(set);
-    }
-    found
-}
-
-/// Whether the edges connect all the points: those reached from the first.
-fn connects(points: &[Point], edges: &[Edge]) -> bool {
-    let Some(&first) = points.first() else {
-        return true;
-    };
-    let mut reached = vec![first];
-    let mut at = 0;
-    while at < reached.len() {
-        let here = reached[at];
-        for edge in edges.iter().filter(|edge| edge.touches(here)) {
-            for end in [edge.lower, edge.higher] {
-                if !reached.contains(&end) {
-                    reached.push(end);
-                }
-            }
-        }
-        at += 1;
-    }
-    reached.len() == points.len()
-}
-
-/// Which of two trees of equal length is first at the first difference.
-fn compare(a: &[Edge], b: &[Edge]) -> Ordering {
-    let differ = a.iter().zip(b).map(|(r, s)| r.compare(*s));
-    differ
-        .into_iter()
-        .find(|order| order.is_ne())
-        .unwrap_or(Ordering::Equal)
-}
-
-/// The tree of SPEC 2.2 by its definition, and the number of least trees.
-fn enumerated(points: &[Point]) -> (Vec<Edge>, usize) {
-    let count = points.len().saturating_sub(1);
-    let mut trees = sets(&all_edges(points), count);
-    trees.retain(|edges| connects(points, edges));
-    trees
-        .iter_mut()
-        .for_each(|edges| edges.sort_by(|r, s| r.compare(*s)));
-    let least = trees.iter().map(|edges| length(edges)).min().unwrap();
-    trees.retain(|edges| length(edges) == least);
-    let first = trees.iter().min_by(|a, b| compare(a, b)).unwrap().clone();
-    (first, trees.len())
-}
+use reference::plane::Point;
+use reference::tree::tree;
 
 fn agrees(points: &[Point]) -> usize {
-    let (first, ties) = enumerated(points);
+    let (first, ties) = enumerated(points, 0);
     assert_eq!(tree(points), first, "points {points:?}");
     ties
 }

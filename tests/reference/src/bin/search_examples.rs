@@ -156,7 +156,7 @@ fn print_example(calls: &[Call], shows: Shows) {
             "{} -> {} L{}",
             call_line(one),
             reply_line(reply),
-            length(&next.tree())
+            length(&next.tree(), next.tail)
         ));
         state = next;
     }
