@@ -1,7 +1,7 @@
 //! Tails for tests: those that are taken, those that are not, and calls that set them.
 
-use crate::generate::{call_list, Kind, Random};
-use crate::session::{Call, State};
+use crate::generate::{call_list, full_state, Kind, Random};
+use crate::session::{round, Call, Reply, State};
 
 /// Tails that are taken: both ends, beside them, and others.
 pub const TAILS: [u32; 10] = [0, 1, 2, 3, 4, 5, 10, 100, 499, 500];
@@ -41,4 +41,21 @@ pub fn with_tails(random: &mut Random, kind: Kind, from: &State, calls: usize) -
     let list = call_list(random, kind, from, calls);
     let tail = |one| [Call::SetTail(any_tail(random)), one];
     list.into_iter().flat_map(tail).collect()
+}
+
+/// Decks with a tail on which a round takes out two taps or more, its own among them or
+/// not, as many as asked for.
+pub fn sweeping(random: &mut Random, count: usize) -> Vec<State> {
+    let mut found = Vec::new();
+    while found.len() < count {
+        let kind = random.pick(&[Kind::Lanes, Kind::EvenPitch, Kind::Scattered]);
+        let (most, tail) = (random.range(6, 10) as usize, random.range(1, 40) as u64);
+        let state = full_state(random, kind, most).with_tail(tail);
+        let (next, reply) = round(&state);
+        let added = matches!(reply, Reply::Tap { .. });
+        if added && next.steiner.len() < state.steiner.len() {
+            found.push(state);
+        }
+    }
+    found
 }
