@@ -8,7 +8,7 @@ use compare::check::questions;
 use compare::check::replies::Replies;
 use compare::check::sessions::{refused_call, same_call, session};
 use compare::input::calls::Shape;
-use compare::input::damaged_decks::{counts, kinds, points, unused, words, Damaged};
+use compare::input::damaged_decks::{counts, kinds, points, tails, unused, words, Damaged};
 use compare::input::damaged_trees::{edges, other_trees, roles, weak_points};
 use compare::input::points::crossings;
 use compare::input::states::{grid, start};
@@ -44,8 +44,8 @@ impl Seen {
     }
 }
 
-/// Calls at places held, free and out of range, and with a kind that there is not;
-/// on few points every call.
+/// Calls at places held, free and out of range, with a kind that there is not, and with
+/// tails that are taken and that are not; on few points every call.
 fn calls(state: &State, few: bool) -> Vec<Call> {
     let held = state.points().first().copied().unwrap_or(Point::new(0, 0));
     let mut places = vec![(30_001, held.y)];
@@ -54,13 +54,15 @@ fn calls(state: &State, few: bool) -> Vec<Call> {
     }
     let add = places.iter().map(|&(x, y)| Call::Add(x, y, DISPLAY));
     let add = add.chain([Call::Add(held.x, held.y, 3)]);
+    let tails = [0, 500, 501].map(Call::SetTail);
     let withdraw = places.iter().map(|&(x, y)| Call::Withdraw(x, y));
     let rounds: &[Call] = if few {
         &[Call::Round, Call::Finish]
     } else {
         &[]
     };
-    add.chain(withdraw).chain(rounds.iter().copied()).collect()
+    let calls = add.chain(withdraw).chain(tails);
+    calls.chain(rounds.iter().copied()).collect()
 }
 
 /// Every call and question on a deck that is not sound.
@@ -110,6 +112,7 @@ fn damages(random: &mut Random, state: &State) -> Vec<Damaged> {
     all.extend(other_trees(state, &deck, 20));
     all.extend(unused(&deck));
     all.extend(kinds(&deck));
+    all.extend(tails(&deck));
     all
 }
 
@@ -175,16 +178,15 @@ fn special(random: &mut Random) -> Vec<State> {
         found.push(grid(random, count, 9));
     }
     let place = Place::new(random, Kind::Scattered);
-    found.push(State {
-        pins: sensors(&place.points(random, 64)),
-        steiner: Vec::new(),
-    });
+    let scattered = sensors(&place.points(random, 64));
+    found.push(State::new(scattered, Vec::new()));
+    found.extend([500, 7].map(|tail| mixed(comb(8)).with_tail(tail)));
     found
 }
 
 /// Every damage, with the least number of decks that are not sound and the least
 /// number that are.
-const LEAST: [(&str, usize, usize); 31] = [
+const LEAST: [(&str, usize, usize); 33] = [
     ("count of pins", 800, 1),
     ("count of Steiner points", 800, 0),
     ("pin moved", 2_000, 1_000),
@@ -212,6 +214,8 @@ const LEAST: [(&str, usize, usize); 31] = [
     ("kind changed", 0, 800),
     ("no kind", 3_000, 0),
     ("unused kind", 10_000, 0),
+    ("tail changed", 0, 300),
+    ("tail too long", 900, 0),
     ("unused pin", 10_000, 0),
     ("unused Steiner point", 10_000, 0),
     ("unused edge", 20_000, 0),

@@ -3,7 +3,7 @@
 
 use compare::binding::deck::Deck;
 use compare::binding::display;
-use compare::binding::places::{KIND_PLACES, STEINER_COUNT, WORDS};
+use compare::binding::places::{KIND_PLACES, STEINER_COUNT, TAIL, WORDS};
 use compare::binding::programs::{decklist, deckplay};
 use compare::check::entries::Seen;
 use compare::check::questions;
@@ -59,7 +59,7 @@ fn of_lists_of_calls_for_c() {
     seen.refused.are_exactly(&OF_ENTRY, 6);
 }
 
-/// A call in a list for C that is refused, by 7, 8, 9, 10 or 15, leaves the deck;
+/// A call in a list for C that is refused, by 7, 8, 9, 10, 15 or 16, leaves the deck;
 /// one behind it is made all the same.
 #[test]
 fn of_the_calls_in_a_list_for_c() {
@@ -85,9 +85,9 @@ fn of_the_calls_in_a_list_for_c() {
     assert!(seen.given > 1_000, "{seen:?}");
 }
 
-/// Calls and questions on a deck: 7, 8, 9, 10 and 15 on a sound one, 11 before all
+/// Calls and questions on a deck: 7, 8, 9, 10, 15 and 16 on a sound one, 11 before all
 /// of them on one with a tap too many, a number in the last place, which no deck
-/// uses, or a wrong kind in the last place for kinds. The deck is handed back, in
+/// uses, a wrong kind in the last place for kinds, or a tail of 501. The deck is handed back, in
 /// every word and kind.
 #[test]
 fn of_a_deck() {
@@ -99,8 +99,9 @@ fn of_a_deck() {
         let one_tap_more = deck.with(STEINER_COUNT, deck.words[STEINER_COUNT] + 1);
         let last_word = deck.with(WORDS - 1, 1);
         let last_kind = deck.with_kind(KIND_PLACES - 1, 3);
-        for damaged in [one_tap_more, last_word, last_kind] {
-            for any in [asked, Call::Round, Call::Finish] {
+        let long_tail = deck.with(TAIL, 501);
+        for damaged in [one_tap_more, last_word, last_kind, long_tail] {
+            for any in [asked, Call::Round, Call::Finish, Call::SetTail(4)] {
                 refused_call(&damaged, any, NOT_SOUND);
                 seen.see(NOT_SOUND);
             }

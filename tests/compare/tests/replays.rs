@@ -5,7 +5,7 @@ use compare::binding::entries::replay;
 use compare::check::entries::Seen;
 use compare::check::replays::{replayed, some_list};
 use compare::check::replies::Replies;
-use compare::input::call_bytes::{any_call_bytes, call_bytes, with_zeros, SIZE};
+use compare::input::call_bytes::{any_call_bytes, call_bytes, calls_of, with_zeros, SIZE};
 use compare::input::calls::Shape;
 use compare::input::files::{any_bytes, start};
 use compare::input::states::nearly_full;
@@ -32,13 +32,24 @@ fn same_replays(
     seen.replay(file, &calls[..ragged], &expected);
 }
 
+/// The tail after calls from a deck that is read.
+fn tail_after(calls: &[u8]) -> u32 {
+    let taken = |asked: &Call| matches!(asked, Call::SetTail(0..=500));
+    match calls_of(calls).into_iter().rev().find(taken) {
+        Some(Call::SetTail(tail)) => tail,
+        _ => 0,
+    }
+}
+
 /// The list with zeros in its unused bytes, and in two parts, the second on the
-/// file that the first leaves.
+/// file that the first leaves, with the tail set anew, which is not filed.
 fn same_otherwise(random: &mut Random, file: &[u8], calls: &[u8], last: &State) {
     let place = SIZE * random.range(0, (calls.len() / SIZE) as i64) as usize;
     let (mut first, mut second) = ([0; LONGEST], [0; LONGEST]);
     let length = replay(file, &calls[..place], &mut first);
-    let length = replay(&first[..length], &calls[place..], &mut second);
+    let tail = call_bytes(random, Call::SetTail(tail_after(&calls[..place])));
+    let rest = [&tail[..], &calls[place..]].concat();
+    let length = replay(&first[..length], &rest, &mut second);
     assert_eq!(second[..length], write(last));
     let length = replay(file, &with_zeros(calls), &mut first);
     assert_eq!(first[..length], write(last));
@@ -74,7 +85,7 @@ fn short_lists() {
     assert!(replies.taps > 1_000 && replies.finished > 1_000);
     assert!(replies.runs > 500 && replies.runs_that_add > 100);
     // No deck of so few calls has 64 pins.
-    replies.refused.are_exactly(&[7, 8, 9, 15], 1_000);
+    replies.refused.are_exactly(&[7, 8, 9, 15, 16], 800);
     assert!(seen.with_kinds > 2_000 && seen.given - seen.with_kinds > 2_000);
 }
 
@@ -84,7 +95,8 @@ fn long_lists() {
     println!("long lists: {seen:?}\n{replies}");
     assert_eq!(seen.given, 2 * 7 * 40);
     assert!(replies.calls > 6_000 && replies.most_pins > 30);
-    assert!(replies.taps > 200 && replies.runs_that_add > 50);
+    assert!(replies.taps > 200 && replies.runs_that_add > 40);
+    assert!(replies.with_tail > 3_000 && replies.taps_with_tail > 40);
 }
 
 /// Decks with nearly 64 pins, on which adding is refused by 10 often.
@@ -128,4 +140,5 @@ fn any_lists() {
     assert!(replies.done > 2_000 && replies.runs > 5_000);
     assert!(replies.refused.by(7) > 5_000 && replies.refused.by(9) > 5_000);
     assert!(replies.refused.by(15) > 500 && replies.with_devices > 2_000);
+    assert!(replies.refused.by(16) > 1_000 && replies.with_tail > 2_000);
 }

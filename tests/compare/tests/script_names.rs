@@ -5,11 +5,12 @@
 use compare::check::programs::same_answers;
 
 /// The names, each with the counts of numbers that it is taken with.
-const NAMES: [(&str, &[usize]); 19] = [
+const NAMES: [(&str, &[usize]); 21] = [
     ("add", &[2, 3]),
     ("withdraw", &[2]),
     ("round", &[0]),
     ("finish", &[0]),
+    ("tail", &[1]),
     ("length", &[0]),
     ("counts", &[0]),
     ("kinds", &[0]),
@@ -23,6 +24,7 @@ const NAMES: [(&str, &[usize]); 19] = [
     ("rounds", &[]),
     ("arrows", &[]),
     ("kind", &[]),
+    ("tails", &[]),
     ("Add", &[]),
     ("1", &[]),
 ];

@@ -42,7 +42,9 @@ fn short_sessions() {
     assert!(seen.questions > 750_000);
     assert!(seen.done > 75_000);
     // No deck of so few calls has 64 pins.
-    seen.refused.are_exactly(&[7, 8, 9, 15], 6_000);
+    seen.refused.are_exactly(&[7, 8, 9, 15, 16], 3_000);
+    assert!(seen.refused.by(15) > 5_000 && seen.refused.by(7) > 6_000);
+    assert!(seen.with_tail > 20_000 && seen.taps_with_tail > 400);
     assert!(seen.with_devices > 100_000 && seen.calls - seen.with_devices > 20_000);
     assert!(seen.finished > 7_500);
     assert!(seen.taps > 4_500);
@@ -58,8 +60,8 @@ fn long_sessions() {
     assert!(seen.refused_often());
     assert!(seen.calls > 90_000);
     assert!(seen.most_pins > 50);
-    assert!(seen.taps > 3_000);
-    assert!(seen.runs_that_add > 800);
+    assert!(seen.taps > 2_500 && seen.taps_with_tail > 500);
+    assert!(seen.runs_that_add > 700);
 }
 
 /// Decks with nearly 64 pins, on which adding is refused by 10 often.

@@ -39,6 +39,14 @@ mod library {
             numbers: &mut [u64; 3],
             places: &mut [i32; 4],
         ) -> u8;
+        /// The tail set.
+        pub fn entry_set_tail(
+            tail: u32,
+            words: &mut [u64; WORDS],
+            kinds: &mut [u8; KIND_PLACES],
+            numbers: &mut [u64; 3],
+            places: &mut [i32; 4],
+        ) -> u8;
         /// Rounds until finished.
         pub fn entry_run_to_end(
             words: &mut [u64; WORDS],
@@ -73,6 +81,7 @@ pub fn call(deck: &Deck, call: Call) -> (Deck, Parts) {
         Call::Withdraw(x, y) => make!(entry_withdraw, coordinate(x), coordinate(y)),
         Call::Round => make!(entry_round),
         Call::Finish => make!(entry_run_to_end),
+        Call::SetTail(tail) => make!(entry_set_tail, tail),
     };
     (next, parts)
 }

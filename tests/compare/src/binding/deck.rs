@@ -1,7 +1,7 @@
 //! A deck in the proved form: one array of words, and the kinds of its pins beside
 //! it.
 
-use super::places::{ENDS, KIND_PLACES, PINS, PIN_COUNT, STEINER, STEINER_COUNT, WORDS};
+use super::places::{ENDS, KIND_PLACES, PINS, PIN_COUNT, STEINER, STEINER_COUNT, TAIL, WORDS};
 use reference::file::kind_bytes;
 use reference::pins::{places, Pin};
 use reference::plane::Point;
@@ -50,10 +50,10 @@ fn ends(state: &State) -> Vec<u64> {
 impl Deck {
     /// The deck of a valid state.
     pub fn of(state: &State) -> Deck {
-        Deck::with_lists(&state.pins, &state.steiner, &ends(state))
+        Deck::with_lists(&state.pins, &state.steiner, &ends(state)).with(TAIL, state.tail)
     }
 
-    /// The deck with each list at the front of its places and zeros behind.
+    /// The deck with each list at the front of its places and zeros behind, and no tail.
     pub fn with_lists(pins: &[Pin], steiner: &[Point], ends: &[u64]) -> Deck {
         let codes = |points: &[Point]| points.iter().map(|&p| code(p)).collect::<Vec<_>>();
         let (mut words, mut kinds) = ([0; WORDS], [0; KIND_PLACES]);
@@ -90,13 +90,18 @@ impl Deck {
         self.words[STEINER_COUNT] as usize
     }
 
+    /// The tail.
+    pub fn tail(&self) -> u64 {
+        self.words[TAIL]
+    }
+
     /// The places for the ends of edges.
     pub fn ends(&self) -> &[u64] {
         &self.words[END_WORDS]
     }
 
-    /// The points of the deck as they stand, with their kinds, where its counts
-    /// are not too large.
+    /// The points of the deck as they stand, with their kinds and the tail, where its
+    /// counts are not too large.
     pub fn points(&self) -> Option<State> {
         let codes = self.words[PIN_WORDS].get(..self.npins())?;
         let pin = |(&code, &kind): (&u64, &u8)| Pin::new(point(code), kind.into());
@@ -104,6 +109,7 @@ impl Deck {
         Some(State {
             pins: codes.iter().zip(&self.kinds).map(pin).collect(),
             steiner: steiner.iter().map(|&code| point(code)).collect(),
+            tail: self.tail(),
         })
     }
 

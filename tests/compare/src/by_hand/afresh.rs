@@ -17,7 +17,7 @@ pub fn run_afresh(pins: &[Point], lengths: Lengths) -> Ended {
     let mut rounds = 0;
     loop {
         let points = state.points();
-        let now = length(&tree(&points)) as u64;
+        let now = length(&tree(&points), 0) as u64;
         let crossings = free_crossings(&points);
         let found = lengths(&Stored::of(&points), &Stored::of(&crossings));
         let best = found.iter().copied().zip(crossings).min();

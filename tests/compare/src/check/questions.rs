@@ -8,12 +8,12 @@ use reference::generate::Random;
 use reference::plane::{Edge, Point};
 use reference::session::{counts, degree_at, edge_at, kind_lengths, length, Reply, State};
 
-/// The parts of an edge.
-fn edge_parts(edge: Edge) -> Parts {
+/// The parts of an edge and its length.
+fn edge_parts((edge, length): (Edge, i64)) -> Parts {
     let (a, b) = (edge.lower, edge.higher);
     Parts {
         places: [a.x, a.y, b.x, b.y].map(coordinate),
-        ..Parts::number(7, edge.length() as u64)
+        ..Parts::number(7, length as u64)
     }
 }
 

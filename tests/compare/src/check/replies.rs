@@ -19,8 +19,11 @@ pub struct Replies {
     /// Runs to the end, and those of them that added a Steiner point.
     pub runs: usize,
     pub runs_that_add: usize,
-    /// Calls that left a display or a controller on the deck.
+    /// Calls that left a display or a controller on the deck, and calls that left a tail.
     pub with_devices: usize,
+    pub with_tail: usize,
+    /// New Steiner points on decks with a tail.
+    pub taps_with_tail: usize,
     /// The most pins and the most Steiner points of a deck.
     pub most_pins: usize,
     pub most_steiner: usize,
@@ -35,13 +38,17 @@ impl Replies {
             Reply::Done => self.done += 1,
             Reply::Refused(number) => self.refused.see(number),
             Reply::Finished => self.finished += 1,
-            Reply::Tap { .. } => self.taps += 1,
+            Reply::Tap { .. } => {
+                self.taps += 1;
+                self.taps_with_tail += (state.tail > 0) as usize;
+            }
             Reply::Rounds(count) => {
                 self.runs += 1;
                 self.runs_that_add += (count > 0) as usize;
             }
         }
         self.with_devices += !only_sensors(&state.pins) as usize;
+        self.with_tail += (state.tail > 0) as usize;
         self.most_pins = self.most_pins.max(state.pins.len());
         self.most_steiner = self.most_steiner.max(state.steiner.len());
     }
@@ -75,9 +82,14 @@ impl fmt::Display for Replies {
         let total = self.refused.total();
         writeln!(out, "  {total} refused, {}", refusals.join(", "))?;
         let (devices, questions) = (self.with_devices, self.questions);
-        write!(
+        let (tail, taps) = (self.with_tail, self.taps_with_tail);
+        writeln!(
             out,
             "  {devices} left a display or a controller; {questions} questions"
+        )?;
+        write!(
+            out,
+            "  {tail} left a tail, {taps} of them with a new Steiner point"
         )
     }
 }

@@ -37,7 +37,7 @@ pub fn same_tree(points: &[Point]) {
     let found: Vec<Edge> = keys.iter().map(of_key).collect();
     assert_eq!(found, expected, "points {points:?}");
     for (key, run) in keys.iter().zip(&expected) {
-        assert_eq!((key / 16_384) as i64, run.length(), "points {points:?}");
+        assert_eq!((key / 16_384) as i64, run.flat(), "points {points:?}");
     }
     for (i, &point) in points.iter().enumerate() {
         assert_eq!(proved::degree(&keys, i), degree(&expected, point));
@@ -62,7 +62,7 @@ pub fn same_lengths(points: &[Point], places: &[Point]) -> usize {
         if !points.contains(&place) {
             more.push(place);
         }
-        let expected = length(&tree(&more));
+        let expected = length(&tree(&more), 0);
         assert_eq!(got as i64, expected, "points {points:?}, place {place:?}");
     }
     count

@@ -4,8 +4,12 @@ use reference::generate::Random;
 use reference::session::Call;
 
 /// The bytes of a call: its number, three more, x and y. The first of the three is
-/// the kind of a pin that is added; the others are not looked at.
+/// the kind of a pin that is added; the others are not looked at. A tail stands in the
+/// place of x, without a sign.
 pub const SIZE: usize = 12;
+
+/// The number of the call that sets the tail.
+const TAIL_NUMBER: u8 = 4;
 
 /// The ends of 32 bits.
 const LEAST: i64 = i32::MIN as i64;
@@ -61,7 +65,8 @@ pub fn in_bytes(asked: Call) -> Call {
     }
 }
 
-/// The bytes of a call. A round and a run to the end have any coordinates.
+/// The bytes of a call. A round and a run to the end have any coordinates, and a tail
+/// has any y.
 pub fn call_bytes(random: &mut Random, asked: Call) -> [u8; SIZE] {
     let unused = any_unused(random);
     match in_bytes(asked) {
@@ -69,14 +74,18 @@ pub fn call_bytes(random: &mut Random, asked: Call) -> [u8; SIZE] {
         Call::Withdraw(x, y) => twelve(1, unused, x, y),
         Call::Round => numbered_bytes(random, 2),
         Call::Finish => numbered_bytes(random, 3),
+        Call::SetTail(tail) => {
+            let y = any_coordinate(random);
+            twelve(TAIL_NUMBER, unused, i64::from(tail as i32), y)
+        }
     }
 }
 
-/// The bytes of no call: any number from 4 on, those that may be settled later
+/// The bytes of no call: any number from 5 on, those that may be settled later
 /// and the last one often.
 pub fn no_call_bytes(random: &mut Random) -> [u8; SIZE] {
-    let other = random.range(4, 255) as u8;
-    let number = random.pick(&[4, 5, 255, other]);
+    let other = random.range(5, 255) as u8;
+    let number = random.pick(&[5, 6, 255, other]);
     numbered_bytes(random, number)
 }
 
@@ -85,7 +94,7 @@ pub fn any_call_bytes(random: &mut Random) -> [u8; SIZE] {
     match random.range(0, 3) {
         0 => no_call_bytes(random),
         _ => {
-            let number = random.pick(&[0, 0, 0, 1, 1, 2, 3, 3]);
+            let number = random.pick(&[0, 0, 0, 1, 1, 2, 3, 3, TAIL_NUMBER]);
             numbered_bytes(random, number)
         }
     }
@@ -103,6 +112,7 @@ fn call_of(twelve: &[u8]) -> Option<Call> {
         1 => Some(Call::Withdraw(x, y)),
         2 => Some(Call::Round),
         3 => Some(Call::Finish),
+        TAIL_NUMBER => Some(Call::SetTail(x as u32)),
         _ => None,
     }
 }
@@ -119,6 +129,10 @@ pub fn with_zeros(bytes: &[u8]) -> Vec<u8> {
         match twelve[0] {
             0 => twelve[2..4].fill(0),
             1 => twelve[1..4].fill(0),
+            TAIL_NUMBER => {
+                twelve[1..4].fill(0);
+                twelve[8..].fill(0);
+            }
             _ => twelve[1..].fill(0),
         }
     }

@@ -4,6 +4,7 @@ use reference::devices::{any_kind, kind};
 use reference::generate::{one_call, Place, Random};
 use reference::plane::Point;
 use reference::session::{Call, State};
+use reference::tails::{any_tail, SIGNED_TAILS};
 
 /// A coordinate that is out of range, also by as much as makes another code.
 fn far(random: &mut Random) -> i64 {
@@ -69,7 +70,8 @@ impl Shape {
     }
 }
 
-/// The i-th call of a session. Most are taken, some are refused.
+/// The i-th call of a session. Most are taken, some are refused. A tail may be set at
+/// every place.
 pub fn some_call(
     random: &mut Random,
     place: &Place,
@@ -79,12 +81,15 @@ pub fn some_call(
 ) -> Call {
     let near = place.point(random);
     if i < shape.added {
-        return Call::Add(near.x, near.y, kind(random));
+        let add = Call::Add(near.x, near.y, kind(random));
+        let tail = Call::SetTail(any_tail(random));
+        return if random.once_in(24) { tail } else { add };
     }
     if random.once_in(16) {
         let (x, y) = far_place(random, near);
         let add = Call::Add(x, y, any_kind(random));
-        return random.pick(&[add, Call::Withdraw(x, y)]);
+        let tail = Call::SetTail(random.pick(&SIGNED_TAILS));
+        return random.pick(&[add, add, Call::Withdraw(x, y), Call::Withdraw(x, y), tail]);
     }
     let rounds = state.pins.len() + state.steiner.len() <= shape.small;
     if rounds && shape.eager && random.once_in(2) {

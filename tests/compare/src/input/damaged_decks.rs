@@ -1,8 +1,8 @@
-//! Decks damaged in one part: the counts, the points, the kinds, the places that
-//! are not used, and every word. A damage may happen to give a sound deck.
+//! Decks damaged in one part: the counts, the points, the kinds, the tail, the places
+//! that are not used, and every word. A damage may happen to give a sound deck.
 
 use crate::binding::deck::{code, Deck, PIN_WORDS, STEINER_WORDS};
-use crate::binding::places::{ENDS, PIN_COUNT, STEINER_COUNT, WORDS};
+use crate::binding::places::{ENDS, PIN_COUNT, STEINER_COUNT, TAIL, WORDS};
 use crate::binding::places::{END_PLACES, KIND_PLACES, PIN_PLACES, STEINER_PLACES};
 use reference::generate::Random;
 use reference::plane::{Point, LIMIT};
@@ -123,6 +123,32 @@ pub fn kinds(deck: &Deck) -> Vec<Damaged> {
         }
     }
     damaged
+}
+
+/// Tails that are too long, some of which would be taken if they were cut to fewer bits.
+pub const LONG_TAILS: [u64; 12] = [
+    501,
+    502,
+    512,
+    756,
+    1_000,
+    65_536,
+    66_036,
+    (1 << 31) + 5,
+    1 << 32,
+    (1 << 32) + 500,
+    1 << 63,
+    u64::MAX,
+];
+
+/// Another tail: one that is too long, or one that leaves the deck sound.
+pub fn tails(deck: &Deck) -> Vec<Damaged> {
+    let with = |name: &'static str, tail: u64| (name, deck.with(TAIL, tail));
+    let long = LONG_TAILS.map(|tail| with("tail too long", tail));
+    let other = [0, 1, 250, 499, 500].into_iter();
+    let other = other.filter(|&tail| tail != deck.tail());
+    let changed = other.map(|tail| with("tail changed", tail));
+    long.into_iter().chain(changed).collect()
 }
 
 /// A number in each place that is not used, one at a time.

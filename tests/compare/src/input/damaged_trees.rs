@@ -3,7 +3,7 @@
 
 use super::damaged_decks::Damaged;
 use crate::binding::deck::{Deck, END_WORDS};
-use crate::binding::places::PIN_PLACES;
+use crate::binding::places::{PIN_PLACES, TAIL};
 use reference::generate::Random;
 use reference::pins::{Pin, CONTROLLER};
 use reference::plane::Point;
@@ -113,7 +113,7 @@ pub fn edges(random: &mut Random, deck: &Deck, count: usize) -> Vec<Damaged> {
 fn with_roles(deck: &Deck, pins: &[Pin], steiner: &[Point]) -> Deck {
     let mut state = State::new(pins.to_vec(), steiner.to_vec());
     state.pins.truncate(PIN_PLACES);
-    Deck::with_lists(&state.pins, &state.steiner, deck.ends())
+    Deck::with_lists(&state.pins, &state.steiner, deck.ends()).with(TAIL, deck.tail())
 }
 
 /// The items but for one.
@@ -156,7 +156,7 @@ pub fn weak_points(state: &State, places: &[Point]) -> Vec<Damaged> {
             continue;
         }
         let steiner = [&state.steiner[..], &[place]].concat();
-        let more = State::new(state.pins.clone(), steiner);
+        let more = State::new(state.pins.clone(), steiner).with_tail(state.tail);
         if !is_valid(&more) {
             damaged.push(("Steiner point of two edges", Deck::of(&more)));
         }

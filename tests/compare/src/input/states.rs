@@ -18,10 +18,7 @@ pub fn with_devices(random: &mut Random, state: State) -> State {
 pub fn grid(random: &mut Random, count: usize, side: i64) -> State {
     let pitch = random.pick(&[1, 2, 250]);
     let points = on_grid(random, count, side, side, pitch);
-    State {
-        pins: devices(random, &points),
-        steiner: Vec::new(),
-    }
+    State::new(devices(random, &points), Vec::new())
 }
 
 /// The empty deck or, once in four, one with Steiner points.
