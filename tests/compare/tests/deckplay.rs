@@ -83,7 +83,7 @@ fn files() {
 }
 
 /// Lines that are empty, a comment, no call, or a call with odd spaces.
-const OTHER_LINES: [&str; 44] = [
+const OTHER_LINES: [&str; 56] = [
     "",
     " ",
     "add",
@@ -108,6 +108,18 @@ const OTHER_LINES: [&str; 44] = [
     "add\t3\t4\r",
     "ADD 1 2",
     "round 1",
+    "tail",
+    "tail 007",
+    "\ttail  500 ",
+    "tail 501",
+    "tail 66036",
+    "tail 2147483647",
+    "tail 2147483648",
+    "tail -1",
+    "tail +1",
+    "tail 1 2",
+    "tail x",
+    "tails 1",
     "run -1",
     "read",
     "read 0",

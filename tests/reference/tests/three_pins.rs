@@ -93,6 +93,27 @@ fn decks_with_a_tap() {
     assert!(done == 800 && open > 1_000);
 }
 
+/// With a tail the floor is not reached where the tap does not pay for its run: the deck
+/// after a run to the end is as long as the shorter one of the tree of the pins, with two
+/// runs, and of the tree with the tap, with three.
+#[test]
+fn with_a_tail() {
+    let (mut tapped, mut bare) = (0, 0);
+    for pins in triples(&grid(6)) {
+        let state = State::new(sensors(&pins), Vec::new());
+        let now = length(&state).unwrap();
+        for tail in 1..3 {
+            let end = finish(&set_tail(&state, tail).0).0;
+            let (two, three) = (4 * tail as i64, 6 * tail as i64);
+            let least = (now + two).min(half_perimeter(&pins) + three);
+            assert_eq!(length(&end), Ok(least), "{pins:?} with {tail}");
+            tapped += end.steiner.len();
+            bare += usize::from(end.steiner.is_empty() && now > half_perimeter(&pins));
+        }
+    }
+    assert!(tapped > 10 && bare > 1_000, "{tapped} {bare}");
+}
+
 /// No tree over the pins and one or two further places is shorter, and some are
 /// as short.
 #[test]
