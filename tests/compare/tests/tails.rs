@@ -41,8 +41,8 @@ fn decks(seed: u64, count: usize) -> Vec<State> {
     found
 }
 
-/// A tail before each call of a session, taken or refused: after every one of them the
-/// reply, the deck and all questions.
+/// A tail before each call of a session, taken or refused, and rounds at its end: after
+/// every one of them the reply, the deck and all questions.
 #[test]
 fn tails_at_every_place() {
     let mut random = Random::new(161);
@@ -55,7 +55,13 @@ fn tails_at_every_place() {
                 deck = Deck::of(&state);
             }
             let refused_before = seen.refused.total();
-            for asked in with_tails(&mut random, kind, &state.clone(), 14) {
+            let mut calls = with_tails(&mut random, kind, &state, 14);
+            calls.extend(
+                [20, 3, 1]
+                    .map(|tail| [Call::SetTail(tail), Call::Round])
+                    .concat(),
+            );
+            for asked in calls {
                 let (next, left, reply) = same_call(&deck, &state, asked);
                 (deck, state) = (next, left);
                 assert_eq!(deck.tail(), state.tail);
@@ -66,8 +72,8 @@ fn tails_at_every_place() {
         }
     }
     println!("{seen}");
-    assert_eq!(seen.calls, 7 * 18 * 28);
-    assert!(seen.with_tail > 2_000 && seen.taps_with_tail > 15);
+    assert_eq!(seen.calls, 7 * 18 * 34);
+    assert!(seen.with_tail > 2_000 && seen.taps_with_tail > 80);
     assert!(seen.refused.by(BAD_TAIL) > 350 && seen.refused_often());
 }
 
