@@ -4,8 +4,8 @@ use mathlib.Core.Path.{refl, ap, _∙_}
 use mathlib.Core.List.{List}
 use Prim.Native.Nat.{ℕ}
 use native.Mathlib.Omega.{arith}
-use lib.ListN.{length-set}
-use Rattle.test_deck.specs.Words.{pinCountWord, steinerCountWord, deckIn}
+use lib.ListN.{set, length-set}
+use Rattle.test_deck.specs.Words.{pinCountWord, steinerCountWord, tailWord, deckIn}
 use Rattle.test_deck.proofs.words.Places.{Sized, laid-out, deck-in-words}
 use borrow.Author.Needs.{needs}
 use Rattle.test_deck.proofs.words.put_deck.Statement.{statement}
@@ -39,9 +39,11 @@ put-numbers-requires-3 c κs =
     let at-put-numbers = at-steiner .before .before .before in
     let at-ends = at-put-numbers .before .before .before in
     let s = at-ends .before .before .before .before in
+    let counted = set (at-put-numbers2 .put-numbers2 .last .0) steinerCountWord (s .args .d .points .nsteiner) in
     omega (
       arith,
       sized s .ends,
+      length-set counted tailWord (s .args .d .tail),
       length-set (at-put-numbers2 .put-numbers2 .last .0) steinerCountWord (s .args .d .points .nsteiner),
       at-put-numbers2 .put-numbers2 .kept .0,
     )
@@ -70,6 +72,7 @@ put-deck-spec =
     (λ c. search needs)
     (λ c. search needs)
     put-numbers-requires-2
+    (λ c. search needs)
     (λ c. search needs)
     (λ c. search needs)
     (λ c. search needs)
