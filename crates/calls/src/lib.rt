@@ -162,9 +162,12 @@ pub fn run_to_end(d: WorkingDeck) -> Changed
     let e = rounds::finish_of(d.form, d.tail);
     let form = e.working;
     let kinds = d.kinds;
-    let tail = d.tail;
     Changed {
-        working: WorkingDeck { form, kinds, tail },
+        working: WorkingDeck {
+            form,
+            kinds,
+            tail: d.tail,
+        },
         reply: Reply::Rounds(e.count),
     }
 }

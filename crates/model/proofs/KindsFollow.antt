@@ -93,7 +93,7 @@ module _ (c : Contents) (v : ValidContents c) where
   turned-down (withdraw p) n e = kept _ (unless-kept (removeRefusal p s) c (λ _. following sensor c (remove p s)) n e)
   turned-down oneRound n e = let z : _≡_ {A = ℕ} 0 1 = cc in absurd (omega arith)
   turned-down runToEnd n e = let z : _≡_ {A = ℕ} 0 1 = cc in absurd (omega arith)
-  turned-down (setTail tail) n e = kept _ (unless-kept (tailRefusal tail) c (λ _. withTail tail c) n e)
+  turned-down (setTail tail) n e = kept _ (unless-kept (tailRefusal tail) c _ n e)
 
   tail-set : (o : Option ℕ) (tail : ℕ) → SamePins c (unless o c (λ _. withTail tail c) .next)
   tail-set none tail = record { pins = refl; kinds = λ q. refl }

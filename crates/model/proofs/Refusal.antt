@@ -13,7 +13,7 @@ use Rattle.plane.specs.Point.{Point}
 use Rattle.model.specs.Refusal.{Check, firstFailed, Pass, FirstFailed, here, later}
 use Rattle.model.specs.State.{insert, remove}
 use Rattle.model.specs.DeviceKinds.{sensor}
-use Rattle.model.specs.Contents.{Contents, withTail, following}
+use Rattle.model.specs.Contents.{Contents, following}
 use Rattle.model.specs.Call.{add, withdraw, setTail, done, refused, addChecks, withdrawChecks, tailChecks}
 use Rattle.model.specs.Call.{insertRefusal, removeRefusal, tailRefusal, unless, step}
 use Rattle.model.specs.File.{deck, refusal, fileChecks, readBy, readFile, fileContents}
@@ -149,12 +149,14 @@ module _ (c : Contents) (p : Point) where
 module _ (c : Contents) (tail : ℕ) where
   pub tail-refused : (n : ℕ) → (step c (setTail tail) .reply ≡ refused n) ↔ FirstFailed n (tailChecks tail)
   unfolding step tailRefusal
-  tail-refused n =
-      let u = unless-number (firstFailed (tailChecks tail)) c (λ _. withTail tail c) n in
-      (λ e. failed-first n (tailChecks tail) (u .0 e), λ r. u .1 (first-fails n (tailChecks tail) r))
+  tail-refused n = (
+    λ e. failed-first n (tailChecks tail) (unless-number (firstFailed (tailChecks tail)) c _ n .0 e),
+    λ r. unless-number (firstFailed (tailChecks tail)) c _ n .1 (first-fails n (tailChecks tail) r),
+  )
 
   pub tail-taken : (step c (setTail tail) .reply ≡ done) ↔ Pass (tailChecks tail)
   unfolding step tailRefusal
-  tail-taken =
-      let u = unless-done (firstFailed (tailChecks tail)) c (λ _. withTail tail c) in
-      (λ e. none-failed (tailChecks tail) (u .0 e), λ a. u .1 (passes (tailChecks tail) a))
+  tail-taken = (
+    λ e. none-failed (tailChecks tail) (unless-done (firstFailed (tailChecks tail)) c _ .0 e),
+    λ a. unless-done (firstFailed (tailChecks tail)) c _ .1 (passes (tailChecks tail) a),
+  )

@@ -12,7 +12,7 @@ use Rattle.plane.proofs.Order.{lower-order}
 use Rattle.arrays.specs.Set.{out}
 use Rattle.model.specs.State.{State, Placed, Valid, withPin, insert, remove, maxPins}
 use Rattle.model.specs.DeviceKinds.{sensor, largestKind}
-use Rattle.model.specs.Contents.{Contents, withTail, following, ValidContents}
+use Rattle.model.specs.Contents.{Contents, following, ValidContents}
 use Rattle.model.specs.Tail.{longestTail}
 use Rattle.model.specs.Call.{addChecks, withdrawChecks, tailChecks, insertRefusal, removeRefusal, tailRefusal}
 use Rattle.model.specs.Call.{Call, add, withdraw, oneRound, runToEnd, setTail, unless, step, contentsAfter}
@@ -95,7 +95,7 @@ step-valid c oneRound v = keeping-valid v (round-valid (c .tail) (c .state) (v .
 step-valid c runToEnd v =
     let rounds = finish-rounds (c .tail) (c .state) (v .state) .0 in
     keeping-valid v (rounds-valid rounds (v .state)) (rounds-pins rounds (v .state))
-step-valid c (setTail tail) v = unless-valid (tailRefusal tail) c (λ _. withTail tail c) v (λ e. with-tail-valid v (tail-allowed tail e))
+step-valid c (setTail tail) v = unless-valid (tailRefusal tail) c _ v (λ e. with-tail-valid v (tail-allowed tail e))
 
 pub after-valid : (calls : List Call) (c : Contents) → ValidContents c → ValidContents (contentsAfter c calls)
 unfolding contentsAfter

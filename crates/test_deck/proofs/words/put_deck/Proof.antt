@@ -1,10 +1,10 @@
 -- `test_deck::words::put_deck` meets its contract: the parts are put one behind the other, and read back they are the deck.
 -- (The entry is `s` here: must-fail/counts_exchanged.edit changes two lines that name it.)
-use mathlib.Core.Path.{refl, ap, _∙_}
+use mathlib.Core.Path.{_≡_, refl, ap, _∙_}
 use mathlib.Core.List.{List}
 use Prim.Native.Nat.{ℕ}
 use native.Mathlib.Omega.{arith}
-use lib.ListN.{set, length-set}
+use lib.ListN.{length, set, length-set}
 use Rattle.test_deck.specs.Words.{pinCountWord, steinerCountWord, tailWord, deckIn}
 use Rattle.test_deck.proofs.words.Places.{Sized, laid-out, deck-in-words}
 use borrow.Author.Needs.{needs}
@@ -13,6 +13,9 @@ use Rattle.test_deck.proofs.words.put_deck.Tie as tie
 
 sized : (s : tie.Start) → Sized (s .args .d)
 sized s = record { pins = search needs; steiner = search needs; ends = search needs }
+
+set-twice : (l : List ℕ) (i a j b : ℕ) → length (set (set l i a) j b) ≡ length l
+set-twice l i a j b = length-set (set l i a) j b ∙ length-set l i a
 
 put-numbers-requires : tie.Need-put-numbers-requires
 put-numbers-requires c κs =
@@ -39,12 +42,10 @@ put-numbers-requires-3 c κs =
     let at-put-numbers = at-steiner .before .before .before in
     let at-ends = at-put-numbers .before .before .before in
     let s = at-ends .before .before .before .before in
-    let counted = set (at-put-numbers2 .put-numbers2 .last .0) steinerCountWord (s .args .d .points .nsteiner) in
     omega (
       arith,
       sized s .ends,
-      length-set counted tailWord (s .args .d .tail),
-      length-set (at-put-numbers2 .put-numbers2 .last .0) steinerCountWord (s .args .d .points .nsteiner),
+      set-twice (at-put-numbers2 .put-numbers2 .last .0) steinerCountWord (s .args .d .points .nsteiner) tailWord (s .args .d .tail),
       at-put-numbers2 .put-numbers2 .kept .0,
     )
 
