@@ -1,5 +1,5 @@
 # What each target does: make help.
-.PHONY: help run test tests reference_tests compare_tests gate_tests bench table_1 reference programs entries library replay_library \
+.PHONY: help run test tests reference_tests compare_tests gate_tests bench table_1 tails reference programs entries library replay_library \
 	display_library fuzz libfuzzer
 
 .DEFAULT_GOAL := run
@@ -68,6 +68,9 @@ bench: entries ## the time of a run to the end, by the planner and by others
 
 table_1: entries ## the averages of document 004, Table 1
 	cd tests/compare && cargo run --release --offline --quiet --bin table_1
+
+tails: entries ## rounds, taps and lengths of a run to the end at some tail lengths
+	cd tests/compare && cargo run --release --offline --quiet --bin tails
 
 # Some 20 seconds of deck files changed at random; tests/fuzz/check.c says what must hold. Not a part of test.
 ROUNDS = 150000
