@@ -19,6 +19,7 @@ use Rattle.model.specs.Sections.{size}
 use Rattle.model.proofs.FileSize.{file-size, runs-length}
 use Rattle.model.proofs.Sections.{file-laid}
 use Rattle.model.proofs.FileValid.{file-valid}
+use Rattle.model.proofs.Refusal.{file-taken}
 use Rattle.model.proofs.FileRoundTrip.{written-read, full-written-back}
 use Rattle.model.proofs.FileKinds.{sections-few, written-count, four-exactly}
 use Rattle.model.proofs.Session.{empty-contents}
@@ -30,7 +31,7 @@ use Rattle.deck.proofs.Form.{contents-deck, deck-sound, sound-is, sound-arrange
 use Rattle.deckfile.specs.declared.Written.the-variants.{Refused, Length}
 use Rattle.deckfile.specs.Reading.{readOutcome, reading, acceptedDeck}
 use Rattle.deckfile.specs.Writing.{written, bufferAfter}
-use Rattle.deckfile.specs.RoundTrip.{ReadSound, SoundFits, WrittenRead, FullWrittenBack, PlainWrittenFull, SectionsWritten, WrittenSections}
+use Rattle.deckfile.specs.RoundTrip.{ReadSound, ReadUntailed, SoundFits, WrittenRead, FullWrittenBack, PlainWrittenFull, SectionsWritten, WrittenSections}
 use Rattle.writer.proofs.Runs.{edge-count}
 use Rattle.deckfile.proofs.Stored.{write-fits}
 
@@ -41,6 +42,14 @@ read-sound b = go (readFile b) refl
     go : (r : Read) → readFile b ≡ r → Sound (readOutcome r .next)
     go (deck c) e = deck-sound c (file-valid b c e)
     go (refusal n) e = deck-sound emptyContents empty-contents
+
+pub read-untailed : ReadUntailed
+unfolding readOutcome deckOf
+read-untailed b = go (readFile b) refl
+  where
+    go : (r : Read) → readFile b ≡ r → readOutcome r .next .tail ≡ 0
+    go (deck c) e = ap (λ (z : Contents). z .tail) (sym (file-taken b c .0 e .1))
+    go (refusal n) e = refl
 
 -- A deck read is that of the contents read.
 pub record ReadFrom (b : List ℕ) (d : Deck) : Type 0 where

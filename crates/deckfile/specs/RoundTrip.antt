@@ -20,6 +20,10 @@ use Rattle.deckfile.specs.Writing.{written, bufferAfter}
 abbrev pub ReadSound : Type 0
 ReadSound = (b : List ℕ) → Sound (reading b .next)
 
+-- It has no tails, whatever the bytes are (SPEC 7.6).
+abbrev pub ReadUntailed : Type 0
+ReadUntailed = (b : List ℕ) → reading b .next .tail ≡ 0
+
 -- Every sound deck can be written into a buffer of 856 bytes, and what is written has 30 bytes at least (SPEC 7.5, 10.1).
 pub record Fits (d : Deck) (l : List ℕ) : Type 0 where
   pub size : ℕ

@@ -27,7 +27,7 @@ use Rattle.questions.proofs.Answers.{counts-are, beyond-last, none-held}
 use Rattle.deck.proofs.Session.{deck-sessions}
 use Rattle.deckfile.specs.Reading.{readOutcome, reading}
 use Rattle.deckfile.proofs.Stored.{write-unsound, write-short, write-fits}
-use Rattle.deckfile.proofs.RoundTrip.{sound-fits, written-then-read, full-back, plain-full, written-sections}
+use Rattle.deckfile.proofs.RoundTrip.{read-untailed, sound-fits, written-then-read, full-back, plain-full, written-sections}
 use Rattle.deckfile.proofs.answer.Entry.{entered}
 use Rattle.planner.specs.Entry.{toEnd}
 use Rattle.display.proofs.Entry.{numbered}
@@ -115,6 +115,7 @@ demand2 =
       noEdge = λ d s i. let b = beyond-last (contentsOf d) (s .valid .state .placed) i in
           (λ e. b .0 (sym (answered d s (ofEdge i)) ∙ e), λ h. answered d s (ofEdge i) ∙ b .1 h);
       noPoint = λ d s p n. answered d s (ofDegree p) ∙ none-held (contentsOf d) (s .valid .state .placed) p n;
+      readUntailed = read-untailed;
       writtenRead = written-then-read;
       fullWrittenBack = full-back;
       plainWrittenFull = plain-full;

@@ -33,7 +33,7 @@ use Rattle.deck.specs.Session.{deckAfter, replies, reckoned}
 use Rattle.deckfile.specs.declared.Written.the-variants as writing
 use Rattle.deckfile.specs.Reading.{reading, acceptedDeck, refusedFile}
 use Rattle.deckfile.specs.Writing.{written, bufferAfter}
-use Rattle.deckfile.specs.RoundTrip.{WrittenRead, FullWrittenBack, PlainWrittenFull, WrittenSections, SoundFits}
+use Rattle.deckfile.specs.RoundTrip.{ReadUntailed, WrittenRead, FullWrittenBack, PlainWrittenFull, WrittenSections, SoundFits}
 use Rattle.deckfile.specs.Answer.{Entered}
 use Rattle.demands.specs.Sessions.{AfterCalls, Bounds}
 use Rattle.demands.specs.Method.{RunsAreTree, RoundOf, SweepsOf, EndOf}
@@ -107,7 +107,9 @@ pub record Demand2 : Type 0 where
       → asked d ofCounts ≡ question.Counts (length (stateOf d .pins)) (length (stateOf d .steiner)) (length (points (stateOf d)) - 1)
   pub noEdge : (d : Deck) → Sound d → (i : ℕ) → (asked d (ofEdge i) ≡ question.NoEdge) ↔ (length (points (stateOf d)) - 1 ≤ i)
   pub noPoint : (d : Deck) → Sound d → (p : Point) → ¬ List·Memᴰ p (points (stateOf d)) → asked d (ofDegree p) ≡ question.Degree 0
-  -- a deck that is written and read comes back the same but for its tail, and a full file that is read and written the same (SPEC 7.6)
+  -- a deck that is read has no tails; one that is written and read comes back the same but for its tail, and a full file that is read and written the
+  -- same (SPEC 7.6)
+  pub readUntailed : ReadUntailed
   pub writtenRead : WrittenRead
   pub fullWrittenBack : FullWrittenBack
   pub plainWrittenFull : PlainWrittenFull
