@@ -1,8 +1,7 @@
 -- The tail of a deck, from the claims on contents: a call on a sound deck is the call on its contents, and two decks with the same contents but for
 -- the tail differ in the tail alone.
-use mathlib.Core.Path.{_≡_, refl, sym, ap, _∙_}
+use mathlib.Core.Path.{_≡_, sym, ap, _∙_}
 use mathlib.Core.Logic.{_↔_}
-use mathlib.Core.List.{List}
 use Prim.Native.Nat.{ℕ, _+_, _*_, _-_, _≤_}
 use lib.ListN.{length}
 use Rattle.model.specs.State.{points}

@@ -1,12 +1,10 @@
 -- Tails leave the order of runs and THE tree: each run gains the same two tails, and each tree over the points the same number of them.
-use mathlib.Core.Path.{_≡_, refl, sym, ap, _∙_, subst, subst⁻¹}
+use mathlib.Core.Path.{_≡_, sym, _∙_, subst, subst⁻¹}
 use mathlib.Core.Logic.{_↔_}
-use mathlib.Core.Bool.{Bool}
-use mathlib.Core.List.{List, [], _∷_}
-use Prim.Native.Nat.{ℕ, _+_, _*_, _≤_, _<_}
+use mathlib.Core.List.{List}
+use Prim.Native.Nat.{ℕ, _+_, _≤_}
 use native.Mathlib.Omega.{arith}
 use lib.Dec.{T, ltb, ltb→lt, lt→ltb}
-use lib.ListN.{length}
 use Rattle.spanning.specs.Graph.{Tree}
 use Rattle.arrays.specs.Order.{Sorted, First}
 use Rattle.arrays.specs.Test.{thenBy}

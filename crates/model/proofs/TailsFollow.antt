@@ -6,10 +6,10 @@ use Prim.Native.Nat.{ℕ}
 use native.Mathlib.Omega.{arith}
 use Rattle.arrays.specs.Set.{Each}
 use Rattle.plane.specs.Point.{Point}
-use Rattle.model.specs.State.{State, insert, remove}
+use Rattle.model.specs.State.{insert, remove}
 use Rattle.model.specs.DeviceKinds.{sensor}
 use Rattle.model.specs.Contents.{Contents, withTail, following}
-use Rattle.model.specs.Call.{Call, add, withdraw, oneRound, runToEnd, setTail, done, refused}
+use Rattle.model.specs.Call.{Call, add, withdraw, oneRound, runToEnd, setTail, refused}
 use Rattle.model.specs.Call.{insertRefusal, removeRefusal, tailRefusal, unless, step, contentsAfter}
 use Rattle.model.specs.TailClaim.{TailsFollow}
 use Rattle.model.proofs.Refusal.{unless-next, unless-kept}

@@ -24,7 +24,7 @@ use Rattle.plane.proofs.Order.{lower-order}
 use Rattle.plane.proofs.Axis.{connected-perimeter}
 use Rattle.plane.proofs.Three.{MiddlePoint, middle-point, NoShorterOver, settled-point}
 use Rattle.model.specs.Tree.{mst, treeLength}
-use Rattle.model.specs.Tail.{noTail, treeLengthWith}
+use Rattle.model.specs.Tail.{noTail}
 use Rattle.model.specs.State.{State, points, Valid}
 use Rattle.model.specs.Round.{finished, round, finish}
 use Rattle.model.specs.Session.{RoundsTo}

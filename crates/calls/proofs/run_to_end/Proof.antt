@@ -1,6 +1,5 @@
 -- `calls::run_to_end` meets its contract, by that of `rounds::finish_of`.
 use Rattle.calls.proofs.RoundCalls.{end-is}
-use borrow.Author.Needs.{needs}
 use Rattle.calls.proofs.run_to_end.Statement.{statement}
 use Rattle.calls.proofs.run_to_end.Tie as tie
 

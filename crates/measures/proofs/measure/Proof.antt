@@ -2,7 +2,6 @@
 use mathlib.Core.Path.{sym}
 use Rattle.points.proofs.Coded.{pins-count, steiner-count}
 use Rattle.edges.proofs.Numbers.{edge-count}
-use borrow.Author.Needs.{needs}
 use Rattle.measures.proofs.measure.Statement.{statement}
 use Rattle.measures.proofs.measure.Tie as tie
 
