@@ -1,6 +1,4 @@
 // The listing of a deck, in ASCII, written to the caller's slice.
-mod rows;
-
 use ascii::refused_line;
 use deck::Deck;
 use deck::check::check;

@@ -1,8 +1,8 @@
--- `listing::rows::coordinate_field` meets its contract: a coordinate has at most five digits.
+-- `rows::coordinate_field` meets its contract: a coordinate has at most five digits.
 use borrow.Author.Needs.{needs}
 use Rattle.ascii.proofs.Signs.{coordinate-put}
-use Rattle.listing.proofs.rows.coordinate_field.Statement.{statement}
-use Rattle.listing.proofs.rows.coordinate_field.Tie as tie
+use Rattle.rows.proofs.coordinate_field.Statement.{statement}
+use Rattle.rows.proofs.coordinate_field.Tie as tie
 
 returns : tie.Need-returns
 returns c =

@@ -15,7 +15,7 @@ use Rattle.model.specs.Question.{listed}
 use Rattle.edges.specs.declared.CodedEdge.{CodedEdge}
 use Rattle.edges.specs.Edges.{edgeOf, EdgeAt}
 use Rattle.edges.proofs.Numbers.{edges-more}
-use Rattle.listing.specs.Line.{tapLine, runLine}
+use Rattle.rows.specs.Line.{tapLine, runLine}
 
 -- The text of one item more.
 taps-more : (l : List Point) (q : Point) → tapLines (l ++ (q ∷ [])) ≡ tapLines l ++ tapLine q

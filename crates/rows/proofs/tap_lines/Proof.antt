@@ -1,11 +1,11 @@
--- `listing::rows::tap_lines` meets its contract. The invariant: the lines of the Steiner points passed are written.
+-- `rows::tap_lines` meets its contract. The invariant: the lines of the Steiner points passed are written.
 use Prim.Native.Nat.{_-_}
 use native.Mathlib.Omega.{arith}
 use borrow.Author.Needs.{needs}
 use Rattle.arrays.proofs.paste.Lines.{PutFirst, first-none, first-more, first-end}
-use Rattle.listing.proofs.rows.Lines.{tapText, tap-none, tap-more}
-use Rattle.listing.proofs.rows.tap_lines.Statement.{statement}
-use Rattle.listing.proofs.rows.tap_lines.Tie as tie
+use Rattle.rows.proofs.Lines.{tapText, tap-none, tap-more}
+use Rattle.rows.proofs.tap_lines.Statement.{statement}
+use Rattle.rows.proofs.tap_lines.Tie as tie
 
 abbrev Inv-loop : tie.InvT-loop
 Inv-loop out₀ at codes n next₀ i₀ out next i = PutFirst (tapText codes) 18 n out₀ out at next i

@@ -1,4 +1,4 @@
--- `listing::rows::run_lines` meets its contract. The invariant: the lines of the edges passed are written.
+-- `rows::run_lines` meets its contract. The invariant: the lines of the edges passed are written.
 use Prim.Native.Nat.{_-_}
 use native.Mathlib.Omega.{arith}
 use borrow.Author.Needs.{needs}
@@ -8,9 +8,9 @@ use Rattle.arrays.proofs.paste.Lines.{PutFirst, first-none, first-more, first-e
 use Rattle.arrays.proofs.paste.Parts.{pasted-same}
 use Rattle.working.specs.InOrder.{stateOf}
 use Rattle.edges.proofs.Numbers.{edge-count, listed-length}
-use Rattle.listing.proofs.rows.Lines.{runText, run-none, run-more, run-all}
-use Rattle.listing.proofs.rows.run_lines.Statement.{statement}
-use Rattle.listing.proofs.rows.run_lines.Tie as tie
+use Rattle.rows.proofs.Lines.{runText, run-none, run-more, run-all}
+use Rattle.rows.proofs.run_lines.Statement.{statement}
+use Rattle.rows.proofs.run_lines.Tie as tie
 
 abbrev Inv-loop : tie.InvT-loop
 Inv-loop out₀ at w tail ends next₀ i₀ out next i = PutFirst (runText tail (listed (stateOf w))) 53 (w .nkeys) out₀ out at next i

@@ -1,9 +1,9 @@
--- `listing::rows::numbers_line` meets its contract: the word, three fields and the line feed, each behind the one before.
+-- `rows::numbers_line` meets its contract: the word, three fields and the line feed, each behind the one before.
 use native.Mathlib.Omega.{arith}
 use borrow.Author.Needs.{needs}
 use Rattle.arrays.proofs.paste.Parts.{pasted-then}
-use Rattle.listing.proofs.rows.numbers_line.Statement.{statement}
-use Rattle.listing.proofs.rows.numbers_line.Tie as tie
+use Rattle.rows.proofs.numbers_line.Statement.{statement}
+use Rattle.rows.proofs.numbers_line.Tie as tie
 
 returns : tie.Need-returns
 returns c =

@@ -1,9 +1,9 @@
--- `listing::rows::tap_line` meets its contract: the word, the point's fields and the line feed, each behind the one before.
+-- `rows::tap_line` meets its contract: the word, the point's fields and the line feed, each behind the one before.
 use native.Mathlib.Omega.{arith}
 use borrow.Author.Needs.{needs}
 use Rattle.arrays.proofs.paste.Parts.{pasted-then}
-use Rattle.listing.proofs.rows.tap_line.Statement.{statement}
-use Rattle.listing.proofs.rows.tap_line.Tie as tie
+use Rattle.rows.proofs.tap_line.Statement.{statement}
+use Rattle.rows.proofs.tap_line.Tie as tie
 
 returns : tie.Need-returns
 returns c =

@@ -21,7 +21,7 @@ ghost use Rattle.model.specs.Tail.{longestTail};
 ghost use Rattle.model.specs.Question.{listed};
 ghost use Rattle.working.specs.InOrder.{InOrder, stateOf};
 ghost use Rattle.edges.specs.Edges.{edgeOf};
-ghost use Rattle.listing.specs.Line.{tapLine, runLine};
+ghost use Rattle.rows.specs.Line.{tapLine, runLine};
 ghost use Rattle.arrays.specs.Paste.{Pasted};
 
 // A space and a coordinate, given in its stored form.

@@ -1,9 +1,9 @@
--- `listing::rows::run_line` meets its contract: the word, the fields of the two ends, the length and the line feed, each behind the one before.
+-- `rows::run_line` meets its contract: the word, the fields of the two ends, the length and the line feed, each behind the one before.
 use native.Mathlib.Omega.{arith}
 use borrow.Author.Needs.{needs}
 use Rattle.arrays.proofs.paste.Parts.{pasted-then}
-use Rattle.listing.proofs.rows.run_line.Statement.{statement}
-use Rattle.listing.proofs.rows.run_line.Tie as tie
+use Rattle.rows.proofs.run_line.Statement.{statement}
+use Rattle.rows.proofs.run_line.Tie as tie
 
 returns : tie.Need-returns
 returns c =

@@ -1,4 +1,4 @@
--- `listing::rows::point_fields` meets its contract: its two coordinates, each a field.
+-- `rows::point_fields` meets its contract: its two coordinates, each a field.
 use mathlib.Core.Path.{ap}
 use mathlib.Core.List.{List}
 use Prim.Native.Nat.{ℕ}
@@ -7,8 +7,8 @@ use borrow.Author.Needs.{needs}
 use Rattle.plane.specs.Coordinate.{coordinate}
 use Rattle.model.specs.Listing.{field, signedDecimal}
 use Rattle.arrays.proofs.paste.Parts.{pasted-then, pasted-same}
-use Rattle.listing.proofs.rows.point_fields.Statement.{statement}
-use Rattle.listing.proofs.rows.point_fields.Tie as tie
+use Rattle.rows.proofs.point_fields.Statement.{statement}
+use Rattle.rows.proofs.point_fields.Tie as tie
 
 returns : tie.Need-returns
 returns c =

@@ -1,2 +1,0 @@
--- The lines of a listing.
-pub mod Lines
