@@ -27,7 +27,8 @@ use Rattle.commands.specs.declared.Command.the-variants as command
 use Rattle.commands.specs.Commands.{longestFile}
 use Rattle.script.specs.Line as script
 use Rattle.ascii.specs.Encoding.{fileText, joinedLines}
-use Rattle.replies.specs.Replies.{errorWord, replyText, answerText}
+use Rattle.ascii.specs.Line.{errorWord}
+use Rattle.replies.specs.Replies.{replyText, answerText}
 use Rattle.directions.specs.Directions.{directionText}
 use Rattle.listing.specs.Whole.{deckText}
 use Rattle.answer.specs.declared.Played.{Played}

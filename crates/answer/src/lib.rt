@@ -1,6 +1,7 @@
 // What one line of a script does to a deck, and the text of its answer.
 use ascii::encode::file_line;
 use ascii::encode::join_lines;
+use ascii::line::error_line;
 use commands::Change;
 use commands::Command;
 use commands::Direction;
@@ -14,7 +15,6 @@ use lines::LINE_LIMIT;
 use listing::LISTING_ROOM;
 use questions::Answer;
 use replies::answer_line;
-use replies::error_line;
 use replies::reply_line;
 ghost use mathlib.Core.Path.{_≡_};
 ghost use Prim.Native.Nat.{_≤_, min};
@@ -26,7 +26,8 @@ ghost use Rattle.commands.specs.declared.Command.the-variants as command;
 ghost use Rattle.commands.specs.Commands.{longestFile};
 ghost use Rattle.script.specs.Line.{commandOf, fileInLine};
 ghost use Rattle.ascii.specs.Encoding.{joinedLines};
-ghost use Rattle.replies.specs.Replies.{errorWord, answerText};
+ghost use Rattle.ascii.specs.Line.{errorWord};
+ghost use Rattle.replies.specs.Replies.{answerText};
 ghost use Rattle.directions.specs.Directions.{directionText};
 ghost use Rattle.listing.specs.Whole.{deckText};
 ghost use Rattle.answer.specs.Play.{answerRoom, stays, changes, writeText, callFor, questionFor, lineOf, played, Plays};

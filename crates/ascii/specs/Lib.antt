@@ -1,2 +1,3 @@
 pub mod Encoding
+pub mod Line
 pub mod Text

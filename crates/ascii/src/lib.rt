@@ -1,5 +1,6 @@
 // Numbers in base ten and the line of a refusal, written from a place of a slice on. Each function returns the place behind what it wrote.
 pub mod encode;
+pub mod line;
 
 use arrays::paste::put_byte;
 use arrays::paste::put_bytes;

@@ -10,8 +10,8 @@ use mir.Val.{SFits}
 use Rattle.arrays.specs.Test.{if}
 use Rattle.arrays.proofs.Signed.{read, read-two}
 use Rattle.octants.specs.Octant.{octant}
-use Rattle.replies.specs.Replies.{errorWord, octantWord, numberText}
-use Rattle.directions.specs.Directions.{octantText}
+use Rattle.ascii.specs.Line.{errorWord, numberText}
+use Rattle.directions.specs.Directions.{octantWord, octantText}
 
 module _ (x y : ℤ) (k : ℕ) (e : k ≡ octant (read x) (read y)) (fx : SFits w32 x) (fy : SFits w32 y) where
   is-octant : k ≡ octant x y

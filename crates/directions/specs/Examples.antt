@@ -11,10 +11,9 @@ use Rattle.model.specs.Refusal.{firstFailed}
 use Rattle.model.specs.Listing.{digitsFrom}
 use Rattle.table.specs.Table.{entryAt, arrowTable, entry}
 use Rattle.arrow.specs.Arrow.{arrowChecks, arrow, glyph}
-use Rattle.replies.specs.Replies.{indicationText}
 use Rattle.commands.specs.declared.Direction.{Direction}
 use Rattle.commands.specs.declared.Direction.the-variants.{Octant, Arrow, Glyph}
-use Rattle.directions.specs.Directions.{glyphOf, directionText}
+use Rattle.directions.specs.Directions.{indicationText, glyphOf, directionText}
 
 -- The answers.
 unfoldable pub answers : List Direction → List (List ℕ)

@@ -1,23 +1,18 @@
--- The lines for replies and answers of a deck's calls and questions, and for directions (SPEC 9.3, 9.4), without the line feed.
-use mathlib.Core.List.{List, [], _∷_, _++_}
+-- The lines for replies and answers of a deck's calls and questions (SPEC 9.3, 9.4), without the line feed.
+use mathlib.Core.List.{List, _++_}
 use Prim.Native.Nat.{ℕ}
 use lib.IntN.{ℤ}
 use Rattle.arrays.specs.Text.{bytes}
 use Rattle.model.specs.Listing.{field, numberFields, decimal, signedDecimal, refusedWord, kindsWord, tapWord, runWord}
-use Rattle.arrow.specs.declared.Indication.{Indication}
-use Rattle.arrow.specs.declared.Indication.the-variants as indication
-use Rattle.arrow.specs.Arrow.{glyph}
+use Rattle.ascii.specs.Line.{numberText}
 use Rattle.calls.specs.declared.Reply.{Reply}
 use Rattle.calls.specs.declared.Reply.the-variants as reply
 use Rattle.questions.specs.declared.Answer.{Answer}
 use Rattle.questions.specs.declared.Answer.the-variants as answer
 
--- The words ok, error, finished, fall, rounds, length, counts, no, degree, octant, arrow, glyph.
+-- The words ok, finished, fall, rounds, length, counts, no, degree.
 abbrev pub okWord : List ℕ
 okWord = bytes "ok"
-
-abbrev pub errorWord : List ℕ
-errorWord = bytes "error"
 
 abbrev pub finishedWord : List ℕ
 finishedWord = bytes "finished"
@@ -40,16 +35,7 @@ noWord = bytes "no"
 abbrev pub degreeWord : List ℕ
 degreeWord = bytes "degree"
 
-abbrev pub octantWord : List ℕ
-octantWord = bytes "octant"
-
-abbrev pub arrowWord : List ℕ
-arrowWord = bytes "arrow"
-
-abbrev pub glyphWord : List ℕ
-glyphWord = bytes "glyph"
-
--- Room for the parts of a line: a fall in length, the ends of an edge, an edge, an arrow; and for any line.
+-- Room for the parts of a line: a fall in length, the ends of an edge, an edge.
 abbrev pub fallRoom : ℕ
 fallRoom = 73
 
@@ -59,16 +45,7 @@ endsRoom = 88
 abbrev pub edgeRoom : ℕ
 edgeRoom = 112
 
-abbrev pub arrowRoom : ℕ
-arrowRoom = 28
-
-abbrev pub lineRoom : ℕ
-lineRoom = 128
-
--- A word and a number, and a word and three: `counts PINS TAPS RUNS`, `kinds LENGTH LENGTH LENGTH`.
-abbrev pub numberText : List ℕ → ℕ → List ℕ
-numberText w n = w ++ field (decimal n)
-
+-- A word and three numbers: `counts PINS TAPS RUNS`, `kinds LENGTH LENGTH LENGTH`.
 abbrev pub numbersText : List ℕ → ℕ → ℕ → ℕ → List ℕ
 numbersText w a b c = w ++ numberFields a b c
 
@@ -101,16 +78,3 @@ answerText (answer.Edge x y u v n) = edgeText x y u v n
 answerText answer.NoEdge = noWord ++ field runWord
 answerText (answer.Degree n) = numberText degreeWord n
 answerText (answer.Kinds a b c) = numbersText kindsWord a b c
-
--- An arrow and its glyph: `arrow N GLYPH`.
-abbrev pub arrowText : ℕ → List ℕ
-arrowText n = arrowWord ++ (field (decimal n) ++ field (glyph n ∷ []))
-
--- The line of what a display shows.
-unfoldable pub indicationText : Indication → List ℕ
-indicationText (indication.Refused n) = numberText refusedWord n
-indicationText (indication.Arrow n) = arrowText n
-
--- A glyph: `glyph G`.
-abbrev pub glyphText : ℕ → List ℕ
-glyphText g = glyphWord ++ field (g ∷ [])

@@ -1,9 +1,8 @@
-// Lines for the replies and answers of a deck's calls and questions, and for directions, without the line feed.
-use arrays::paste::put_byte;
+// Lines for the replies and answers of a deck's calls and questions, without the line feed.
 use arrays::paste::put_bytes;
-use arrow::Indication;
-use arrow::glyph;
 use ascii::decimal_field;
+use ascii::line::LINE_ROOM;
+use ascii::line::number_line;
 use ascii::number_fields;
 use ascii::signed_field;
 use calls::Reply;
@@ -11,22 +10,9 @@ use questions::Answer;
 ghost use Prim.Native.Nat.{_+_, _≤_};
 ghost use lib.ListN.{length};
 ghost use Rattle.arrays.specs.Paste.{Pasted};
-ghost use Rattle.replies.specs.Replies.{numberText, numbersText, fallText, endsText, edgeText, replyText, answerText, errorWord, octantWord};
-ghost use Rattle.replies.specs.Replies.{arrowText, indicationText, glyphText, arrowRoom};
-ghost use Rattle.replies.specs.Replies.{fallRoom, endsRoom, edgeRoom, lineRoom};
-ghost use Rattle.ascii.specs.Text.{fitting, fieldRoom, fieldsRoom};
-
-// Room for any line.
-const LINE_ROOM: usize = 128;
-
-// A word and a number.
-fn number_line(out: &mut [u8], w: &[u8], n: u64) -> usize
-    requires { ⌜ length (now w) + fieldRoom ≤ length (now out) ⌝ }
-    ensures { λ r. ⌜ Pasted (numberText (now (w .entry)) n) (now (out .entry)) (now (out .exit)) 0 r ⌝ }
-{
-    let next = put_bytes(out, 0, w);
-    decimal_field(out, next, n)
-}
+ghost use Rattle.replies.specs.Replies.{numbersText, fallText, endsText, edgeText, replyText, answerText, fallRoom, endsRoom, edgeRoom};
+ghost use Rattle.ascii.specs.Text.{fitting, fieldsRoom};
+ghost use Rattle.ascii.specs.Line.{lineRoom};
 
 // A word and three numbers.
 fn numbers_line(out: &mut [u8], w: &[u8], a: u64, b: u64, c: u64) -> usize
@@ -103,61 +89,4 @@ pub fn answer_line(answer: Answer, out: &mut [u8]) -> usize
         Answer::Degree(n) => number_line(out, b"degree", n),
         Answer::Kinds(a, b, c) => numbers_line(out, b"kinds", a, b, c),
     }
-}
-
-// Puts `error` at the front of `out`, which has to have room for 128 bytes. Returns its length; 0 where there is no room.
-pub fn error_line(out: &mut [u8]) -> usize
-    ensures { λ r. ⌜ Pasted (fitting lineRoom (now (out .entry)) errorWord) (now (out .entry)) (now (out .exit)) 0 r ⌝ }
-{
-    if out.len() < LINE_ROOM {
-        return 0;
-    }
-    put_bytes(out, 0, b"error")
-}
-
-// Puts `octant N` at the front of `out`, which has to have room for 128 bytes. Returns its length; 0 where there is no room.
-pub fn octant_line(n: u64, out: &mut [u8]) -> usize
-    ensures { λ r. ⌜ Pasted (fitting lineRoom (now (out .entry)) (numberText octantWord n)) (now (out .entry)) (now (out .exit)) 0 r ⌝ }
-{
-    if out.len() < LINE_ROOM {
-        return 0;
-    }
-    number_line(out, b"octant", n)
-}
-
-// An arrow and its glyph.
-fn arrow_line(out: &mut [u8], n: u8) -> usize
-    requires { ⌜ arrowRoom ≤ length (now out) ⌝ }
-    ensures { λ r. ⌜ Pasted (arrowText n) (now (out .entry)) (now (out .exit)) 0 r ⌝ }
-{
-    let g = glyph(n as u32);
-    let a = put_bytes(out, 0, b"arrow");
-    let b = decimal_field(out, a, n as u64);
-    let c = put_byte(out, b, b' ');
-    put_byte(out, c, g)
-}
-
-// Puts the line of an arrow, or of its refusal, at the front of `out`, which has to have room for 128 bytes. Returns its length; 0 where there is
-// no room.
-pub fn indication_line(indication: Indication, out: &mut [u8]) -> usize
-    ensures { λ r. ⌜ Pasted (fitting lineRoom (now (out .entry)) (indicationText indication)) (now (out .entry)) (now (out .exit)) 0 r ⌝ }
-{
-    if out.len() < LINE_ROOM {
-        return 0;
-    }
-    match indication {
-        Indication::Refused(n) => number_line(out, b"refused", n as u64),
-        Indication::Arrow(n) => arrow_line(out, n),
-    }
-}
-
-// Puts `glyph G` at the front of `out`, which has to have room for 128 bytes. Returns its length; 0 where there is no room.
-pub fn glyph_line(g: u8, out: &mut [u8]) -> usize
-    ensures { λ r. ⌜ Pasted (fitting lineRoom (now (out .entry)) (glyphText g)) (now (out .entry)) (now (out .exit)) 0 r ⌝ }
-{
-    if out.len() < LINE_ROOM {
-        return 0;
-    }
-    let a = put_bytes(out, 0, b"glyph ");
-    put_byte(out, a, g)
 }

@@ -7,8 +7,7 @@ use Rattle.arrays.proofs.Signed.{read-one, read-two}
 use Rattle.arrays.proofs.paste.Parts.{pasted-same}
 use Rattle.ascii.specs.Text.{fitting}
 use Rattle.arrow.proofs.Answers.{read-arrow}
-use Rattle.replies.specs.Replies.{indicationText, glyphText}
-use Rattle.directions.specs.Directions.{octantText, glyphOf, directionText}
+use Rattle.directions.specs.Directions.{indicationText, glyphText, octantText, glyphOf, directionText}
 use borrow.Author.Needs.{needs}
 use Rattle.directions.proofs.direction_line.Statement.{statement}
 use Rattle.directions.proofs.direction_line.Tie as tie

@@ -1,8 +1,8 @@
--- `replies::error_line` meets its contract: without room nothing is written, and with room the one word.
+-- `ascii::line::error_line` meets its contract: without room nothing is written, and with room the one word.
 use Rattle.ascii.proofs.Room.{front-none, front-put}
 use borrow.Author.Needs.{needs}
-use Rattle.replies.proofs.error_line.Statement.{statement}
-use Rattle.replies.proofs.error_line.Tie as tie
+use Rattle.ascii.proofs.line.error_line.Statement.{statement}
+use Rattle.ascii.proofs.line.error_line.Tie as tie
 
 returns : tie.Need-returns
 returns c = front-none 128 _ _ (c .if1 .taken)

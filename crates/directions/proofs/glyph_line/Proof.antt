@@ -1,10 +1,10 @@
--- `replies::glyph_line` meets its contract: without room nothing is written, and with room the word and the glyph.
+-- `directions::glyph_line` meets its contract: without room nothing is written, and with room the word and the glyph.
 use native.Mathlib.Omega.{arith}
 use borrow.Author.Needs.{needs}
 use Rattle.arrays.proofs.paste.Parts.{pasted-then}
 use Rattle.ascii.proofs.Room.{front-none, front-put}
-use Rattle.replies.proofs.glyph_line.Statement.{statement}
-use Rattle.replies.proofs.glyph_line.Tie as tie
+use Rattle.directions.proofs.glyph_line.Statement.{statement}
+use Rattle.directions.proofs.glyph_line.Tie as tie
 
 returns : tie.Need-returns
 returns c = front-none 128 _ _ (c .if1 .taken)

@@ -1,9 +1,9 @@
--- `replies::number_line` meets its contract: the word, then the number's field behind it.
+-- `ascii::line::number_line` meets its contract: the word, then the number's field behind it.
 use native.Mathlib.Omega.{arith}
 use borrow.Author.Needs.{needs}
 use Rattle.arrays.proofs.paste.Parts.{pasted-then}
-use Rattle.replies.proofs.number_line.Statement.{statement}
-use Rattle.replies.proofs.number_line.Tie as tie
+use Rattle.ascii.proofs.line.number_line.Statement.{statement}
+use Rattle.ascii.proofs.line.number_line.Tie as tie
 
 returns : tie.Need-returns
 returns c =

@@ -1,11 +1,11 @@
--- `replies::indication_line` meets its contract: without room nothing is written, and with room the line of a refusal or of an arrow.
+-- `directions::indication_line` meets its contract: without room nothing is written, and with room the line of a refusal or of an arrow.
 use mathlib.Core.Path.{sym, ap}
 use borrow.Author.Needs.{needs}
 use Rattle.arrays.proofs.paste.Parts.{pasted-same}
 use Rattle.ascii.proofs.Room.{front-none, front-put}
-use Rattle.replies.specs.Replies.{indicationText}
-use Rattle.replies.proofs.indication_line.Statement.{statement}
-use Rattle.replies.proofs.indication_line.Tie as tie
+use Rattle.directions.specs.Directions.{indicationText}
+use Rattle.directions.proofs.indication_line.Statement.{statement}
+use Rattle.directions.proofs.indication_line.Tie as tie
 
 returns : tie.Need-returns
 returns c = front-none 128 _ _ (c .if1 .taken)

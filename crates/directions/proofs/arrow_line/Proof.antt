@@ -1,12 +1,12 @@
--- `replies::arrow_line` meets its contract: the word, the number, and the glyph behind a space.
+-- `directions::arrow_line` meets its contract: the word, the number, and the glyph behind a space.
 use mathlib.Core.Path.{ap}
 use mathlib.Core.List.{[], _∷_}
 use Prim.Native.Nat.{ℕ}
 use native.Mathlib.Omega.{arith}
 use borrow.Author.Needs.{needs}
 use Rattle.arrays.proofs.paste.Parts.{pasted-same, pasted-then}
-use Rattle.replies.proofs.arrow_line.Statement.{statement}
-use Rattle.replies.proofs.arrow_line.Tie as tie
+use Rattle.directions.proofs.arrow_line.Statement.{statement}
+use Rattle.directions.proofs.arrow_line.Tie as tie
 
 returns : tie.Need-returns
 returns c =

@@ -1,8 +1,8 @@
--- `replies::octant_line` meets its contract: without room nothing is written, and with room the word and the number.
+-- `directions::octant_line` meets its contract: without room nothing is written, and with room the word and the number.
 use Rattle.ascii.proofs.Room.{front-none, front-put}
 use borrow.Author.Needs.{needs}
-use Rattle.replies.proofs.octant_line.Statement.{statement}
-use Rattle.replies.proofs.octant_line.Tie as tie
+use Rattle.directions.proofs.octant_line.Statement.{statement}
+use Rattle.directions.proofs.octant_line.Tie as tie
 
 returns : tie.Need-returns
 returns c = front-none 128 _ _ (c .if1 .taken)
