@@ -1,0 +1,3 @@
+pub mod Claim
+pub mod Examples
+pub mod Inputs
