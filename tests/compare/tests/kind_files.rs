@@ -20,25 +20,42 @@ fn written(file: &[u8]) -> String {
     format!("file {} {}\n", file.len(), hex_of(file))
 }
 
-#[test]
-fn taken() {
+/// The files that are taken, those with kinds or those without.
+fn taken(kinds: bool) -> Vec<Vec<u8>> {
+    let mut files = taken_files();
+    files.retain(|file| has_kinds(file) == kinds);
+    files
+}
+
+/// Plans files, lists them, makes no call on them, and reads and writes them by a script.
+fn same_everywhere(files: &[Vec<u8>]) -> Seen {
     let mut seen = Seen::default();
     let (mut script, mut answers) = (String::new(), String::new());
-    let mut plain_with_kinds = 0;
-    for file in taken_files() {
-        let full = write(&read(&file).expect("a file that is taken"));
-        assert_eq!(has_kinds(&full), has_kinds(&file));
-        let planned = seen.plan(&file).and_then(|written| read(&written));
+    for file in files {
+        let full = write(&read(file).expect("a file that is taken"));
+        assert_eq!(has_kinds(&full), has_kinds(file));
+        let planned = seen.plan(file).and_then(|written| read(&written));
         let text = listing(&planned.expect("a deck"));
-        assert_eq!(decklist(&file), text, "{file:?}");
-        seen.replay(&file, &[], &Ok(full.clone()));
-        script += &format!("read {}\nwrite\n", hex_of(&file));
+        assert_eq!(decklist(file), text, "{file:?}");
+        seen.replay(file, &[], &Ok(full.clone()));
+        script += &format!("read {}\nwrite\n", hex_of(file));
         answers += &format!("ok\n{}", written(&full));
-        plain_with_kinds += (has_kinds(&file) && is_plain(&file)) as usize;
     }
     assert_eq!(deckplay(script.as_bytes()), answers);
-    assert!(plain_with_kinds >= 4);
-    assert!(seen.with_kinds >= 16 && seen.given - seen.with_kinds >= 20);
+    seen
+}
+
+#[test]
+fn taken_with_kinds() {
+    let files = taken(true);
+    assert!(files.iter().filter(|file| is_plain(file)).count() >= 4);
+    assert!(same_everywhere(&files).with_kinds >= 16);
+}
+
+#[test]
+fn taken_without_kinds() {
+    let seen = same_everywhere(&taken(false));
+    assert!(seen.given - seen.with_kinds >= 20);
 }
 
 /// The longest file is written where there is room for it, and room for it is what

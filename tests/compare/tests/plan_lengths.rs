@@ -49,41 +49,62 @@ fn is_length_of_file(length: usize) -> bool {
     plain || full || plain_kinds || full_kinds
 }
 
-#[test]
-fn every_length() {
+/// Files to be cut or lengthened: small, with the most points, and plain.
+fn bases(random: &mut Random) -> [Vec<u8>; 4] {
+    let pins = sensors(&most_pins(random));
+    let most = comb(62);
+    let longest = write(&mixed(most.clone()));
+    [write(&comb(1)), write(&most), longest, write_plain(&pins)]
+}
+
+/// Plans the files of one length.
+fn plan_length(seen: &mut Seen, length: usize, files: &[Vec<u8>], finished: &[Vec<u8>]) {
+    let before = seen.plain + seen.full;
+    for file in files {
+        assert_eq!(file.len(), length);
+        let refused = seen.plan(file).err();
+        if !(SHORTEST..=LONGEST).contains(&length) {
+            assert_eq!(refused, Some(1));
+        }
+    }
+    for file in finished {
+        assert_eq!(file.len(), length);
+        seen.plan_to(file, &Ok(file.clone()));
+    }
+    let taken = seen.plain + seen.full > before;
+    assert_eq!(taken, is_length_of_file(length), "{length} bytes");
+}
+
+/// Every length, in pieces of 16 lengths: makes the files of all, and plans those of
+/// every second piece, from the one at `first` on.
+fn plan_half(first: usize) {
     let mut random = Random::new(61);
     let mut seen = Seen::default();
-    let pins = sensors(&most_pins(&mut random));
-    let longest = write(&mixed(comb(62)));
-    let bases = [
-        write(&comb(1)),
-        write(&comb(62)),
-        longest,
-        write_plain(&pins),
-    ];
+    let bases = bases(&mut random);
     for length in 0..=LONGEST + 16 {
-        let before = seen.plain + seen.full;
-        for file in of_length(&mut random, &bases, length) {
-            assert_eq!(file.len(), length);
-            let refused = seen.plan(&file).err();
-            if !(SHORTEST..=LONGEST).contains(&length) {
-                assert_eq!(refused, Some(1));
-            }
+        let files = of_length(&mut random, &bases, length);
+        let finished = finished(&mut random, length);
+        if length / 16 % 2 == first {
+            plan_length(&mut seen, length, &files, &finished);
         }
-        for file in finished(&mut random, length) {
-            assert_eq!(file.len(), length);
-            seen.plan_to(&file, &Ok(file.clone()));
-        }
-        let taken = seen.plain + seen.full > before;
-        assert_eq!(taken, is_length_of_file(length), "{length} bytes");
     }
-    println!("every length: {seen:?}");
-    assert!(seen.given > 10_000);
-    assert!(seen.plain > 129 && seen.full > 800 && seen.with_kinds > 800);
-    seen.refused.are_exactly(&OF_ENTRY, 400);
-    for (number, least) in [(1, 4_000), (2, 20_000), (3, 10_000), (5, 1_000), (6, 4_000)] {
+    println!("half of the lengths: {seen:?}");
+    assert!(seen.given > 5_000);
+    assert!(seen.plain > 64 && seen.full > 400 && seen.with_kinds > 400);
+    seen.refused.are_exactly(&OF_ENTRY, 200);
+    for (number, least) in [(1, 2_000), (2, 10_000), (3, 5_000), (5, 500), (6, 2_000)] {
         assert!(seen.refused.by(number) > least, "{number}");
     }
+}
+
+#[test]
+fn every_length_in_even_pieces() {
+    plan_half(0);
+}
+
+#[test]
+fn every_length_in_odd_pieces() {
+    plan_half(1);
 }
 
 #[test]
