@@ -73,9 +73,19 @@ fn all_refused(state: &State, damaged: &Deck) {
     questions::all_refused(damaged, state);
 }
 
+/// The state of a damaged deck where it is sound, by the reference. The tree of the
+/// state before the damage, which is valid, is that of the deck from before: it is not
+/// built again.
+fn state_of(state: &State, right: &Deck, damaged: &Deck) -> Option<State> {
+    match damaged.points() {
+        Some(held) if held == *state => (damaged == right).then_some(held),
+        _ => damaged.state(),
+    }
+}
+
 /// Every call and question on a damaged deck; whether they were refused.
-fn answers(random: &mut Random, state: &State, damaged: &Deck) -> bool {
-    let Some(held) = damaged.state() else {
+fn answers(random: &mut Random, state: &State, right: &Deck, damaged: &Deck) -> bool {
+    let Some(held) = state_of(state, right, damaged) else {
         all_refused(state, damaged);
         return true;
     };
@@ -133,8 +143,9 @@ fn damage_half(states: &[State], first: usize) -> Seen {
 /// Does all damages to a deck, and counts them.
 fn damage(random: &mut Random, state: &State, seen: &mut Seen) {
     let right = Deck::of(state);
+    assert_eq!(right.state().as_ref(), Some(state));
     for (name, damaged) in damages(random, state) {
-        let refused = answers(random, state, &damaged);
+        let refused = answers(random, state, &right, &damaged);
         let counts = seen.damages.entry(name).or_default();
         counts.0 += refused as usize;
         counts.1 += !refused as usize;
