@@ -1,3 +1,5 @@
+pub mod Claim
+pub mod Examples
 pub mod Held
 pub mod Packing
 pub mod Printed

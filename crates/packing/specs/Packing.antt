@@ -6,6 +6,7 @@ use lib.Dec.{ltb}
 use Rattle.arrays.specs.Test.{if}
 use Rattle.model.specs.Contents.{Contents, emptyContents}
 use Rattle.model.specs.Call.{Call, add, Reply, done, refused, answered, rounds, step}
+use Rattle.lines.specs.Lines.{allLines, stateAfter}
 use Rattle.pin_line.specs.declared.PinLine.{PinLine}
 use Rattle.pin_line.specs.declared.PinLine.the-variants as pin_line
 use Rattle.pin_line.specs.PinLines.{pinLineOf}
@@ -59,3 +60,7 @@ hasFault (Refused n m) = true
 -- One more line. After a fault nothing changes any more.
 unfoldable pub packLine : Packed → List ℕ → Packed
 packLine p line = if (hasFault (p .fault)) (λ _. p) (λ _. byLine (nextNumber (p .lines)) (p .contents) line)
+
+-- The lines of an input, from the first on.
+unfoldable pub packInput : List ℕ → Packed
+packInput input = stateAfter packLine nothingPacked (allLines input)

@@ -28,7 +28,7 @@ use Rattle.lines.specs.Lines.{allLines}
 use Rattle.pin_line.specs.declared.PinLine.{PinLine}
 use Rattle.pin_line.specs.declared.PinLine.the-variants as pin_line
 use Rattle.pin_line.specs.PinLines.{pinLineOf}
-use Rattle.packed_inputs.specs.Claim.{callOf, callsOf, AllDone, Whole, SamePins}
+use Rattle.packing.specs.Claim.{callOf, callsOf, AllDone, Whole, SamePins}
 
 -- The calls of lines add pins.
 abbrev pub IsAdd : Call → Type 0

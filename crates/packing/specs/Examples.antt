@@ -19,8 +19,8 @@ use Rattle.numbers.specs.Numbers.{areDigits, valueFrom, numberOf}
 use Rattle.arguments.specs.Arguments.{numbersOf, argumentsOf}
 use Rattle.lines.specs.Lines.{linesFrom, stateAfter}
 use Rattle.pin_line.specs.PinLines.{isPlain, withKind, ofNumbers, ofText, pinLineOf}
-use Rattle.packing.specs.Packing.{byCall, byPin, packLine}
-use Rattle.packed_inputs.specs.Inputs.{Outputs, packInput, packed}
+use Rattle.packing.specs.Packing.{byCall, byPin, packLine, packInput}
+use Rattle.packing.specs.Printed.{Outputs, packed}
 
 -- What is printed for inputs.
 unfoldable pub printedFor : List String → List Outputs

@@ -14,11 +14,10 @@ use Rattle.lines.specs.Lines.{allLines, lastLine, takenAll, stateAfter}
 use Rattle.pin_line.specs.declared.PinLine.{PinLine}
 use Rattle.pin_line.specs.declared.PinLine.the-variants as pin_line
 use Rattle.pin_line.specs.PinLines.{pinLineOf}
 use Rattle.packing.specs.declared.Fault.{Fault}
 use Rattle.packing.specs.declared.Fault.the-variants.{Error, Refused}
 use Rattle.packing.specs.Packing.{mostLines, nothingPacked, packLine}
-use Rattle.packing.specs.Printed.{faultText, packedFile}
-use Rattle.packed_inputs.specs.Inputs.{packed}
+use Rattle.packing.specs.Printed.{faultText, packedFile, packed}
 
 -- The call of a line that names a pin, and those of lines, in their order.
 abbrev pub callOf : PinLine → List Call

@@ -27,13 +27,12 @@ use Rattle.lines.proofs.Input.{all-lines-taken}
 use Rattle.pin_line.specs.declared.PinLine.{PinLine}
 use Rattle.pin_line.specs.declared.PinLine.the-variants as pin_line
 use Rattle.pin_line.specs.PinLines.{pinLineOf}
 use Rattle.packing.specs.declared.Fault.{Fault}
 use Rattle.packing.specs.declared.Fault.the-variants.{None, Error, Refused}
-use Rattle.packing.specs.Packing.{Packed, nothingPacked, nextNumber, faultOf, byCall, byPin, byLine, hasFault, packLine}
-use Rattle.packing.specs.Printed.{faultText, packedFile}
-use Rattle.packed_inputs.specs.Inputs.{packInput, packed}
-use Rattle.packed_inputs.specs.Claim.{callOf, callsOf, AllDone, Faultless, numberBehind, PinRefused, FirstFault, Whole, Stopped, InputPacked, InputTaken}
+use Rattle.packing.specs.Packing.{Packed, nothingPacked, nextNumber, faultOf, byCall, byPin, byLine, hasFault, packLine, packInput}
+use Rattle.packing.specs.Printed.{faultText, packedFile, packed}
+use Rattle.packing.specs.Claim.{callOf, callsOf, AllDone, Faultless, numberBehind, PinRefused, FirstFault, Whole, Stopped, InputPacked, InputTaken}
 use Rattle.packing.proofs.Steps.{number-more, number-stops}
 
 -- The number of a line, by whether it is the largest.
 number-below : (k : ℕ) → k < 18446744073709551615 → numberBehind k ≡ suc k

@@ -22,9 +22,9 @@ use Rattle.model.specs.Call.{Call, add, withdraw, oneRound, runToEnd, setTail, 
 use Rattle.model.specs.Refusal.{Pass}
 use Rattle.model.proofs.Refusal.{add-taken}
 use Rattle.model.proofs.Step.{step-valid}
-use Rattle.packed_inputs.specs.Claim.{AllDone}
+use Rattle.packing.specs.Claim.{AllDone}
 use Rattle.arrays.proofs.Permuted.{permuted-in, permuted-length, permuted-pairs}
-use Rattle.packed_inputs.proofs.SamePins.{IsAdd, now-pins}
+use Rattle.packing.proofs.SamePins.{IsAdd, now-pins}
 
 -- A call that adds a device, of a kind and in range, where no pin stands.
 abbrev Fits : Contents → Call → Type 0

@@ -13,13 +13,13 @@ use Rattle.model.proofs.Session.{empty-contents}
 use Rattle.lines.specs.Lines.{allLines}
 use Rattle.pin_line.specs.declared.PinLine.the-variants as pin_line
 use Rattle.pin_line.specs.PinLines.{pinLineOf}
 use Rattle.packing.specs.declared.Fault.{Fault}
-use Rattle.packed_inputs.specs.Inputs.{packed}
-use Rattle.packed_inputs.specs.Claim.{callOf, callsOf, AllDone, Faultless, FirstFault, Whole, Stopped, AnyOrder}
-use Rattle.packed_inputs.proofs.Addable.{addable-permuted, done-addable, addable-done}
-use Rattle.packed_inputs.proofs.Claim.{after-append, input-packed}
+use Rattle.packing.specs.Printed.{packed}
+use Rattle.packing.specs.Claim.{callOf, callsOf, AllDone, Faultless, FirstFault, Whole, Stopped, AnyOrder}
+use Rattle.packing.proofs.Addable.{addable-permuted, done-addable, addable-done}
+use Rattle.packing.proofs.Claim.{after-append, input-packed}
 use Rattle.arrays.proofs.Permuted.{permuted-in, permuted-each, permuted-parts}
-use Rattle.packed_inputs.proofs.SamePins.{calls-add, same-pins}
+use Rattle.packing.proofs.SamePins.{calls-add, same-pins}
 
 calls-permuted : {l m : List (List ℕ)} → Permuted l m → Permuted (callsOf l) (callsOf m)
 calls-permuted same = same
