@@ -10,11 +10,11 @@ use compare::check::questions::{all_refused, same_answers};
 use compare::check::replies::Replies;
 use compare::check::sessions::{refused_call, same_call};
 use compare::input::damaged_decks::LONG_TAILS;
-use reference::examples::{comb, cross, deck, example, mixed, CROSS};
+use reference::examples::{cross, deck, CROSS};
 use reference::generate::{full_state, Kind, Random, KINDS};
 use reference::refusals::{refused_calls, NOT_SOUND};
 use reference::session::{Call, Reply, State, BAD_TAIL};
-use reference::tails::{sweeping, with_tails, NO_TAILS, SIGNED_TAILS, TAILS};
+use reference::tails::{decks, sweeping, with_tails, NO_TAILS, SIGNED_TAILS, TAILS};
 
 /// The length of a deck, which is sound.
 fn length(deck: &Deck) -> u64 {
@@ -28,17 +28,6 @@ fn with_tail(deck: &Deck, tail: u32) -> Deck {
     let (next, parts) = call(deck, Call::SetTail(tail));
     assert_eq!(parts, Parts::of(Reply::Done));
     next
-}
-
-/// Decks of every kind, with taps and devices, of few points and of the most.
-fn decks(seed: u64, count: usize) -> Vec<State> {
-    let mut random = Random::new(seed);
-    let mut found = vec![State::default(), deck(&[(7, -3)]), example(), cross()];
-    found.extend([mixed(cross()), comb(62), mixed(comb(62))]);
-    for kind in KINDS {
-        found.extend((0..count).map(|_| full_state(&mut random, kind, 12)));
-    }
-    found
 }
 
 /// A tail before each call of a session, taken or refused, and rounds at its end: after

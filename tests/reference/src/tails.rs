@@ -1,6 +1,7 @@
 //! Tails for tests: those that are taken, those that are not, and calls that set them.
 
-use crate::generate::{call_list, full_state, Kind, Random};
+use crate::examples::{comb, cross, deck, example, mixed};
+use crate::generate::{call_list, full_state, Kind, Random, KINDS};
 use crate::session::{round, Call, Reply, State};
 
 /// Tails that are taken: both ends, beside them, and others.
@@ -41,6 +42,17 @@ pub fn with_tails(random: &mut Random, kind: Kind, from: &State, calls: usize) -
     let list = call_list(random, kind, from, calls);
     let tail = |one| [Call::SetTail(any_tail(random)), one];
     list.into_iter().flat_map(tail).collect()
+}
+
+/// Decks of every kind, with taps and devices, of few points and of the most.
+pub fn decks(seed: u64, count: usize) -> Vec<State> {
+    let mut random = Random::new(seed);
+    let mut found = vec![State::default(), deck(&[(7, -3)]), example(), cross()];
+    found.extend([mixed(cross()), comb(62), mixed(comb(62))]);
+    for kind in KINDS {
+        found.extend((0..count).map(|_| full_state(&mut random, kind, 12)));
+    }
+    found
 }
 
 /// Decks with a tail on which a round takes out two taps or more, its own among them or

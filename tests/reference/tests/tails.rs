@@ -2,7 +2,7 @@
 //! versions are told apart.
 
 use reference::all_trees::enumerated;
-use reference::examples::{comb, cross, deck, example, mixed, CROSS};
+use reference::examples::{cross, deck, CROSS};
 use reference::file::{read, write};
 use reference::generate::{full_state, pins, Random, KINDS};
 use reference::listed::Listed;
@@ -14,7 +14,7 @@ use reference::session::*;
 use reference::tail_rows::ROWS;
 use reference::tail_rules::right_by_rule;
 use reference::tail_variants::{Player, WRONG_PLAYERS};
-use reference::tails::{sweeping, with_tails, NO_TAILS, SIGNED_TAILS, TAILS};
+use reference::tails::{decks, sweeping, with_tails, NO_TAILS, SIGNED_TAILS, TAILS};
 use reference::tree::tree;
 
 /// The answers of a player to the lines of a session.
@@ -47,17 +47,6 @@ fn wrong_versions_show() {
         println!("{title}: {}", rows.join("; "));
         assert!(!rows.is_empty(), "{title}");
     }
-}
-
-/// Decks of every kind, with taps and devices.
-fn decks(seed: u64, count: usize) -> Vec<State> {
-    let mut random = Random::new(seed);
-    let mut found = vec![State::default(), deck(&[(7, -3)]), example(), cross()];
-    found.extend([mixed(cross()), comb(62), mixed(comb(62))]);
-    for kind in KINDS {
-        found.extend((0..count).map(|_| full_state(&mut random, kind, 12)));
-    }
-    found
 }
 
 /// Tails up to 500 are taken, and every greater one is refused by 16.

@@ -74,9 +74,7 @@ fn main() {
     let mut random = Random::new(2_027);
     let uniform = |_| on_grid(&mut random, 60, 1_000, 1_000, 1);
     let decks: Vec<Vec<Point>> = (0..10).map(uniform).collect();
-    println!(
-        "| pins | decks | tail, cm | rounds | taps | length, cm | without tails, cm |"
-    );
+    println!("| pins | decks | tail, cm | rounds | taps | length, cm | without tails, cm |");
     println!("|---|---:|---:|---:|---:|---:|---:|");
     lines("60, uniform, 1000 x 1000", &decks);
     lines("64, two lanes of pitch 250", &[lanes()]);
