@@ -1,6 +1,7 @@
 -- The struct of a deck (SPEC 5.1) and the contents that it stands for.
 use mathlib.Core.Path.{_≡_}
 use mathlib.Core.Bool.{Bool, _&&_}
+use Prim.Native.Nat.{ℕ}
 use lib.Dec.{eqb}
 use lib.ListN.{take}
 use Rattle.arrays.specs.Same.{sameList}
@@ -23,9 +24,12 @@ contentsOf d = withTail (d .tail) (withKinds (coded.stateOf (d .points)) (take (
 abbrev pub stateOf : Deck → State
 stateOf d = contentsOf d .state
 
--- A deck without its tail, and all else kept.
+-- A deck with another tail, and every other place as it is; and one without tails.
+abbrev pub tailedDeck : Deck → ℕ → Deck
+tailedDeck d tail = record { points = d .points; kinds = d .kinds; tail = tail; ends = d .ends }
+
 abbrev pub withoutTail : Deck → Deck
-withoutTail d = record { points = d .points; kinds = d .kinds; tail = noTail; ends = d .ends }
+withoutTail d = tailedDeck d noTail
 
 -- A sound deck (SPEC 5.2): it is the deck of valid contents, in every place.
 pub record Sound (d : Deck) : Type 0 where

@@ -22,9 +22,9 @@ use Rattle.calls.specs.Changes.{replyOf}
 use Rattle.questions.specs.declared.Answer.the-variants.{Length}
 use Rattle.questions.specs.Answers.{ofLength}
 use Rattle.deck.specs.declared.Deck.{Deck}
-use Rattle.deck.specs.Form.{deckOf, contentsOf, stateOf, Sound}
+use Rattle.deck.specs.Form.{deckOf, contentsOf, stateOf, tailedDeck, Sound}
 use Rattle.deck.specs.Calls.{called}
-use Rattle.demands.specs.Tails.{tailedDeck, DeckTails}
+use Rattle.demands.specs.Tails.{DeckTails}
 use Rattle.demands.proofs.Replies.{done-reply, refused-reply}
 use Rattle.demands.proofs.Method.{answered, next-is, reply-is, next-contents}
 

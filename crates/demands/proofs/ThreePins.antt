@@ -15,6 +15,7 @@ use Rattle.model.specs.Contents.{Contents, emptyContents, ValidContents}
 use Rattle.model.specs.Round.{RoundResult, Ended, finished, round, finish}
 use Rattle.model.specs.Tree.{treeLength}
 use Rattle.model.specs.Tail.{noTail}
+use Rattle.model.specs.TailClaim.{SetsNoTail}
 use Rattle.model.specs.State.{points}
 use Rattle.model.specs.Question.{lengthOfState}
 use Rattle.model.proofs.Tail.{tree-no-tails}
@@ -55,7 +56,7 @@ module _ (d : Deck) (s : Sound d) (bare : d .tail ≡ noTail) (p q r : Point) wh
 -- Sound decks of three pins.
 module _ (d : Deck) (s : Sound d) (bare : d .tail ≡ noTail) (p q r : Point) (pins : PinsAre d p q r) where
   -- After a round or a run to the end, which keep the tail.
-  after : (c : call.Call) → ((t : ℕ) → ¬ (c ≡ call.setTail t))
+  after : (c : call.Call) → SetsNoTail c
       → treeLength (points (call.step (contentsOf d) c .next .state)) ≡ halfPerimeter (p ∷ q ∷ r ∷ []) → LengthIsHalfPerimeter (called d c .next) p q r
   after c n e =
       length-answered (called d c .next) (next-sound d s c) (deck-tails d s .kept c n ∙ bare) p q r

@@ -5,19 +5,15 @@ use Prim.Native.Nat.{ℕ, _+_, _*_, _-_, _≤_}
 use lib.ListN.{length}
 use Rattle.model.specs.State.{points}
 use Rattle.model.specs.Tree.{treeLength}
-use Rattle.model.specs.TailClaim.{Tails}
+use Rattle.model.specs.TailClaim.{SetsNoTail, Tails}
 use Rattle.model.specs.Call as call
 use Rattle.calls.specs.declared.Reply.the-variants as reply
 use Rattle.questions.specs.declared.Answer.the-variants.{Length}
 use Rattle.questions.specs.Answers.{ofLength}
 use Rattle.deck.specs.declared.Deck.{Deck}
-use Rattle.deck.specs.Form.{stateOf}
+use Rattle.deck.specs.Form.{stateOf, tailedDeck}
 use Rattle.deck.specs.Calls.{called}
 use Rattle.deck.specs.Questions.{asked}
-
--- The deck with another tail, and every other place as it is.
-abbrev pub tailedDeck : Deck → ℕ → Deck
-tailedDeck d tail = record { points = d .points; kinds = d .kinds; tail = tail; ends = d .ends }
 
 pub record DeckTails (d : Deck) : Type 0 where
   -- a sound deck has one of at most 500
@@ -27,7 +23,7 @@ pub record DeckTails (d : Deck) : Type 0 where
   pub done : (tail : ℕ) → (called d (call.setTail tail) .reply ≡ reply.Done) ↔ (tail ≤ 500)
   pub set : (tail : ℕ) → tail ≤ 500 → called d (call.setTail tail) .next ≡ tailedDeck d tail
   -- every other call keeps it
-  pub kept : (c : call.Call) → ((tail : ℕ) → ¬ (c ≡ call.setTail tail)) → called d c .next .tail ≡ d .tail
+  pub kept : (c : call.Call) → SetsNoTail c → called d c .next .tail ≡ d .tail
   -- the length: the distances of the tree together, and two tails for each run, of which there is one less than points
   pub measured : asked d ofLength ≡ Length (treeLength (points (stateOf d)) + 2 * d .tail * (length (points (stateOf d)) - 1))
   -- the order of runs and THE tree of points are those without tails

@@ -12,7 +12,7 @@ use Rattle.model.specs.File.{Read, deck, refusal}
 use Rattle.model.specs.Listing.{refusedLine}
 use Rattle.ascii.specs.Text.{fitting}
 use Rattle.ascii.proofs.Room.{front-none, front-put, front-fits}
-use Rattle.listing.specs.Whole.{lineRoom}
+use Rattle.ascii.specs.Line.{lineRoom}
 use Rattle.listing.specs.Printed.{isRefused, printedText, Prints}
 
 module _ (room : ℕ) (text : Contents → List ℕ) (read : Read) (before : List ℕ) where

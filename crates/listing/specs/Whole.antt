@@ -6,12 +6,9 @@ use Rattle.model.specs.Listing.{listing, refusedLine}
 use Rattle.deck.specs.declared.Deck.{Deck}
 use Rattle.deck.specs.Form.{contentsOf, sound}
 
--- Room for every listing, and for the line of a refusal.
+-- Room for every listing.
 abbrev pub listingRoom : ℕ
 listingRoom = 8704
-
-abbrev pub lineRoom : ℕ
-lineRoom = 128
 
 -- The listing of a deck (SPEC 9.2), or refusal 11 where it is not sound.
 abbrev pub deckText : Deck → List ℕ

@@ -1,4 +1,5 @@
 // The listing of a deck, in ASCII, written to the caller's slice.
+use ascii::line::LINE_ROOM;
 use ascii::refused_line;
 use deck::Deck;
 use deck::check::check;
@@ -18,14 +19,12 @@ ghost use Rattle.arrays.specs.Paste.{Pasted};
 ghost use Rattle.working.specs.InOrder.{InOrder, stateOf};
 ghost use Rattle.working.specs.WorkingDeck.{contentsOf};
 ghost use Rattle.ascii.specs.Text.{fitting};
-ghost use Rattle.listing.specs.Whole.{listingRoom, lineRoom, deckText};
+ghost use Rattle.ascii.specs.Line.{lineRoom};
+ghost use Rattle.listing.specs.Whole.{listingRoom, deckText};
 
 // Room for every listing: the head line, the line of kinds, 62 tap lines and 125 run lines, at most 7,878 bytes. The rest is for further fields of a
 // point.
 pub const LISTING_ROOM: usize = 8704;
-
-// Room for the line of a refusal.
-const LINE_ROOM: usize = 128;
 
 // What a program prints for a deck file: so many bytes, on standard error where the file was refused, else on standard output.
 pub struct Printed {

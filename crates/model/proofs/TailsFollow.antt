@@ -11,7 +11,7 @@ use Rattle.model.specs.DeviceKinds.{sensor}
 use Rattle.model.specs.Contents.{Contents, withTail, following}
 use Rattle.model.specs.Call.{Call, add, withdraw, oneRound, runToEnd, setTail, refused}
 use Rattle.model.specs.Call.{insertRefusal, removeRefusal, tailRefusal, unless, step, contentsAfter}
-use Rattle.model.specs.TailClaim.{TailsFollow}
+use Rattle.model.specs.TailClaim.{SetsNoTail, TailsFollow}
 use Rattle.model.proofs.Refusal.{unless-next, unless-kept}
 
 -- Of contents that a call leaves, or keeps: what both have.
@@ -20,7 +20,7 @@ either f none c d e = e
 either f (some n) c d e = refl
 
 module _ (c : Contents) where
-  besides : (k : Call) → ((tail : ℕ) → ¬ (k ≡ setTail tail)) → step c k .next .tail ≡ c .tail
+  besides : (k : Call) → SetsNoTail k → step c k .next .tail ≡ c .tail
   unfolding step
   besides (add p k) n = either (λ (d : Contents). d .tail) (insertRefusal p k (c .state)) c (following k c (insert p (c .state))) refl
   besides (withdraw p) n = either (λ (d : Contents). d .tail) (removeRefusal p (c .state)) c (following sensor c (remove p (c .state))) refl
@@ -48,9 +48,6 @@ module _ (c : Contents) where
       }
 
 -- A list of calls none of which sets it.
-abbrev pub SetsNoTail : Call → Type 0
-SetsNoTail k = (tail : ℕ) → ¬ (k ≡ setTail tail)
-
 pub adding-sets-none : (p : Point) (k : ℕ) → SetsNoTail (add p k)
 adding-sets-none p k tail e = let z : _≡_ {A = ℕ} 0 1 = cc in omega arith
 

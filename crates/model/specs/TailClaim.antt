@@ -35,6 +35,10 @@ pub record Tails (tail : ℕ) : Type 0 where
   pub order : (r s : Edge) → beforeWith tail r s ≡ before r s
   pub tree : (ps : List Point) → Sorted Lower ps → (t : List Edge) → TheTreeWith tail ps t ↔ TheTree ps t
 
+-- A call that is not the one that sets the tail.
+abbrev pub SetsNoTail : Call → Type 0
+SetsNoTail k = (tail : ℕ) → ¬ (k ≡ setTail tail)
+
 -- What calls on the contents c do to the tail (SPEC 4.8).
 pub record TailsFollow (c : Contents) : Type 0 where
   -- setting it keeps the points, and so the runs, and the kinds; the tail is the one given where the call is done
@@ -43,4 +47,4 @@ pub record TailsFollow (c : Contents) : Type 0 where
   pub set : (tail : ℕ) → step c (setTail tail) .reply ≡ done → step c (setTail tail) .next .tail ≡ tail
   -- a call that is refused keeps it, and so does every call but this one
   pub turnedDown : (k : Call) (n : ℕ) → step c k .reply ≡ refused n → step c k .next .tail ≡ c .tail
-  pub besides : (k : Call) → ((tail : ℕ) → ¬ (k ≡ setTail tail)) → step c k .next .tail ≡ c .tail
+  pub besides : (k : Call) → SetsNoTail k → step c k .next .tail ≡ c .tail

@@ -19,7 +19,8 @@ use Rattle.model.specs.Tail.{noTail}
 use Rattle.model.specs.Call.{Call, add, done, refused, insertRefusal, unless, step, contentsAfter}
 use Rattle.model.specs.File.{deck, plainFileOf, readFile}
 use Rattle.model.proofs.PlainFile.{pins-alone, plain-read}
-use Rattle.model.proofs.TailsFollow.{SetsNoTail, adding-sets-none, tail-after}
+use Rattle.model.specs.TailClaim.{SetsNoTail}
+use Rattle.model.proofs.TailsFollow.{adding-sets-none, tail-after}
 use Rattle.model.proofs.Session.{empty-contents}
 use Rattle.model.proofs.Step.{after-valid}
 use Rattle.lines.specs.Lines.{allLines, stateAfter}

@@ -21,7 +21,7 @@ use Rattle.ascii.proofs.Room.{front-put}
 use Rattle.deckfile.specs.Answer.{answerNumber, answerBuffer}
 use Rattle.deckfile.proofs.answer.Entry.{entered}
 use Rattle.planner.specs.Entry.{toEnd}
-use Rattle.listing.specs.Whole.{lineRoom}
+use Rattle.ascii.specs.Line.{lineRoom}
 use Rattle.listing.specs.Printed.{Prints}
 use Rattle.listing.proofs.ForFile.{prints-refusal, prints-deck}
 use Rattle.deckplan.specs.Plan.{plannedFile}
