@@ -16,15 +16,15 @@ unfoldable pub signed32 : ℕ → ℤ
 signed32 n = subℕ n (4294967296 * (n / 2147483648))
 
 -- The point of two numbers of 32 bits, each in two's complement.
-abbrev pub pointOf : ℕ → ℕ → Point
-pointOf u v = record { x = signed32 u; y = signed32 v }
+abbrev pub signedPoint : ℕ → ℕ → Point
+signedPoint u v = record { x = signed32 u; y = signed32 v }
 
 -- The call with this number: 0 adds a device of kind k and 1 withdraws, at the point of u and v; 2 is a round, 3 a run to the end; 4 sets the tail
 -- length to u, which has no sign. Any other number is no call.
 unfoldable pub callOf : ℕ → ℕ → ℕ → ℕ → List Call
 callOf n k u v =
-    if (eqb n 0) (λ _. add (pointOf u v) k ∷ [])
-    (λ _. if (eqb n 1) (λ _. withdraw (pointOf u v) ∷ [])
+    if (eqb n 0) (λ _. add (signedPoint u v) k ∷ [])
+    (λ _. if (eqb n 1) (λ _. withdraw (signedPoint u v) ∷ [])
     (λ _. if (eqb n 2) (λ _. oneRound ∷ [])
     (λ _. if (eqb n 3) (λ _. runToEnd ∷ [])
     (λ _. if (eqb n 4) (λ _. setTail u ∷ []) (λ _. [])))))

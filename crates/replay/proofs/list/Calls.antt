@@ -14,7 +14,7 @@ use Rattle.deck.specs.declared.Deck.{Deck}
 use Rattle.deck.specs.declared.Outcome.{Outcome}
 use Rattle.deck.specs.Calls.{called}
 use Rattle.deck.specs.Session.{deckAfter}
-use Rattle.replay.specs.Calls.{signed32, pointOf, callOf, callAt, firstCalls}
+use Rattle.replay.specs.Calls.{signed32, signedPoint, callOf, callAt, firstCalls}
 
 -- The call of the number k, on the deck d.
 module _ (d : Deck) {o : Outcome} {n k : ℕ} (is : n ≡ k) (kind u v : ℕ) where
@@ -23,7 +23,7 @@ module _ (d : Deck) {o : Outcome} {n k : ℕ} (is : n ≡ k) (kind u v : ℕ) wh
   one-call f e = ap (λ (z : Outcome). z .next) e ∙ sym (ap (deckAfter d) (ap (λ (m : ℕ). callOf m kind u v) is ∙ f))
 
   -- That of a call at a point, whose numbers are read back from their bits.
-  pub point-call : (call : Point → Call) (x y : ℤ) → x ≡ signed32 u → y ≡ signed32 v → callOf k kind u v ≡ call (pointOf u v) ∷ []
+  pub point-call : (call : Point → Call) (x y : ℤ) → x ≡ signed32 u → y ≡ signed32 v → callOf k kind u v ≡ call (signedPoint u v) ∷ []
       → o ≡ called d (call (record { x = x; y = y })) → o .next ≡ deckAfter d (callOf n kind u v)
   point-call call x y ex ey f e = one-call f (e ∙ (λ i. called d (call (record { x = ex i; y = ey i }))))
 
