@@ -23,8 +23,8 @@ second-arm : (t : Bool) (v x y : ℕ) → (T (not t) → x ≡ y) → if t (λ _
 second-arm true v x y e = refl
 second-arm false v x y e = e tt
 
--- Numbers that agree on the members of a list are the same along it.
-pub map-members : {A : Type 0} (f g : A → ℕ) (l : List A) → ((a : A) → List·Memᴰ a l → f a ≡ g a) → map f l ≡ map g l
+-- What agrees on the members of a list is the same along it.
+pub map-members : {A B : Type 0} (f g : A → B) (l : List A) → ((a : A) → List·Memᴰ a l → f a ≡ g a) → map f l ≡ map g l
 map-members f g [] h = refl
 map-members f g (a ∷ l) h = ap₂ _∷_ (h a (head refl)) (map-members f g l (λ b i. h b (tail i)))
 

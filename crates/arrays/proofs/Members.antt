@@ -3,6 +3,9 @@ use mathlib.Core.Path.{_≡_, refl, sym, _∙_, ap, ap₂, subst}
 use mathlib.Core.Logic.{_↔_, _⊎_, inl, inr, ⊎-elim}
 use mathlib.Core.List.{List, [], _∷_, _++_, List·Memᴰ, List·Memᴰ·head as head, List·Memᴰ·tail as tail}
 use mathlib.Core.List.{List·Memᴰ·cases-cons as cases, List·Memᴰ·not-nil as not-nil, List·Memᴰ·append-cases, Memᴰ·append-left, Memᴰ·append-right}
+use Prim.Native.Nat.{_≤_}
+use native.Mathlib.Omega.{arith}
+use lib.ListN.{length}
 use Rattle.arrays.specs.Order.{StrictTotal, Sorted}
 use Rattle.arrays.specs.Set.{Each}
 
@@ -34,6 +37,11 @@ module _ {A : Type 0} where
 
   pub mem-swap-next : {a b c d : A} {l : List A} → List·Memᴰ d (a ∷ b ∷ c ∷ l) → List·Memᴰ d (a ∷ c ∷ b ∷ l)
   mem-swap-next m = ⊎-elim head (λ k. tail (mem-swap k)) (cases m)
+
+  -- A list with a member is not empty.
+  pub member-length : {a : A} {l : List A} → List·Memᴰ a l → 1 ≤ length l
+  member-length (head p) = omega arith
+  member-length (tail m) = omega (arith, member-length m)
 
   -- What holds of each element holds of the members.
   pub mem-each : (Q : A → Type 0) (l : List A) → Each Q l → {a : A} → List·Memᴰ a l → Q a

@@ -18,6 +18,11 @@ tied less o a b f g = ⊎-elim (λ h. absurd (T-not (less a b) f h)) (λ h. ⊎-
 pub not-less : {K : Type 0} (less : K → K → Bool) → StrictTotal (λ (a b : K). T (less a b)) → (a b : K) → a ≡ b → T (not (less a b))
 not-less {K} less o a b e = not-T (less a b) (λ h. o .irrefl b (subst (λ (z : K). T (less z b)) e h))
 
+-- What comes before c comes before everything that does not.
+pub before-later : {A : Type 0} {before : A → A → Type 0} → StrictTotal before → (a b c : A) → before a c → ¬ before b c → before a b
+before-later {before = before} o a b c h n =
+    ⊎-elim (λ k. absurd (n k)) (λ r. ⊎-elim (λ e. subst⁻¹ (before a) e h) (λ k. o .trans a c b h k) r) (o .compare b c)
+
 module _ {A K : Type 0} (key : A → K) (less : K → K → Bool) (o : StrictTotal (λ (a b : K). T (less a b))) (next : A → A → Bool)
     (next-irrefl : (a : A) → ¬ T (next a a)) (next-trans : (a b c : A) → T (next a b) → T (next b c) → T (next a c))
     (next-compare : (a b : A) → key a ≡ key b → T (next a b) ⊎ ((a ≡ b) ⊎ T (next b a))) where

@@ -4,11 +4,13 @@ use mathlib.Core.Logic.{_⊎_, inl, inr, ⊎-elim, _↔_}
 use mathlib.Core.Bool.{Bool, true, false, not}
 use mathlib.Core.List.{List, [], _∷_, _++_, List·Memᴰ, List·Memᴰ·head as head, List·Memᴰ·tail as tail}
 use mathlib.Core.List.{List·Memᴰ·cases-cons as cases, List·Memᴰ·not-nil as not-nil, List·Memᴰ·append-cases}
-use Prim.Native.Nat.{suc, _+_}
+use Prim.Native.Nat.{suc, _+_, _≤_, _<_}
 use native.Mathlib.Nat.{zero-add, suc-add}
+use native.Mathlib.Omega.{arith}
 use lib.Dec.{T, T-not, not-T}
 use lib.ListN.{length}
 use Rattle.arrays.specs.Order.{StrictTotal, Sorted}
+use Rattle.arrays.specs.Test.{if}
 use Rattle.arrays.proofs.Members.{sorted-ext}
 use Rattle.arrays.proofs.Order.{tied}
 use Rattle.arrays.proofs.Test.{by-test, and-parts, and-both}
@@ -38,6 +40,44 @@ passing-in {A} f (b ∷ l) a =
       λ p. ⊎-elim (λ e. absurd (T-not (f b) n (subst (λ z. T (f z)) e (p .1)))) (λ j. rest .1 (j, p .1)) (cases (p .0)),
     ))
 
+pub passing-sorted : {A : Type 0} (before : A → A → Type 0) (f : A → Bool) (l : List A) → Sorted before l → Sorted before (passing f l)
+unfolding passing
+passing-sorted before f [] s = tt
+passing-sorted before f (a ∷ l) s =
+    by-test (Sorted before) (f a) _ _ (λ _. (λ b i. s .0 b (passing-in f l b .0 i .0), passing-sorted before f l (s .1)))
+    (λ _. passing-sorted before f l (s .1))
+
+pub passing-append : {A : Type 0} (f : A → Bool) (l m : List A) → passing f (l ++ m) ≡ passing f l ++ passing f m
+unfolding passing
+passing-append f [] m = refl
+passing-append {A} f (a ∷ l) m = go (f a) (passing-append f l m)
+  where
+    go : (b : Bool) → passing f (l ++ m) ≡ passing f l ++ passing f m
+        → if b (λ _. a ∷ passing f (l ++ m)) (λ _. passing f (l ++ m)) ≡ if b (λ _. a ∷ passing f l) (λ _. passing f l) ++ passing f m
+    go true e = ap (λ (k : List A). a ∷ k) e
+    go false e = e
+
+-- How many pass: no more than there are, fewer where one does not, and all where each does.
+pub passing-most : {A : Type 0} (f : A → Bool) (l : List A) → length (passing f l) ≤ length l
+unfolding passing
+passing-most f [] = omega arith
+passing-most {A} f (a ∷ l) =
+    by-test (λ (m : List A). length m ≤ length (a ∷ l)) (f a) _ _ (λ _. omega (arith, passing-most f l)) (λ _. omega (arith, passing-most f l))
+
+pub passing-fewer : {A : Type 0} (f : A → Bool) (l : List A) (a : A) → List·Memᴰ a l → ¬ T (f a) → length (passing f l) < length l
+unfolding passing
+passing-fewer f [] a i n = absurd (not-nil i)
+passing-fewer {A} f (b ∷ l) a i n =
+    by-test (λ (m : List A). length m < length (b ∷ l)) (f b) _ _
+    (λ t. ⊎-elim (λ e. absurd (n (subst (λ z. T (f z)) (sym e) t))) (λ j. omega (arith, passing-fewer f l a j n)) (cases i))
+    (λ _. omega (arith, passing-most f l))
+
+pub passing-all : {A : Type 0} (f : A → Bool) (l : List A) → ((a : A) → List·Memᴰ a l → T (f a)) → passing f l ≡ l
+unfolding passing
+passing-all f [] h = refl
+passing-all {A} f (a ∷ l) h =
+    by-test (λ (m : List A). m ≡ a ∷ l) (f a) _ _ (λ _. ap (λ m. a ∷ m) (passing-all f l (λ b i. h b (tail i)))) (λ n. absurd (T-not (f a) n (h a (head refl))))
+
 -- Two sorted lists, each member of the one before each of the other, are sorted end to end.
 pub sorted-append : {A : Type 0} {before : A → A → Type 0} (l m : List A) → Sorted before l → Sorted before m
     → ((a b : A) → List·Memᴰ a l → List·Memᴰ b m → before a b) → Sorted before (l ++ m)
@@ -53,6 +93,9 @@ module _ {A : Type 0} (less : A → A → Bool) (order : StrictTotal (λ (a b : 
 
   pub tie-eq : (a b : A) → T (tie less a b) → a ≡ b
   tie-eq a b t = tied less order a b (and-parts (not (less a b)) (not (less b a)) t .0) (and-parts (not (less a b)) (not (less b a)) t .1)
+
+  pub tie-self : (a : A) → T (tie less a a)
+  tie-self a = and-both (not (less a a)) (not (less a a)) (not-T (less a a) (order .irrefl a)) (not-T (less a a) (order .irrefl a))
 
   pub no-tie : (a b : A) → T (not (tie less a b)) → ¬ (a ≡ b)
   no-tie a b n e =

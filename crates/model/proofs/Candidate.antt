@@ -14,11 +14,11 @@ use Rattle.arrays.specs.Order.{Sorted}
 use Rattle.plane.specs.Point.{Point, lower, Lower}
 use Rattle.plane.proofs.Whole.{sub-value, less-value, value-less}
 use Rattle.plane.proofs.Order.{lower-order, whole-order}
-use Rattle.arrays.proofs.Test.{by-test, thenBy-first, thenBy-next}
-use Rattle.arrays.specs.Set.{has, setOf}
-use Rattle.model.specs.Round.{column, crossings, notHeld, candidates}
+use Rattle.arrays.proofs.Test.{thenBy-first, thenBy-next}
+use Rattle.arrays.specs.Set.{has}
+use Rattle.model.specs.Round.{xsOf, ysOf, column, crossings, notHeld, candidates}
 use Rattle.model.specs.Choice.{Candidate}
-use Rattle.arrays.proofs.Set.{has-in, has-not, set-of-in, set-of-sorted, sorted-append}
+use Rattle.arrays.proofs.Set.{has-not, set-of-in, set-of-sorted, sorted-append, passing-in, passing-sorted}
 
 pub map-in : {A B : Type 0} (f : A → B) (l : List A) (b : B) → List·Memᴰ b (map f l) ↔ ((a : A) × List·Memᴰ a l × (b ≡ f a))
 map-in f [] b = (λ i. absurd (not-nil i), λ r. absurd (not-nil (r .1)))
@@ -43,47 +43,32 @@ crossings-in (x ∷ xs) ys c = (
       (λ j. Memᴰ·append-right (column x ys) (crossings-in xs ys c .1 (j, r .1))) (cases (r .0)),
 )
 
-not-held-in : (ps l : List Point) (c : Point) → List·Memᴰ c (notHeld ps l) ↔ (List·Memᴰ c l × ¬ List·Memᴰ c ps)
+pub not-held-in : (ps l : List Point) (c : Point) → List·Memᴰ c (notHeld ps l) ↔ (List·Memᴰ c l × ¬ List·Memᴰ c ps)
 unfolding notHeld
-not-held-in ps [] c = (λ i. absurd (not-nil i), λ r. absurd (not-nil (r .0)))
-not-held-in ps (a ∷ l) c =
-    by-test (λ (m : List Point). List·Memᴰ c m ↔ (List·Memᴰ c (a ∷ l) × ¬ List·Memᴰ c ps)) (has lower a ps) (λ _. notHeld ps l) (λ _. a ∷ notHeld ps l)
-    (λ h. (
-      λ i. let r = not-held-in ps l c .0 i in (tail (r .0), r .1),
-      λ r. ⊎-elim (λ e. absurd (r .1 (subst⁻¹ (λ (z : Point). List·Memᴰ z ps) e (has-in lower lower-order a ps .0 h))))
-          (λ j. not-held-in ps l c .1 (j, r .1)) (cases (r .0)),
-    ))
-    (λ n. (
-      λ i. ⊎-elim (λ e. (head e, λ j. has-not lower lower-order a ps .0 n (subst (λ (z : Point). List·Memᴰ z ps) e j)))
-          (λ j. let r = not-held-in ps l c .0 j in (tail (r .0), r .1)) (cases i),
-      λ r. ⊎-elim (λ e. head e) (λ j. tail (not-held-in ps l c .1 (j, r .1))) (cases (r .0)),
-    ))
+not-held-in ps l c =
+    let there = passing-in (λ (p : Point). not (has lower p ps)) l c in
+    let free = has-not lower lower-order c ps in
+    (λ i. let r = there .0 i in (r .0, free .0 (r .1)), λ r. there .1 (r .0, free .1 (r .1)))
 
 -- The candidates are what SPEC 4.4 calls so.
 pub candidates-are : (ps : List Point) (c : Point) → List·Memᴰ c (candidates ps) ↔ Candidate ps c
 unfolding candidates
 candidates-are ps c = (
-  λ i. let r = not-held-in ps (crossings xs ys) c .0 i in
-      let m = crossings-in xs ys c .0 (r .0) in
+  λ i. let r = not-held-in ps (crossings (xsOf ps) (ysOf ps)) c .0 i in
+      let m = crossings-in (xsOf ps) (ysOf ps) c .0 (r .0) in
       record {
         onX = map-in (λ (p : Point). p .x) ps (c .x) .0 (set-of-in ltZ whole-order (map (λ (p : Point). p .x) ps) (c .x) .0 (m .0));
         onY = map-in (λ (p : Point). p .y) ps (c .y) .0 (set-of-in ltZ whole-order (map (λ (p : Point). p .y) ps) (c .y) .0 (m .1));
         free = r .1;
       },
-  λ r. not-held-in ps (crossings xs ys) c .1 (
-    crossings-in xs ys c .1 (
+  λ r. not-held-in ps (crossings (xsOf ps) (ysOf ps)) c .1 (
+    crossings-in (xsOf ps) (ysOf ps) c .1 (
       set-of-in ltZ whole-order (map (λ (p : Point). p .x) ps) (c .x) .1 (map-in (λ (p : Point). p .x) ps (c .x) .1 (r .onX)),
       set-of-in ltZ whole-order (map (λ (p : Point). p .y) ps) (c .y) .1 (map-in (λ (p : Point). p .y) ps (c .y) .1 (r .onY)),
     ),
     r .free,
   ),
 )
-  where
-    xs : List ℤ
-    xs = setOf ltZ (map (λ (p : Point). p .x) ps)
-
-    ys : List ℤ
-    ys = setOf ltZ (map (λ (p : Point). p .y) ps)
 
 lower-by-x : (a b : Point) → T (ltZ (a .x) (b .x)) → Lower a b
 unfolding lower
@@ -101,7 +86,7 @@ unfolding column
 column-x x ys c i = ap (λ (p : Point). p .x) (map-in (λ (y : ℤ). record { x = x; y = y }) ys c .0 i .2)
 
 -- Points of one column rise where their y rise; and every point of a column is lower than those of a column with a greater x.
-column-rises : (x : ℤ) (ys : List ℤ) → Sorted (λ (a b : ℤ). T (ltZ a b)) ys → Sorted Lower (column x ys)
+pub column-rises : (x : ℤ) (ys : List ℤ) → Sorted (λ (a b : ℤ). T (ltZ a b)) ys → Sorted Lower (column x ys)
 unfolding column
 column-rises x [] s = tt
 column-rises x (y ∷ ys) s = (
@@ -118,25 +103,17 @@ crossings-rise (x ∷ xs) ys s t =
     (λ a b i j. lower-by-x a b
     (subst⁻¹ (λ (z : ℤ). T (ltZ z (b .x))) (column-x x ys a i) (s .0 (b .x) (crossings-in xs ys b .0 j .0))))
 
-not-held-rises : (ps l : List Point) → Sorted Lower l → Sorted Lower (notHeld ps l)
+pub not-held-rises : (ps l : List Point) → Sorted Lower l → Sorted Lower (notHeld ps l)
 unfolding notHeld
-not-held-rises ps [] s = tt
-not-held-rises ps (a ∷ l) s =
-    by-test (Sorted Lower) (has lower a ps) (λ _. notHeld ps l) (λ _. a ∷ notHeld ps l) (λ h. not-held-rises ps l (s .1))
-    (λ n. (λ c i. s .0 c (not-held-in ps l c .0 i .0), not-held-rises ps l (s .1)))
+not-held-rises ps l s = passing-sorted Lower (λ (p : Point). not (has lower p ps)) l s
 
 -- The candidates come lower first, without repeats.
 pub candidates-rise : (ps : List Point) → Sorted Lower (candidates ps)
 unfolding candidates
 candidates-rise ps =
-    not-held-rises ps (crossings xs ys)
-    (crossings-rise xs ys (set-of-sorted ltZ whole-order (map (λ (p : Point). p .x) ps)) (set-of-sorted ltZ whole-order (map (λ (p : Point). p .y) ps)))
-  where
-    xs : List ℤ
-    xs = setOf ltZ (map (λ (p : Point). p .x) ps)
-
-    ys : List ℤ
-    ys = setOf ltZ (map (λ (p : Point). p .y) ps)
+    not-held-rises ps (crossings (xsOf ps) (ysOf ps))
+    (crossings-rise (xsOf ps) (ysOf ps) (set-of-sorted ltZ whole-order (map (λ (p : Point). p .x) ps))
+    (set-of-sorted ltZ whole-order (map (λ (p : Point). p .y) ps)))
 
 -- A greater saving is a shorter tree.
 pub save-less : (now m n : ℕ) → T (ltZ (subℕ now m) (subℕ now n)) → n < m

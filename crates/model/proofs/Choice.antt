@@ -23,14 +23,14 @@ use Rattle.model.proofs.Candidate.{candidates-are, candidates-rise, les
 
 -- What the search among a rising list cs finds, beside what was found before: nothing that saves more than `top`, or of those
 -- that save most the lowest.
-data Search (tail now : ℕ) (ps cs : List Point) (top : ℤ) (found : Option Point) : Option Point → Type 0 where
+pub data Search (tail now : ℕ) (ps cs : List Point) (top : ℤ) (found : Option Point) : Option Point → Type 0 where
   nothing : ((c : Point) → List·Memᴰ c cs → ¬ T (ltZ top (saving tail now ps c))) → Search tail now ps cs top found found
   better : (c : Point) → List·Memᴰ c cs → T (ltZ top (saving tail now ps c))
       → ((d : Point) → List·Memᴰ d cs → ¬ T (ltZ (saving tail now ps c) (saving tail now ps d)))
       → ((d : Point) → List·Memᴰ d cs → saving tail now ps d ≡ saving tail now ps c → (d ≡ c) ⊎ Lower c d)
       → Search tail now ps cs top found (some c)
 
-search : (tail now : ℕ) (ps : List Point) (top : ℤ) (found : Option Point) (cs : List Point) → Sorted Lower cs
+pub search : (tail now : ℕ) (ps : List Point) (top : ℤ) (found : Option Point) (cs : List Point) → Sorted Lower cs
     → Search tail now ps cs top found (bestAbove tail now ps top found cs)
 unfolding bestAbove
 search tail now ps top found [] rise = nothing (λ c i. absurd (not-nil i))
@@ -86,16 +86,20 @@ pub same-lowest : (c d : Point) → (c ≡ d) ⊎ Lower d c → (d ≡ c) ⊎ Lo
 same-lowest c d h k =
     ⊎-elim (λ e. e) (λ l. ⊎-elim (λ e. sym e) (λ m. absurd (lower-order .irrefl c (lower-order .trans c d c m l))) k) h
 
--- Only one candidate is chosen: of two neither saves more, and neither is lower.
-pub chosen-unique : (tail : ℕ) (ps : List Point) (c d : Point) → Chosen tail ps c → Chosen tail ps d → c ≡ d
-chosen-unique tail ps c d h k =
-    same-lowest c d (k .lowest c (h .candidate) same) (h .lowest d (k .candidate) (sym same))
+-- Two points of which neither saves more, and each is the other or lower where they save as much, are one.
+pub same-choice : (tail : ℕ) (ps : List Point) (c d : Point) → ¬ T (ltZ (saved tail ps c) (saved tail ps d)) → ¬ T (ltZ (saved tail ps d) (saved tail ps c))
+    → (saved tail ps d ≡ saved tail ps c → (d ≡ c) ⊎ Lower c d) → (saved tail ps c ≡ saved tail ps d → (c ≡ d) ⊎ Lower d c) → c ≡ d
+same-choice tail ps c d more less low high = same-lowest c d (high same) (low (sym same))
   where
     same : saved tail ps c ≡ saved tail ps d
     same =
-        ⊎-elim (λ l. absurd (h .most d (k .candidate) l))
-        (λ r. ⊎-elim (λ e. e) (λ l. absurd (k .most c (h .candidate) l)) r)
+        ⊎-elim (λ l. absurd (more l)) (λ r. ⊎-elim (λ e. e) (λ l. absurd (less l)) r)
         (whole-order .compare (saved tail ps c) (saved tail ps d))
+
+-- Only one candidate is chosen.
+pub chosen-unique : (tail : ℕ) (ps : List Point) (c d : Point) → Chosen tail ps c → Chosen tail ps d → c ≡ d
+chosen-unique tail ps c d h k =
+    same-choice tail ps c d (h .most d (k .candidate)) (k .most c (h .candidate)) (h .lowest d (k .candidate)) (k .lowest c (h .candidate))
 
 -- `best` is the chosen candidate.
 pub best-chosen : (tail : ℕ) (ps : List Point) (c : Point) → (best tail ps ≡ some c) ↔ Chosen tail ps c

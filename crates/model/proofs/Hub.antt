@@ -1,18 +1,21 @@
--- The tree of points is at most as long as edges that lead to all of them from one, the hub: directly, or with one of them reached from another.
--- For edges that connect the points are at least as long as the tree.
+-- The tree of points is at most as long as edges that lead to all of them from one, the hub: directly, or with one of them reached from another. One point
+-- more makes it longer by at most the edge to a point that there was. For edges that connect the points are at least as long as the tree.
 use mathlib.Core.Path.{_≡_, refl, ap, subst, subst⁻¹}
-use mathlib.Core.Logic.{_⊎_, ⊎-elim}
+use mathlib.Core.Logic.{_⊎_, inl, inr, ⊎-elim}
 use mathlib.Core.List.{List, [], _∷_, map, List·Memᴰ, List·Memᴰ·head as head, List·Memᴰ·tail as tail, List·Memᴰ·cases-cons as cases}
 use mathlib.Core.List.{Memᴰ·map, Memᴰ·of-map}
 use Prim.Native.Nat.{ℕ, _+_, _≤_}
 use native.Mathlib.Omega.{arith}
 use Rattle.arrays.specs.Order.{Sorted}
-use Rattle.spanning.specs.Graph.{Conn, stop, bwd, In, total}
+use Rattle.spanning.specs.Graph.{Conn, stop, fwd, bwd, In, Tree, total}
 use Rattle.spanning.proofs.Conn.{conn-trans, conn-sym, conn-edge, conn-mono}
-use Rattle.plane.specs.Point.{Point, Lower, dist}
+use Rattle.plane.specs.Point.{Point, lower, Lower, dist}
 use Rattle.plane.specs.Edge.{Edge, planar}
-use Rattle.model.specs.Tree.{lengthOf, treeLength}
-use Rattle.model.proofs.Tree.{edge}
+use Rattle.plane.proofs.Order.{lower-order}
+use Rattle.arrays.specs.Set.{put}
+use Rattle.arrays.proofs.Set.{put-in, put-sorted}
+use Rattle.model.specs.Tree.{mst, lengthOf, treeLength}
+use Rattle.model.proofs.Tree.{edge, mst-run-tree}
 use Rattle.model.proofs.Cover.{Ends, mst-cover}
 use Rattle.model.proofs.Replace.{sumDist}
 
@@ -65,3 +68,23 @@ module _ (ps : List Point) (rise : Sorted Lower ps) where
     where
       old : (u : Point) → List·Memᴰ u l → Conn planar (In (edge c r ∷ spokes d l)) d u
       old u m = conn-mono (λ e n. tail n) (spokes-connect d u l m)
+
+-- A point that joins others brings at most the edge to one of them.
+pub joined-most : (ps : List Point) → Sorted Lower ps → (c p : Point) → List·Memᴰ p ps → treeLength (put lower c ps) ≤ dist c p + treeLength ps
+unfolding total planar treeLength
+joined-most ps rise c p i =
+    from-all (put lower c ps) (put-sorted lower lower-order c ps rise) (edge c p ∷ mst ps)
+    (λ e m. ⊎-elim
+    (λ q. subst⁻¹ (λ (z : Edge). List·Memᴰ (z .lo) joined × List·Memᴰ (z .hi) joined) q (put-in lower lower-order c c ps .1 (inl refl), there p i))
+    (λ k. let r = tree .ends e k in (there (e .lo) (r .0), there (e .hi) (r .1))) (cases m)) p
+    (λ u m. ⊎-elim (λ e. fwd (edge c p) (head refl) e (stop refl)) (λ k. conn-mono (λ e n. tail n) (tree .spans u p k i))
+    (put-in lower lower-order c u ps .0 m))
+  where
+    joined : List Point
+    joined = put lower c ps
+
+    tree : Tree planar ps (mst ps)
+    tree = mst-run-tree ps rise .tree
+
+    there : (u : Point) → List·Memᴰ u ps → List·Memᴰ u joined
+    there u k = put-in lower lower-order c u ps .1 (inr k)

@@ -39,7 +39,7 @@ trace replies lengths last runs = record { replies = replies; lengths = lengths;
 -- The trace of calls from the contents of a deck.
 unfoldable pub play : Contents → List Call → Trace
 unfolding total degree comp kruskal lower gap dist pointDec before listedBefore planar put out has union pairs edges mst treeLengthWith points lowestWeak
-    pruneFrom prune insert remove column crossings notHeld candidates saving bestAbove best round roundsFrom finish firstFailed insertRefusal
+    pruneFrom prune insert remove column crossings passing notHeld candidates saving bestAbove best round roundsFrom finish firstFailed insertRefusal
     removeRefusal tailRefusal beside step listed
 play c [] = trace [] (lengthOfContents c ∷ []) c (listed (c .state))
 play c (k ∷ ks) =

@@ -1,4 +1,5 @@
 -- The round (SPEC 4.4) and the run to the end (SPEC 4.5), with tails of some length.
+use mathlib.Core.Bool.{not}
 use mathlib.Core.Option.{Option, none, some}
 use mathlib.Core.List.{List, [], _∷_, _++_, map}
 use Prim.Native.Nat.{ℕ, zero, suc, _-_}
@@ -6,7 +7,7 @@ use lib.IntN.{ℤ, pos, subℕ}
 use lib.Signed.{ltZ}
 use Rattle.arrays.specs.Test.{if}
 use Rattle.plane.specs.Point.{Point, lower}
-use Rattle.arrays.specs.Set.{put, has, setOf}
+use Rattle.arrays.specs.Set.{put, has, setOf, passing}
 use Rattle.model.specs.Tail.{treeLengthWith}
 use Rattle.model.specs.State.{State, points, prune}
 
@@ -21,14 +22,18 @@ crossings (x ∷ xs) ys = column x ys ++ crossings xs ys
 
 -- The members of l that are not in ps.
 unfoldable pub notHeld : List Point → List Point → List Point
-notHeld ps [] = []
-notHeld ps (c ∷ l) = if (has lower c ps) (λ _. notHeld ps l) (λ _. c ∷ notHeld ps l)
+notHeld ps l = passing (λ (c : Point). not (has lower c ps)) l
+
+-- The x of the points, least first, and the y.
+abbrev pub xsOf : List Point → List ℤ
+xsOf ps = setOf ltZ (map (λ (p : Point). p .x) ps)
+
+abbrev pub ysOf : List Point → List ℤ
+ysOf ps = setOf ltZ (map (λ (p : Point). p .y) ps)
 
 -- The candidates (SPEC 4.4), lower first: where the x of a point held crosses the y of one, if no point is held there.
 unfoldable pub candidates : List Point → List Point
-candidates ps =
-    notHeld ps
-    (crossings (setOf ltZ (map (λ (p : Point). p .x) ps)) (setOf ltZ (map (λ (p : Point). p .y) ps)))
+candidates ps = notHeld ps (crossings (xsOf ps) (ysOf ps))
 
 -- The saving of a candidate c (SPEC 4.4): `now`, the tree's length, less the length with c. It can be below 0.
 unfoldable pub saving : ℕ → ℕ → List Point → Point → ℤ

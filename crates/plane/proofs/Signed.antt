@@ -11,7 +11,7 @@ use lib.IntN.{ℤ, pos, negsuc, natAbs, subℕ, _+ℤ_, _-ℤ_}
 use lib.Signed.{nonNeg, ltZ, leZ}
 use mir.Syntax.{Width, w16, w32}
 use mir.Val.{Fits, SFits}
-use Rattle.plane.specs.Coordinate.{base}
+use Rattle.plane.specs.Coordinate.{halfRange}
 use Rattle.arrays.proofs.Signed.{read, read-is, read-one}
 use Rattle.arrays.proofs.Test.{and-parts, and-both, same-test}
 use Rattle.plane.proofs.Whole.{plus, minus, one-sided, abs-value, sub-value, add-value, difference-value, whole-ext}
@@ -97,11 +97,11 @@ module _ (k : ℕ) (z : ℤ) (f : SFits w32 z) (t : T (leb (natAbs z) k)) (small
   pub raised-cast : (w : Width) → Fits w (natAbs (z +ℤ pos k)) → T (nonNeg (read (read z +ℤ pos k))) × Fits w (natAbs (read (read z +ℤ pos k)))
   raised-cast w h = subst (λ (y : ℤ). T (nonNeg y) × Fits w (natAbs y)) (sym raised-read) (tt, h)
 
--- The difference of two numbers of 16 bits.
+-- The difference of two numbers of 31 bits.
 pub lowered : (a b : ℕ) → pos a -ℤ pos b ≡ subℕ a b
 lowered a b = whole-ext (pos a -ℤ pos b) (subℕ a b) (omega (arith, difference-value (pos a) (pos b), sub-value a b))
 
-pub lowered-fits : (a b : ℕ) → a ≤ base → b ≤ base → SFits w32 (subℕ a b)
+pub lowered-fits : (a b : ℕ) → a < halfRange → b < halfRange → SFits w32 (subℕ a b)
 lowered-fits a b h k = go (ltb a b)
   where
     go : (t : Bool) → SFits w32 (cond t (negsuc (b - suc a)) (pos (a - b)))

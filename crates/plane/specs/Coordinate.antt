@@ -11,6 +11,10 @@ base = 65536
 abbrev pub storedLimit : ℕ
 storedLimit = 60000
 
+-- How many numbers 31 bits hold: one more than the largest that 32 bits hold with a sign.
+abbrev pub halfRange : ℕ
+halfRange = 2147483648
+
 -- The whole number of a stored coordinate u, which is u − 30,000.
 unfoldable pub coordinate : ℕ → ℤ
 coordinate u = subℕ u limit

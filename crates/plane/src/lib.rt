@@ -6,9 +6,9 @@ pub mod codes;
 pub mod numbers;
 
 ghost use mathlib.Core.Path.{_≡_};
-ghost use Prim.Native.Nat.{_≤_};
+ghost use Prim.Native.Nat.{_≤_, _<_};
 ghost use lib.IntN.{subℕ};
-ghost use Rattle.plane.specs.Coordinate.{base, coordinate, signed16, word16};
+ghost use Rattle.plane.specs.Coordinate.{halfRange, coordinate, signed16, word16};
 ghost use Rattle.plane.specs.Point.{dist, gap, lower};
 ghost use Rattle.plane.specs.Stored.{pointAt};
 
@@ -46,9 +46,9 @@ pub fn is_lower(ax: u16, ay: u16, bx: u16, by: u16) -> bool
     if ax == bx { ay < by } else { ax < bx }
 }
 
-// The difference of two numbers of 16 bits.
-fn difference(a: u64, b: u64) -> i32
-    requires { ⌜ (a ≤ base) × (b ≤ base) ⌝ }
+// Returns the difference of two numbers of 31 bits.
+pub fn difference(a: u64, b: u64) -> i32
+    requires { ⌜ (a < halfRange) × (b < halfRange) ⌝ }
     ensures { λ r. ⌜ r ≡ subℕ a b ⌝ }
 {
     a as i32 - b as i32

@@ -29,8 +29,7 @@ use Rattle.arrays.specs.Array.{indexOf}
 use Rattle.plane.specs.Code.{pointOf, isCode}
 use Rattle.working.specs.declared.Working.{Working}
 use Rattle.working.specs.InOrder.{InOrder, stateOf}
-use Rattle.plane.proofs.codes.Sets.{points-has}
-use Rattle.working.proofs.InOrder.{all-codes, all-points, arranged-placed}
+use Rattle.working.proofs.InOrder.{arranged-placed, held-has}
 use Rattle.prune.proofs.Sweep.{held-degree}
 use Rattle.edges.proofs.Numbers.{listed-length}
 use Rattle.edges.specs.declared.CodedEdge.{CodedEdge}
@@ -58,15 +57,10 @@ none-beyond c v p e =
 
 -- A working form: the edges at a code.
 module _ (w : Working) (p : InOrder w) where
-  held-has : (k : ℕ) → T (isCode k) → has ltb k (take (w .npoints) (w .codes)) ≡ has lower (pointOf k) (points (stateOf w))
-  held-has k t =
-      ap (has ltb k) (p .codes) ∙ points-has k t _ (all-codes (w .points) (p .arranged))
-      ∙ ap (has lower (pointOf k)) (all-points (w .points) (p .arranged))
-
   pub degree-none : (k : ℕ) → T (isCode k) → has ltb k (take (w .npoints) (w .codes)) ≡ false → 0 ≡ question.edgeCountAt (pointOf k) (stateOf w)
   degree-none k t e =
       sym (none-at (stateOf w) (arranged-placed (w .points) (p .arranged) .steinerRise) (pointOf k)
-      (λ i. subst T (sym (held-has k t) ∙ e) (has-in lower lower-order (pointOf k) (points (stateOf w)) .1 i)))
+      (λ i. subst T (sym (held-has w p k t) ∙ e) (has-in lower lower-order (pointOf k) (points (stateOf w)) .1 i)))
 
   pub degree-there : (k i n : ℕ) → T (has ltb k (take (w .npoints) (w .codes))) → i ≡ indexOf k (take (w .npoints) (w .codes))
       → n ≡ degree keyGraph i (take (w .nkeys) (w .keys)) → n ≡ question.edgeCountAt (pointOf k) (stateOf w)

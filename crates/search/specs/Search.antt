@@ -1,12 +1,10 @@
 -- The search for the best crossing: what it asks of the points and their tree, and each step from the best so far.
 use mathlib.Core.Path.{_≡_}
 use mathlib.Core.Option.{Option, none, some}
-use mathlib.Core.List.{List, [], _∷_, map}
+use mathlib.Core.List.{List, [], _∷_}
 use Prim.Native.Nat.{ℕ, _+_, _*_, _≤_, _<_}
 use lib.Dec.{ltb}
-use lib.IntN.{ℤ}
 use lib.ListN.{length, take, getD}
-use lib.Signed.{ltZ}
 use Rattle.arrays.specs.Test.{if}
 use Rattle.plane.specs.Point.{Point}
 use Rattle.plane.specs.Coordinate.{storedOf}
@@ -47,13 +45,6 @@ abbrev pub answerOf : Option Point → Best
 answerOf none = Nothing
 answerOf (some p) = At (storedOf (p .x)) (storedOf (p .y))
 
--- The x of the points, least first, and the y.
-abbrev pub xsOf : List Point → List ℤ
-xsOf ps = setOf ltZ (map (λ (p : Point). p .x) ps)
-
-abbrev pub ysOf : List Point → List ℤ
-ysOf ps = setOf ltZ (map (λ (p : Point). p .y) ps)
-
 -- What the search over columns asks: the points of a column's search, the table, and the rows.
 pub record SearchGiven (xs : List ℕ) (n : ℕ) (table gaps ranks rows : List ℕ) (count : ℕ) : Type 0 where
   pub room : ColumnGiven xs gaps ranks n count
@@ -79,6 +70,14 @@ tried ps s c =
 unfoldable pub tryAll : List Point → Greatest → List Point → Greatest
 tryAll ps s [] = s
 tryAll ps s (c ∷ l) = tryAll ps (tried ps s c) l
+
+-- Nothing found, and no gain to beat.
+abbrev pub nothingFound : Greatest
+nothingFound = record { gain = 0; best = Nothing }
+
+-- No crossing gains more, among points that are stored in 16 bits: `far` for each edge of the longest tree, and once more.
+abbrev pub mostGain : ℕ
+mostGain = far + places * far
 
 -- What the point that was found spares. Where none was, the bar: `far` and the two tails of one run more, which is what a crossing spares that saves
 -- nothing.

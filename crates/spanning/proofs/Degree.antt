@@ -8,7 +8,7 @@ use Prim.Native.Nat.{ℕ, suc, _+_, _*_, _≤_}
 use native.Mathlib.Omega.{arith}
 use lib.ListN.{length}
 use Rattle.spanning.specs.Graph.{Graph, Conn, stop, fwd, bwd, In, Tree, total, degree}
-use Rattle.arrays.proofs.Members.{Distinct}
+use Rattle.arrays.proofs.Members.{Distinct, member-length}
 use Rattle.spanning.proofs.Totals.{take-out, total-same-terms, total-least, total-const, total-union}
 use Rattle.spanning.proofs.Count.{tree-count, forest-ends}
 
@@ -24,10 +24,6 @@ touches? G p e =
 unfoldable pub edgesAt : {P E : Type 0} → Graph P E → P → List E → List E
 edgesAt G p [] = []
 edgesAt G p (e ∷ F) = dite (touches? G p e) (λ _. e ∷ edgesAt G p F) (λ _. edgesAt G p F)
-
-member-length : {A : Type 0} {a : A} {l : List A} → List·Memᴰ a l → 1 ≤ length l
-member-length (head p) = omega arith
-member-length (tail m) = omega (arith, member-length m)
 
 first-member : {A : Type 0} (l : List A) → 1 ≤ length l → (a : A) × List·Memᴰ a l
 first-member [] h = absurd (omega arith)

@@ -13,7 +13,7 @@ use Rattle.arrays.specs.Order.{Sorted}
 use Rattle.plane.specs.Point.{Point, inRange, lower, Lower}
 use Rattle.arrays.proofs.Order.{nat-order}
 use Rattle.plane.proofs.Order.{lower-order}
-use Rattle.arrays.specs.Set.{rising}
+use Rattle.arrays.specs.Set.{has, rising}
 use Rattle.model.specs.State.{points, Placed}
 use Rattle.arrays.proofs.Set.{union-in, union-sorted, rising-sorted, union-length}
 use Rattle.model.proofs.Candidate.{map-in}
@@ -30,9 +30,11 @@ use Rattle.plane.specs.Code.{code, pointOf, isCode}
 use Rattle.points.specs.declared.Points.{Points}
 use Rattle.points.specs.Coded.{Arranged, stateOf}
 use Rattle.points.proofs.Codes.{codes-sorted, codes-full}
+use Rattle.working.specs.declared.Working.{Working}
 use Rattle.working.specs.InOrder.{allCodes, InOrder}
+use Rattle.working.specs.InOrder as work
 use Rattle.plane.proofs.codes.Points.{AllCodes, code-point, code-order, code-in-range}
-use Rattle.plane.proofs.codes.Sets.{points-union, points-rising}
+use Rattle.plane.proofs.codes.Sets.{points-union, points-rising, points-has}
 
 abbrev Less : ℕ → ℕ → Type 0
 Less a b = T (ltb a b)
@@ -137,3 +139,9 @@ module _ (q : Points) (a : Arranged q) where
           keyCount = front-count f;
           keysFew = omega (arith, front-count f, few, keys-most (held xs ys) n (omega (arith, few)) held-rises);
         }
+
+-- In a working form in order a code is held exactly if its point is.
+pub held-has : (w : Working) → InOrder w → (k : ℕ) → T (isCode k) → has ltb k (take (w .npoints) (w .codes)) ≡ has lower (pointOf k) (points (work.stateOf w))
+held-has w p k t =
+    ap (has ltb k) (p .codes) ∙ points-has k t _ (all-codes (w .points) (p .arranged))
+    ∙ ap (has lower (pointOf k)) (all-points (w .points) (p .arranged))

@@ -1,5 +1,6 @@
 -- Texts put one behind the other: those of the first items, then one more; and what stands for each number of a list.
 use mathlib.Core.Path.{_≡_, refl, sym, ap, _∙_, subst}
+use mathlib.Core.Bool.{Bool, true, false}
 use mathlib.Core.List.{List, [], _∷_, _++_, append-assoc, append-nil}
 use Prim.Native.Nat.{ℕ, _+_, _*_, _≤_, _<_}
 use native.Mathlib.Nat.{mul-suc}
@@ -7,6 +8,7 @@ use native.Mathlib.Numerals.{add-one}
 use native.Mathlib.Omega.{arith}
 use lib.ListN.{length, take, getD, length-append}
 use lib.Seq.{take-suc, take-length, length-take-le}
+use Rattle.arrays.specs.Set.{passing}
 use Rattle.arrays.specs.Paste.{Pasted, each}
 use Rattle.arrays.proofs.paste.Parts.{pasted-none, pasted-then, pasted-same}
 
@@ -90,3 +92,13 @@ pub each-next : (f : ℕ → List ℕ) (w : ℕ) → ((k : ℕ) → length (f k)
     → {l m : List ℕ} {at r : ℕ} → Pasted (eachTo f numbers n) l m at r → r ≡ at + w * n
 each-next f w h numbers n k {l} {m} {at} p =
     p .next ∙ ap (λ (z : ℕ). at + z) (each-length f w h (take n numbers) ∙ ap (λ (z : ℕ). w * z) (length-take-le n numbers k))
+
+-- Each number that passes a test, and nothing for the others.
+pub each-passing : (f : ℕ → Bool) (l : List ℕ) → each (λ k. passing f (k ∷ [])) l ≡ passing f l
+unfolding each passing
+each-passing f [] = refl
+each-passing f (k ∷ l) = go (f k) refl (each-passing f l)
+  where
+    go : (b : Bool) → f k ≡ b → each (λ j. passing f (j ∷ [])) l ≡ passing f l → each (λ j. passing f (j ∷ [])) (k ∷ l) ≡ passing f (k ∷ l)
+    go true e rest = rw e (ap (λ (m : List ℕ). k ∷ m) rest)
+    go false e rest = rw e rest
