@@ -1,12 +1,11 @@
--- The answer to a command from that of the function which it calls. Two numbers of a command are handed on as 32 bits, and read back as
--- they were.
+-- The answer to a command from that of the function which it calls. Numbers of a command are handed on as 32 bits, and read back as they were.
 use mathlib.Core.Path.{_≡_, sym, ap, _∙_, subst}
 use mathlib.Core.List.{List}
 use Prim.Native.Nat.{ℕ}
 use lib.IntN.{ℤ}
 use mir.Syntax.{w32}
 use mir.Val.{SFits}
-use Rattle.arrays.proofs.Signed.{read, read-two}
+use Rattle.arrays.proofs.Signed.{read, read-one, read-two}
 use Rattle.plane.specs.Point.{Point, point}
 use Rattle.model.specs.Call as call
 use Rattle.deck.specs.declared.Deck.{Deck}
@@ -38,6 +37,12 @@ answers d = obeys (λ (k : Query). stays d (answerText (asked d (questionFor k))
 pub same-answer : {d : Deck} {a b : Answer} → a ≡ b → stays d (answerText a) ≡ stays d (answerText b)
 same-answer {d} = ap (λ (z : Answer). stays d (answerText z))
 
+-- A question with one number.
+pub asked-of : {x : ℤ} → SFits w32 x → (d : Deck) (f : ℤ → Question) {a : Answer} → a ≡ asked d (f (read x))
+    → stays d (answerText a) ≡ stays d (answerText (asked d (f x)))
+asked-of fx d f e = same-answer (e ∙ read-one (λ (u : ℤ). asked d (f u)) fx)
+
+-- A call and a question at a point.
 module _ {x y : ℤ} (fx : SFits w32 x) (fy : SFits w32 y) (d : Deck) where
   pub called-at : (f : Point → call.Call) {o : Outcome} → o ≡ called d (f (point (read x) (read y))) → changes o ≡ changes (called d (f (point x y)))
   called-at f e = ap changes (e ∙ read-two (λ (u v : ℤ). called d (f (point u v))) x y fx fy)

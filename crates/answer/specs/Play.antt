@@ -16,7 +16,7 @@ use Rattle.questions.specs.declared.Answer.the-variants as answer
 use Rattle.deck.specs.Form.{contentsOf, sound}
 use Rattle.deck.specs.Calls.{called}
 use Rattle.deck.specs.Questions.{asked}
-use Rattle.questions.specs.Answers.{Question, ofLength, ofCounts, ofEdge, ofDegree, ofKinds}
+use Rattle.questions.specs.Answers.{Question, ofLength, ofCounts, ofEdge, ofDegree, ofKinds, ofColumn}
 use Rattle.deckfile.specs.Reading.{reading}
 use Rattle.commands.specs.declared.Change.{Change}
 use Rattle.commands.specs.declared.Change.the-variants as change
@@ -71,6 +71,7 @@ questionFor query.Counts = ofCounts
 questionFor (query.Run i) = ofEdge i
 questionFor (query.Degree x y) = ofDegree (point x y)
 questionFor query.Kinds = ofKinds
+questionFor (query.Column x) = ofColumn x
 
 -- What a command asks for. No buffer for a file is longer than the longest file.
 unfoldable pub lineOf : Deck → List ℕ → Command → Line

@@ -176,6 +176,7 @@ fn ask(d: Deck, q: Query, out: &mut [u8]) -> Played
         Query::Run(i) => answered(d, d.edge_at(i as usize), out),
         Query::Degree(x, y) => answered(d, d.degree_at(x, y), out),
         Query::Kinds => answered(d, d.kind_lengths(), out),
+        Query::Column(x) => answered(d, d.column(x), out),
     }
 }
 

@@ -8,7 +8,7 @@ use lib.Signed.{ltZ}
 use Rattle.arrays.proofs.Signed.{if-negative, if-natural}
 use Rattle.commands.specs.declared.Command.the-variants.{Error, Write, Call, Ask, Direct}
 use Rattle.commands.specs.declared.Change.the-variants.{Add, Withdraw, Round, Finish, Tail}
-use Rattle.commands.specs.declared.Query.the-variants.{Length, Counts, Run, Degree, Kinds}
+use Rattle.commands.specs.declared.Query.the-variants.{Length, Counts, Run, Degree, Kinds, Column}
 use Rattle.commands.specs.declared.Direction.the-variants.{Octant, Arrow, Glyph}
 use Rattle.commands.specs.declared.Command.the-variants as command
 use Rattle.arrays.specs.Text.{bytes}
@@ -80,20 +80,25 @@ module _ (w : List ℕ) (n : ℕ) where
       unfolding withSize
       sized-none c = rw (a, b, c) refl
 
--- Those with a number: `glyph` with any, the others with a size.
+-- Those with a number: `glyph` and `column` with any, the others with a size.
 module _ (w : List ℕ) (i : ℤ) where
   pub number-glyph : sameList w (bytes "glyph") ≡ true → Direct (Glyph i) ≡ withNumber w i
   unfolding withNumber
   number-glyph a = rw a refl
 
   module _ (a : sameList w (bytes "glyph") ≡ false) where
-    pub number-negative : ltZ i (pos 0) ≡ true → Error ≡ withNumber w i
+    pub number-column : sameList w (bytes "column") ≡ true → Ask (Column i) ≡ withNumber w i
     unfolding withNumber
-    number-negative e = rw a (if-negative (withSize w) Error i e)
+    number-column b = rw (a, b) refl
 
-    pub number-size : ltZ i (pos 0) ≡ false → withSize w (natAbs i) ≡ withNumber w i
-    unfolding withNumber
-    number-size e = rw a (if-natural (withSize w) Error i e)
+    module _ (b : sameList w (bytes "column") ≡ false) where
+      pub number-negative : ltZ i (pos 0) ≡ true → Error ≡ withNumber w i
+      unfolding withNumber
+      number-negative e = rw (a, b) (if-negative (withSize w) Error i e)
+
+      pub number-size : ltZ i (pos 0) ≡ false → withSize w (natAbs i) ≡ withNumber w i
+      unfolding withNumber
+      number-size e = rw (a, b) (if-natural (withSize w) Error i e)
 
 -- Those with two numbers.
 module _ (w : List ℕ) (i j : ℤ) where

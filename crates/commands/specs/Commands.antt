@@ -8,7 +8,7 @@ use Rattle.arrays.specs.Test.{if, ifNatural}
 use Rattle.commands.specs.declared.Command.{Command}
 use Rattle.commands.specs.declared.Command.the-variants.{Error, Write, Call, Ask, Direct}
 use Rattle.commands.specs.declared.Change.the-variants.{Add, Withdraw, Round, Finish, Tail}
-use Rattle.commands.specs.declared.Query.the-variants.{Length, Counts, Run, Degree, Kinds}
+use Rattle.commands.specs.declared.Query.the-variants.{Length, Counts, Run, Degree, Kinds, Column}
 use Rattle.commands.specs.declared.Direction.the-variants.{Octant, Arrow, Glyph}
 use Rattle.commands.specs.declared.Command.the-variants as command
 use Rattle.arguments.specs.declared.Arguments.{Arguments}
@@ -42,9 +42,11 @@ withSize w n =
     (λ _. if (sameList w (bytes "run")) (λ _. Ask (Run n))
     (λ _. if (sameList w (bytes "tail")) (λ _. Call (Tail n)) (λ _. Error)))
 
--- A word and a number: `glyph N`, and the commands with a size, which is not negative.
+-- A word and a number: `glyph N`, `column X`, and the commands with a size, which is not negative.
 unfoldable pub withNumber : List ℕ → ℤ → Command
-withNumber w i = if (sameList w (bytes "glyph")) (λ _. Direct (Glyph i)) (λ _. ifNatural (withSize w) Error i)
+withNumber w i =
+    if (sameList w (bytes "glyph")) (λ _. Direct (Glyph i))
+    (λ _. if (sameList w (bytes "column")) (λ _. Ask (Column i)) (λ _. ifNatural (withSize w) Error i))
 
 -- A word and two numbers: `add X Y`, which adds a sensor, `withdraw X Y`, `degree X Y`, `octant DX DY`.
 unfoldable pub withPair : List ℕ → ℤ → ℤ → Command

@@ -21,6 +21,7 @@ pub enum Query {
     Run(u32),
     Degree(i32, i32),
     Kinds,
+    Column(i32),
 }
 
 // A question on directions, for which no deck is needed: the octant of a difference, the arrow from a display to a bay at a pitch, the glyph of
@@ -111,6 +112,9 @@ fn with_number(name: &[u8], i: i32) -> Command
 {
     if same_bytes(name, b"glyph") {
         return Command::Direct(Direction::Glyph(i));
+    }
+    if same_bytes(name, b"column") {
+        return Command::Ask(Query::Column(i));
     }
     if i < 0 {
         return Command::Error;

@@ -6,7 +6,7 @@ use borrow.Author.Tests.{not-true, not-false}
 use mir.Syntax.{w32}
 use mir.Val.{SFits}
 use Rattle.plane.specs.Point.{Point, point}
-use Rattle.arrays.proofs.Signed.{read, read-two}
+use Rattle.arrays.proofs.Signed.{read, read-one, read-two}
 use Rattle.arrays.specs.Test.{if}
 use Rattle.working.specs.WorkingDeck as workingDeck
 use Rattle.questions.specs.declared.Answer.{Answer}
@@ -37,7 +37,11 @@ module _ (d : Deck) {r : Checked} (k : Checks (sound d) d r) where
   pub asked-by : (q : Question) {a : Answer} → not (r .ok) ≡ false → a ≡ answerTo q (workingDeck.contentsOf (r .working)) → a ≡ asked d q
   asked-by q e is = is ∙ ap (answerTo q) (checked-sound d r k (not-false (r .ok) e) .2) ∙ asked-sound d q (sym (k .ok) ∙ not-false (r .ok) e)
 
-  -- At a point whose two numbers are handed on as 32 bits.
+  -- Of a number that is handed on as 32 bits, and at a point whose two numbers are.
+  pub asked-of : (f : ℤ → Question) {x : ℤ} → SFits w32 x → {a : Answer} → not (r .ok) ≡ false
+      → a ≡ answerTo (f (read x)) (workingDeck.contentsOf (r .working)) → a ≡ asked d (f x)
+  asked-of f {x} fits e is = asked-by (f x) e (is ∙ read-one (λ (u : ℤ). answerTo (f u) (workingDeck.contentsOf (r .working))) fits)
+
   pub asked-at : (f : Point → Question) {x y : ℤ} → SFits w32 x → SFits w32 y → {a : Answer} → not (r .ok) ≡ false
       → a ≡ answerTo (f (point (read x) (read y))) (workingDeck.contentsOf (r .working)) → a ≡ asked d (f (point x y))
   asked-at f {x} {y} fx fy e is =

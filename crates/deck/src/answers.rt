@@ -1,9 +1,9 @@
-// The questions on a deck (SPEC 4.6). Each returns its answer, or refusal 11 where the deck is not sound.
+// The questions on a deck (SPEC 4.6, 4.9). Each returns its answer, or refusal 11 where the deck is not sound.
 use super::Deck;
 use super::check::check;
 use questions::Answer;
 ghost use mathlib.Core.Path.{_≡_};
-ghost use Rattle.questions.specs.Answers.{ofLength, ofCounts, ofEdge, ofDegree, ofKinds};
+ghost use Rattle.questions.specs.Answers.{ofLength, ofCounts, ofEdge, ofDegree, ofKinds, ofColumn};
 ghost use Rattle.deck.specs.Form.{sound};
 ghost use Rattle.deck.specs.Questions.{asked};
 
@@ -69,5 +69,15 @@ impl Deck {
             return Answer::Refused(11);
         }
         questions::kind_lengths(c.working)
+    }
+    // Returns the lowest of the candidates with this x that have the greatest saving, with that saving, or that there is none.
+    pub fn column(self, x: i32) -> Answer
+        ensures { λ r. ⌜ r ≡ asked self (ofColumn x) ⌝ }
+    {
+        let c = check(self);
+        if !c.ok {
+            return Answer::Refused(11);
+        }
+        questions::column(c.working, x)
     }
 }

@@ -45,6 +45,7 @@ use Rattle.demands.proofs.Sessions.{after-calls, bounds}
 use Rattle.demands.proofs.KindLengths.{deck-lengths}
 use Rattle.demands.proofs.KindsFollow.{deck-kinds}
 use Rattle.demands.proofs.Tails.{deck-tails}
+use Rattle.demands.proofs.Columns.{deck-columns}
 use Rattle.demands.proofs.Replies.{refused-reply}
 use Rattle.demands.proofs.Method.{passes, calls-model, next-is, reply-is, next-sound, answered, runs-are-tree, round-of, sweeps-of, end-of}
 use Rattle.demands.specs.Demands.{InCase, FileAnswer, Demand1, Demand2, StartDeck, fresh, file, Demand3}
@@ -123,6 +124,7 @@ demand2 =
       writtenSizes = sound-fits;
       kinds = deck-kinds;
       tails = deck-tails;
+      columns = deck-columns;
       lengths = deck-lengths;
       planned = λ b l. entered (readFile b) (read-possible b) toEnd l;
       listed = λ b. record {

@@ -40,6 +40,7 @@ use Rattle.demands.specs.Method.{RunsAreTree, RoundOf, SweepsOf, EndOf}
 use Rattle.demands.specs.KindLengths.{DeckLengths}
 use Rattle.demands.specs.KindsFollow.{DeckKinds}
 use Rattle.demands.specs.Tails.{DeckTails}
+use Rattle.demands.specs.Columns.{DeckColumns}
 use Rattle.ascii.specs.Text.{fitting}
 use Rattle.listing.specs.Whole.{listingRoom}
 use Rattle.planner.specs.Entry.{toEnd}
@@ -120,6 +121,8 @@ pub record Demand2 : Type 0 where
   pub kinds : (d : Deck) → Sound d → DeckKinds d
   -- setting the tail, and what tails leave as it was (Tails.antt)
   pub tails : (d : Deck) → Sound d → DeckTails d
+  -- one column by itself, and the round by its columns (Columns.antt)
+  pub columns : (d : Deck) → Sound d → DeckColumns d
   -- the cable of each kind (KindLengths.antt)
   pub lengths : (d : Deck) → Sound d → DeckLengths d
   -- the C entry (SPEC 10.1), for every file and every buffer of any size

@@ -1,16 +1,20 @@
--- What the questions answer (SPEC 4.6), by the model.
+-- What the questions answer (SPEC 4.6, 4.9), by the model.
 use mathlib.Core.Option.{Option, none, some}
 use Prim.Native.Nat.{ℕ}
+use lib.IntN.{ℤ}
 use Rattle.plane.specs.Point.{Point}
 use Rattle.plane.specs.Edge.{Edge as PlaneEdge}
+use Rattle.model.specs.State.{points}
 use Rattle.model.specs.Contents.{Contents}
 use Rattle.model.specs.Tail.{runLength}
 use Rattle.model.specs.Question as question
 use Rattle.model.specs.KindLength.{kindLength}
+use Rattle.columns.specs.Column.{columnAnswer}
+use Rattle.columns.specs.Found.{choiceOf}
 use Rattle.edges.specs.declared.CodedEdge.{CodedEdge}
 use Rattle.edges.specs.Edges.{edgeOf}
 use Rattle.questions.specs.declared.Answer.{Answer}
-use Rattle.questions.specs.declared.Answer.the-variants.{Length, Counts, Edge, NoEdge, Degree, Kinds}
+use Rattle.questions.specs.declared.Answer.the-variants.{Length, Counts, Edge, NoEdge, Degree, Kinds, Column}
 
 -- The length of the deck.
 abbrev pub lengthAnswer : Contents → Answer
@@ -45,13 +49,18 @@ edgeAtAnswer i c = edgeOrNone (c .tail) (question.edgeAtPlace i (c .state))
 abbrev pub degreeAnswer : Point → Contents → Answer
 degreeAnswer p c = Degree (question.edgeCountAt p (c .state))
 
--- A question as data: the length, the counts, the edge at a place, the number of edges at a point, the lengths by kind.
+-- The column of an x (SPEC 4.9), of the points of the deck and with its tail.
+abbrev pub columnAt : ℤ → Contents → Answer
+columnAt x c = Column (choiceOf (columnAnswer (c .tail) (points (c .state)) x))
+
+-- A question as data: the length, the counts, the edge at a place, the number of edges at a point, the lengths by kind, the column of an x.
 pub data Question : Type 0 where
   ofLength : Question
   ofCounts : Question
   ofEdge : ℕ → Question
   ofDegree : Point → Question
   ofKinds : Question
+  ofColumn : ℤ → Question
 
 -- Its answer for the contents of a deck.
 abbrev pub answerTo : Question → Contents → Answer
@@ -60,3 +69,4 @@ answerTo ofCounts c = countsAnswer c
 answerTo (ofEdge i) c = edgeAtAnswer i c
 answerTo (ofDegree p) c = degreeAnswer p c
 answerTo ofKinds c = kindsAnswer c
+answerTo (ofColumn x) c = columnAt x c

@@ -1,4 +1,5 @@
 // The questions on a deck in working form.
+use columns::Choice;
 use edges::CodedEdge;
 use edges::edge_numbers;
 use measures::measure;
@@ -15,10 +16,11 @@ ghost use Rattle.model.specs.Question as question;
 ghost use Rattle.plane.specs.Code.{pointOf, isCode};
 ghost use Rattle.working.specs.InOrder.{InOrder, stateOf};
 ghost use Rattle.working.specs.WorkingDeck.{contentsOf};
-ghost use Rattle.questions.specs.Answers.{lengthAnswer, countsAnswer, kindsAnswer, codedAnswer, edgeAtAnswer, degreeAnswer};
+ghost use Rattle.questions.specs.Answers.{lengthAnswer, countsAnswer, kindsAnswer, codedAnswer, edgeAtAnswer, degreeAnswer, columnAt};
 
 // What a question answers: a refusal by its number; the length; the counts of pins, Steiner points and edges; an edge by its
-// lower end, its higher end and its length, or that there is none at the place; the number of edges at a point; the lengths of the kinds 0, 1 and 2.
+// lower end, its higher end and its length, or that there is none at the place; the number of edges at a point; the lengths of the kinds 0, 1 and 2; the
+// candidate of a column with its saving, or that there is none.
 pub enum Answer {
     Refused(u8),
     Length(u64),
@@ -27,6 +29,7 @@ pub enum Answer {
     NoEdge,
     Degree(u64),
     Kinds(u64, u64, u64),
+    Column(Choice),
 }
 
 // An edge, as the answer.
@@ -106,4 +109,13 @@ pub fn degree_at(d: WorkingDeck, x: i32, y: i32) -> Answer
         Located::OutOfRange => Answer::Degree(0),
         Located::At(k) => Answer::Degree(degree_of(d.form, k) as u64),
     }
+}
+
+// Returns the lowest of the candidates with this x that have the greatest saving, with that saving, or that there is none.
+pub fn column(d: WorkingDeck, x: i32) -> Answer
+    requires { ⌜ InOrder (d .form) ⌝ }
+    requires { ⌜ ValidContents (contentsOf d) ⌝ }
+    ensures { λ r. ⌜ r ≡ columnAt x (contentsOf d) ⌝ }
+{
+    Answer::Column(columns::column(d.form, x, d.tail))
 }

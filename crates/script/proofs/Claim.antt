@@ -39,17 +39,18 @@ none-alone w n =
         (not-same w (bytes "counts") (λ e. n (tail (tail (tail (tail (tail (head e))))))))
         (not-same w (bytes "kinds") (λ e. n (tail (tail (tail (tail (tail (tail (head e)))))))))
 
-none-negative : (k : ℕ) → OnlyNames (bytes "glyph" ∷ []) (One (negsuc k))
+none-negative : (k : ℕ) → OnlyNames (bytes "glyph" ∷ bytes "column" ∷ []) (One (negsuc k))
 unfolding ofNumbers
-none-negative k w n = sym (number-negative w (negsuc k) (not-same w (bytes "glyph") (λ e. n (head e))) refl)
+none-negative k w n =
+    sym (number-negative w (negsuc k) (not-same w (bytes "glyph") (λ e. n (head e))) (not-same w (bytes "column") (λ e. n (tail (head e)))) refl)
 
-none-one : (z : ℤ) → OnlyNames (bytes "write" ∷ bytes "run" ∷ bytes "tail" ∷ bytes "glyph" ∷ []) (One z)
+none-one : (z : ℤ) → OnlyNames (bytes "write" ∷ bytes "run" ∷ bytes "tail" ∷ bytes "glyph" ∷ bytes "column" ∷ []) (One z)
 unfolding ofNumbers withNumber
 none-one (pos k) w n =
-    rw (not-same w (bytes "glyph") (λ e. n (tail (tail (tail (head e))))))
+    rw (not-same w (bytes "glyph") (λ e. n (tail (tail (tail (head e))))), not-same w (bytes "column") (λ e. n (tail (tail (tail (tail (head e)))))))
     (sym (sized-none w k (not-same w (bytes "write") (λ e. n (head e))) (not-same w (bytes "run") (λ e. n (tail (head e))))
     (not-same w (bytes "tail") (λ e. n (tail (tail (head e)))))))
-none-one (negsuc k) w n = rw (not-same w (bytes "glyph") (λ e. n (tail (tail (tail (head e)))))) refl
+none-one (negsuc k) w n = none-negative k w (λ e. n (tail (tail (tail e))))
 
 none-two : (x y : ℤ) → OnlyNames (bytes "add" ∷ bytes "withdraw" ∷ bytes "degree" ∷ bytes "octant" ∷ []) (Two x y)
 unfolding ofNumbers
@@ -121,6 +122,7 @@ names =
       run = λ n. refl;
       tail = λ n. refl;
       glyph = λ z. refl;
+      column = λ z. refl;
       oneNumber = none-one;
       oneNegative = none-negative;
       add = λ x y. refl;

@@ -14,7 +14,7 @@ use Rattle.arguments.specs.Arguments.{argumentsOf}
 use Rattle.commands.specs.declared.Command.the-variants.{Error, Read, Write, Call, Ask, Direct}
 use Rattle.commands.specs.declared.Command.the-variants as command
 use Rattle.commands.specs.declared.Change.the-variants.{Add, Withdraw, Round, Finish, Tail}
-use Rattle.commands.specs.declared.Query.the-variants.{Length, Counts, Run, Degree, Kinds}
+use Rattle.commands.specs.declared.Query.the-variants.{Length, Counts, Run, Degree, Kinds, Column}
 use Rattle.commands.specs.declared.Direction.the-variants.{Octant, Arrow, Glyph}
 use Rattle.commands.specs.Commands.{areShort, ofNumbers}
 use Rattle.script.specs.Line.{ofWords}
@@ -38,8 +38,9 @@ pub record Names : Type 0 where
   pub run : (n : ℕ) → ofNumbers (bytes "run") (One (pos n)) ≡ Ask (Run n)
   pub tail : (n : ℕ) → ofNumbers (bytes "tail") (One (pos n)) ≡ Call (Tail n)
   pub glyph : (z : ℤ) → ofNumbers (bytes "glyph") (One z) ≡ Direct (Glyph z)
-  pub oneNumber : (z : ℤ) → OnlyNames (bytes "write" ∷ bytes "run" ∷ bytes "tail" ∷ bytes "glyph" ∷ []) (One z)
-  pub oneNegative : (n : ℕ) → OnlyNames (bytes "glyph" ∷ []) (One (negsuc n))
+  pub column : (z : ℤ) → ofNumbers (bytes "column") (One z) ≡ Ask (Column z)
+  pub oneNumber : (z : ℤ) → OnlyNames (bytes "write" ∷ bytes "run" ∷ bytes "tail" ∷ bytes "glyph" ∷ bytes "column" ∷ []) (One z)
+  pub oneNegative : (n : ℕ) → OnlyNames (bytes "glyph" ∷ bytes "column" ∷ []) (One (negsuc n))
   -- two
   pub add : (x y : ℤ) → ofNumbers (bytes "add") (Two x y) ≡ Call (Add x y 0)
   pub withdraw : (x y : ℤ) → ofNumbers (bytes "withdraw") (Two x y) ≡ Call (Withdraw x y)

@@ -1,8 +1,9 @@
 // A reply or an answer in parts that another language can read: its kind, three numbers and two points.
 use calls::Reply;
+use columns::Choice;
 use questions::Answer;
 ghost use mathlib.Core.Path.{_≡_};
-ghost use Rattle.test_deck.specs.Parts.{oneNumber, partsOfReply, partsOfAnswer, partsIn};
+ghost use Rattle.test_deck.specs.Parts.{oneNumber, partsOfReply, partsOfColumn, partsOfAnswer, partsIn};
 
 pub struct Parts {
     pub kind: u8,
@@ -38,6 +39,20 @@ pub fn parts_of_reply(reply: Reply) -> Parts
     }
 }
 
+// The parts of what a column answers.
+fn parts_of_column(choice: Choice) -> Parts
+    ensures { λ r. ⌜ r ≡ partsOfColumn choice ⌝ }
+{
+    match choice {
+        Choice::Nothing => one_number(12, 0),
+        Choice::Candidate(x, y, saving) => Parts {
+            kind: 11,
+            numbers: [0, 0, 0],
+            places: [x, y, saving, 0],
+        },
+    }
+}
+
 // Returns the parts of an answer.
 pub fn parts_of_answer(answer: Answer) -> Parts
     ensures { λ r. ⌜ r ≡ partsOfAnswer answer ⌝ }
@@ -62,6 +77,7 @@ pub fn parts_of_answer(answer: Answer) -> Parts
             numbers: [sensors, displays, controllers],
             places: [0, 0, 0, 0],
         },
+        Answer::Column(choice) => parts_of_column(choice),
     }
 }
 

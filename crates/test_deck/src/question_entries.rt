@@ -7,7 +7,7 @@ use super::words::deck_in;
 ghost use mathlib.Core.Path.{_≡_};
 ghost use Rattle.deck.specs.Form.{sound};
 ghost use Rattle.deck.specs.Questions.{asked};
-ghost use Rattle.questions.specs.Answers.{ofLength, ofCounts, ofEdge, ofDegree, ofKinds};
+ghost use Rattle.questions.specs.Answers.{ofLength, ofCounts, ofEdge, ofDegree, ofKinds, ofColumn};
 ghost use Rattle.test_deck.specs.Words.{deckIn};
 ghost use Rattle.test_deck.specs.Parts.{partsIn, partsOfAnswer};
 
@@ -96,4 +96,20 @@ pub extern "C" fn entry_kind_lengths(
 {
     let d = deck_in(*words, *kinds);
     put_parts(parts_of_answer(d.kind_lengths()), numbers, places)
+}
+
+// Asks for the candidate of a column. Returns as `entry_length` does.
+#[no_mangle]
+pub extern "C" fn entry_column(
+    x: i32,
+    words: &[u64; WORDS],
+    kinds: &[u8; KIND_PLACES],
+    numbers: &mut [u64; 3],
+    places: &mut [i32; 4],
+) -> u8
+    ensures { λ r. ⌜ partsIn r (now (numbers .exit)) (now (places .exit))
+        ≡ partsOfAnswer (asked (deckIn (now (words .entry)) (now (kinds .entry))) (ofColumn x)) ⌝ }
+{
+    let d = deck_in(*words, *kinds);
+    put_parts(parts_of_answer(d.column(x)), numbers, places)
 }

@@ -1,7 +1,7 @@
 -- `answer::ask` meets its contract: in each arm the question is told, and the deck's method answers what `questionFor` says of it.
-use Rattle.questions.specs.Answers.{ofDegree}
+use Rattle.questions.specs.Answers.{ofDegree, ofColumn}
 use Rattle.answer.specs.Play.{questionFor}
-use Rattle.answer.proofs.Commands.{answers, same-answer, asked-at}
+use Rattle.answer.proofs.Commands.{answers, same-answer, asked-at, asked-of}
 use borrow.Author.Needs.{needs}
 use Rattle.answer.proofs.ask.Statement.{statement}
 use Rattle.answer.proofs.ask.Tie as tie
@@ -48,10 +48,20 @@ kinds c =
     answers _ (at-kinds .before .enum-told3 .given .1) (same-answer (at-kinds .kind-lengths .ensures))
     (at-answered .answered5 .ensures)
 
+columns : tie.Need-returns-6
+unfolding questionFor
+columns c =
+    let at-answered = c .before .before in
+    let at-column = at-answered .before .before in
+    let at-told = at-column .before in
+    answers _ (at-told .before .q3 .given .1)
+    (asked-of (record { sfits = at-told .known-told3 .given .0 .1 }) _ ofColumn (at-column .column .ensures)) (at-answered .answered6 .ensures)
+
 pub ask-spec : {M : Type 1} → statement M
 ask-spec =
     tie.close
     (tie.spec (λ c. search needs) (λ c κs. search needs) (λ c κs. search needs) (λ c. search needs) (λ c κs. search needs) (λ c κs. search needs)
     (λ c. search needs) (λ c. search needs) (λ c κs. search needs) (λ c κs. search needs) (λ c. search needs) (λ c κs. search needs) (λ c κs. search needs)
-    (λ c. search needs) (λ c κs. search needs) (λ c κs. search needs) (λ c. search needs) lengths (λ c. search needs) counts (λ c. search needs) edges
-    (λ c. search needs) degrees (λ c. search needs) kinds)
+    (λ c. search needs) (λ c κs. search needs) (λ c κs. search needs) (λ c. search needs) (λ c κs. search needs) (λ c κs. search needs)
+    (λ c. search needs) lengths (λ c. search needs) counts (λ c. search needs) edges (λ c. search needs) degrees (λ c. search needs) kinds
+    (λ c. search needs) columns)

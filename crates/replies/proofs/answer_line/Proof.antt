@@ -79,6 +79,14 @@ returns-8 c =
     let at-test = at-answer .before .before in
     front-put 128 _ _ _ _ (at-test .if1 .left) (pasted-same (sym (ap answerText (at-answer .answer6 .given .1))) (at-numbers-line2 .numbers-line2 .ensures))
 
+returns-9 : tie.Need-returns-9
+unfolding answerText
+returns-9 c =
+    let at-column-line = c .before .before in
+    let at-answer = at-column-line .before .before .before in
+    let at-test = at-answer .before .before in
+    front-put 128 _ _ _ _ (at-test .if1 .left) (pasted-same (sym (ap answerText (at-answer .answer7 .given .1))) (at-column-line .column-line .ensures))
+
 pub answer-line-spec : {M : Type 1} → statement M
 answer-line-spec =
     tie.close
@@ -106,6 +114,8 @@ answer-line-spec =
     (λ c. search needs)
     (λ c κs. search needs)
     (λ c. search needs)
+    (λ c κs. search needs)
+    (λ c. search needs)
     returns-2
     (λ c. search needs)
     returns-3
@@ -118,4 +128,6 @@ answer-line-spec =
     (λ c. search needs)
     returns-7
     (λ c. search needs)
-    returns-8)
+    returns-8
+    (λ c. search needs)
+    returns-9)

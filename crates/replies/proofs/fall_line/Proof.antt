@@ -1,8 +1,11 @@
--- `replies::fall_line` meets its contract: the word, two coordinates, a second word and the fall, each behind the one before.
+-- `replies::fall_line` meets its contract: what stands in front of the fall, then the fall.
+use lib.IntN.{ℤ}
 use native.Mathlib.Omega.{arith}
 use borrow.Author.Needs.{needs}
-use Rattle.arrays.proofs.paste.Parts.{pasted-then}
-use Rattle.ascii.proofs.Signs.{field-again}
+use Rattle.arrays.proofs.Signed.{read-two}
+use Rattle.arrays.proofs.paste.Parts.{pasted-same, pasted-then}
+use Rattle.model.specs.Listing.{field, tapWord}
+use Rattle.replies.specs.Replies.{fallWord, pointHead}
 use Rattle.replies.proofs.fall_line.Statement.{statement}
 use Rattle.replies.proofs.fall_line.Tie as tie
 
@@ -10,28 +13,18 @@ returns : tie.Need-returns
 returns c =
     let at-decimal-field = c .before .before in
     let at-decimal-field-arg = at-decimal-field .before in
-    let at-put-bytes2 = at-decimal-field-arg .before .before .before in
-    let at-put-bytes-arg3 = at-put-bytes2 .before .before in
-    let at-signed-field2 = at-put-bytes-arg3 .before .before .before in
-    let at-signed-field-arg2 = at-signed-field2 .before in
-    let at-signed-field = at-signed-field-arg2 .before .before .before in
-    let at-signed-field-arg = at-signed-field .before in
-    let at-put-bytes = at-signed-field-arg .before .before .before in
-    let at-put-bytes-arg2 = at-put-bytes .before in
-    let entry = at-put-bytes-arg2 .before .before .before in
-    pasted-then (at-put-bytes .put-bytes .ensures) (omega arith)
-    (pasted-then (field-again _ (entry .fits .x) (at-signed-field .signed-field .ensures .0)) (omega arith)
-    (pasted-then (field-again _ (entry .fits .y) (at-signed-field2 .signed-field2 .ensures .0)) (omega arith)
-    (pasted-then (at-put-bytes2 .put-bytes2 .ensures) (omega arith) (at-decimal-field .decimal-field .ensures .0))))
+    let at-point-head = at-decimal-field-arg .before .before .before in
+    let at-point-head-arg3 = at-point-head .before in
+    let entry = at-point-head-arg3 .before .before .before .before in
+    pasted-then (pasted-same (read-two (λ (x y : ℤ). pointHead tapWord x y (field fallWord)) _ _ (entry .fits .x) (entry .fits .y))
+    (at-point-head .point-head .ensures .0)) (omega arith)
+    (at-decimal-field .decimal-field .ensures .0)
 
 pub fall-line-spec : {M : Type 1} → statement M
 fall-line-spec =
     tie.close
     (tie.spec
     (λ c. search needs)
-    (λ c κs. search needs)
-    (λ c κs. search needs)
-    (λ c κs. search needs)
     (λ c. search needs)
     (λ c κs. search needs)
     (λ c κs. search needs)

@@ -34,6 +34,9 @@ returns-6 c = c .one-number4 .ensures ∙ ap partsOfAnswer (sym (c .before .befo
 returns-7 : tie.Need-returns-7
 returns-7 c = ap partsOfAnswer (sym (c .before .answer6 .given .1))
 
+returns-8 : tie.Need-returns-8
+returns-8 c = c .parts-of-column .ensures ∙ ap partsOfAnswer (sym (c .before .before .answer7 .given .1))
+
 pub parts-of-answer-spec : {M : Type 1} → statement M
 parts-of-answer-spec =
     tie.close
@@ -50,10 +53,13 @@ parts-of-answer-spec =
     (λ c. search needs)
     (λ c κs. search needs)
     (λ c. search needs)
+    (λ c. search needs)
+    (λ c κs. search needs)
     returns
     returns-2
     returns-3
     returns-4
     returns-5
     returns-6
-    returns-7)
+    returns-7
+    returns-8)

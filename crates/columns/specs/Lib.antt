@@ -1,0 +1,3 @@
+pub mod Column
+pub mod Found
+pub mod Table
