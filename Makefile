@@ -1,5 +1,5 @@
 # What each target does: make help.
-.PHONY: help run test tests reference_tests compare_tests gate_tests bench table_1 tails reference programs entries library replay_library \
+.PHONY: help run test tests reference_tests compare_tests gate_tests bench table_1 tails columns reference programs entries library replay_library \
 	display_library fuzz libfuzzer
 
 .DEFAULT_GOAL := run
@@ -71,6 +71,9 @@ table_1: entries ## the averages of document 004, Table 1
 
 tails: entries ## rounds, taps and lengths of a run to the end at some tail lengths
 	cd tests/compare && cargo run --release --offline --quiet --bin tails
+
+columns: entries ## the time of one column beside that of a round
+	cd tests/compare && cargo run --release --offline --quiet --bin columns
 
 # Some 20 seconds of deck files changed at random; tests/fuzz/check.c says what must hold. Not a part of test.
 ROUNDS = 150000

@@ -14,9 +14,9 @@ use reference::session::State;
 
 /// The beginnings of the answers that sessions have to bring about, beside the
 /// refusals.
-const WORDS: [&str; 16] = [
+const WORDS: [&str; 18] = [
     "ok", "tap", "finished", "rounds", "length", "counts", "kinds", "run", "no run", "degree",
-    "octant", "arrow", "glyph", "error", "deck", "file",
+    "column", "none", "octant", "arrow", "glyph", "error", "deck", "file",
 ];
 
 /// The refusals among the answers.
@@ -83,7 +83,7 @@ fn files() {
 }
 
 /// Lines that are empty, a comment, no call, or a call with odd spaces.
-const OTHER_LINES: [&str; 56] = [
+const OTHER_LINES: [&str; 66] = [
     "",
     " ",
     "add",
@@ -120,6 +120,16 @@ const OTHER_LINES: [&str; 56] = [
     "tail 1 2",
     "tail x",
     "tails 1",
+    "column",
+    "column 1",
+    "column  001\t",
+    "column -0",
+    "column -2147483648",
+    "column 2147483648",
+    "column +1",
+    "column 1 2",
+    "column x",
+    "columns 1",
     "run -1",
     "read",
     "read 0",

@@ -5,7 +5,7 @@
 use compare::check::programs::same_answers;
 
 /// The names, each with the counts of numbers that it is taken with.
-const NAMES: [(&str, &[usize]); 21] = [
+const NAMES: [(&str, &[usize]); 23] = [
     ("add", &[2, 3]),
     ("withdraw", &[2]),
     ("round", &[0]),
@@ -15,6 +15,7 @@ const NAMES: [(&str, &[usize]); 21] = [
     ("counts", &[0]),
     ("kinds", &[0]),
     ("degree", &[2]),
+    ("column", &[1]),
     ("run", &[1]),
     ("list", &[0]),
     ("write", &[0, 1]),
@@ -25,6 +26,7 @@ const NAMES: [(&str, &[usize]); 21] = [
     ("arrows", &[]),
     ("kind", &[]),
     ("tails", &[]),
+    ("columns", &[]),
     ("Add", &[]),
     ("1", &[]),
 ];

@@ -2,7 +2,7 @@
 
 use compare::binding::programs::deckplay;
 use compare::check::entries::Seen;
-use compare::check::programs::same_script;
+use compare::check::programs::{same_rows, same_script};
 use compare::check::replays::replayed;
 use compare::check::replies::Replies;
 use compare::input::call_bytes::{call_bytes, calls_of, SIZE};
@@ -21,11 +21,7 @@ use reference::tails::{with_tails, NO_TAILS, SIGNED_TAILS, TAILS};
 /// The sessions with their answers as they are written down.
 #[test]
 fn rows() {
-    for (title, lines) in ROWS {
-        let script: String = lines.iter().map(|(line, _)| format!("{line}\n")).collect();
-        let answers: String = lines.iter().map(|(_, said)| format!("{said}\n")).collect();
-        assert_eq!(deckplay(script.as_bytes()), answers, "{title}");
-    }
+    same_rows(&ROWS);
 }
 
 /// A tail before each call, and a listing and a file after it.

@@ -1,4 +1,4 @@
-//! The candidates of a round and their savings.
+//! The candidates of a round and of a column, and their savings.
 
 use crate::plane::Point;
 use crate::session::State;
@@ -37,6 +37,23 @@ pub fn best_candidate(state: &State) -> Option<(Point, i64)> {
     for candidate in candidates(&points) {
         let saved = saving(&points, state.tail, now, candidate);
         if saved > best.map_or(0, |(_, most)| most) {
+            best = Some((candidate, saved));
+        }
+    }
+    best
+}
+
+/// The lowest candidate with this x of greatest saving, and that saving, which may be
+/// below 0; none if no candidate has this x.
+pub fn best_in_column(state: &State, x: i64) -> Option<(Point, i64)> {
+    let points = state.points();
+    let now = length(&tree(&points), state.tail);
+    let mut column = candidates(&points);
+    column.retain(|candidate| candidate.x == x);
+    let mut best: Option<(Point, i64)> = None;
+    for candidate in column {
+        let saved = saving(&points, state.tail, now, candidate);
+        if best.is_none_or(|(_, most)| saved > most) {
             best = Some((candidate, saved));
         }
     }

@@ -6,7 +6,7 @@ use crate::file::{read, write_into, LONGEST};
 use crate::listing::listing;
 use crate::pins::SENSOR;
 use crate::plane::{octant, Point};
-use crate::session::{call, counts, degree_at, edge_at, kind_lengths, length};
+use crate::session::{call, column, counts, degree_at, edge_at, kind_lengths, length};
 use crate::session::{Call, Reply, State};
 
 /// The longest line of a script, without its line feed.
@@ -130,6 +130,7 @@ fn answer_question(state: &State, words: &[&str]) -> Option<String> {
             let point = Point::new(number(x)?, number(y)?);
             degree_at(state, point).map(|degree| format!("degree {degree}"))
         }
+        ["column", x] => column(state, number(x)?).map(column_line),
         ["octant", dx, dy] => Ok(format!("octant {}", octant(number(dx)?, number(dy)?)?)),
         ["arrow", ..] => answer_arrow(&sight_of(words)?),
         ["glyph", n] => Ok(format!("glyph {}", glyph(number(n)?))),
@@ -147,6 +148,14 @@ fn answer_run(state: &State, place: usize) -> Result<String, u8> {
         }
         None => "no run".to_string(),
     })
+}
+
+/// The answer line for what a column has.
+pub fn column_line(found: Option<(Point, i64)>) -> String {
+    match found {
+        Some((Point { x, y }, saved)) => format!("column {x} {y} saving {saved}"),
+        None => "none".to_string(),
+    }
 }
 
 /// What a display is asked, if the words ask for an arrow.

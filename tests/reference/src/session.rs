@@ -1,6 +1,6 @@
 //! The calls and questions on a deck.
 
-use crate::candidates::best_candidate;
+use crate::candidates::{best_candidate, best_in_column};
 use crate::pins::{lengths_by_kind, places, Pin};
 use crate::plane::{Edge, Point};
 use crate::tree::{degree, length as tree_length, listing_order, tree};
@@ -280,6 +280,12 @@ pub fn edge_at(state: &State, place: usize) -> Result<Option<(Edge, i64)>, u8> {
 pub fn degree_at(state: &State, point: Point) -> Result<usize, u8> {
     valid(state)?;
     Ok(degree(&state.tree(), point))
+}
+
+/// The best candidate of a column and its saving, if the column has a candidate.
+pub fn column(state: &State, x: i64) -> Result<Option<(Point, i64)>, u8> {
+    valid(state)?;
+    Ok(best_in_column(state, x))
 }
 
 /// Refuses a state that is not valid.

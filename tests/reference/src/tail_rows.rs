@@ -2,8 +2,7 @@
 //! worked out by hand. The cross is row 5 of SPEC 11.1, and the file is the cross after a
 //! run to the end.
 
-/// A session: a title, and its lines with their answers.
-pub type Row = (&'static str, &'static [(&'static str, &'static str)]);
+use crate::rows::Row;
 
 /// All sessions.
 pub const ROWS: [Row; 13] = [

@@ -3,14 +3,9 @@
 use crate::candidates::candidates;
 use crate::pins::kind_of;
 use crate::plane::{Edge, Point};
-use crate::script::answer_line;
+use crate::rows::right;
 use crate::session::{prune, with_steiner, State};
 use crate::tree::{listing_order, tree};
-
-/// The right answer to a line.
-pub fn right(state: &mut State, line: &str) -> String {
-    answer_line(state, line.as_bytes()).expect("a line that is answered")
-}
 
 /// How many tails a run has in the length, in the line of a run, in the lengths by
 /// kind, in savings and in falls, and the least saving that a round takes.

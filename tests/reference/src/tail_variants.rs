@@ -2,12 +2,10 @@
 //! Each answers the lines of scripts, and the rows of the tests must tell each from the
 //! right one.
 
+use crate::rows::{right, Player};
 use crate::script::number;
 use crate::session::{finish, length, round, State};
-use crate::tail_rules::{by_rule, right, rule};
-
-/// A planner's answer to a line of a script.
-pub type Player = fn(&mut State, &str) -> String;
+use crate::tail_rules::{by_rule, rule};
 
 /// Each mistake.
 pub const WRONG_PLAYERS: [(&str, Player); 38] = [

@@ -1,15 +1,16 @@
 //! Scripts at random, beside the files and the listings that they lead to.
 
 use reference::file::{read, write};
-use reference::generate::{script, Random, KINDS};
+use reference::generate::{Random, KINDS};
 use reference::listing::list_program;
 use reference::pins::{Pin, CONTROLLER};
 use reference::plane::Point;
+use reference::random_scripts::script;
 use reference::script::{bytes_of, hex_of, play};
 use reference::session::State;
 
 /// The beginnings of the answers that a random script has to bring about.
-const WORDS: [&str; 23] = [
+const WORDS: [&str; 25] = [
     "ok",
     "refused 7",
     "refused 8",
@@ -28,6 +29,8 @@ const WORDS: [&str; 23] = [
     "run",
     "no run",
     "degree",
+    "column",
+    "none",
     "octant",
     "arrow",
     "glyph",

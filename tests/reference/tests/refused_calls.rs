@@ -121,6 +121,8 @@ fn refusal_11() {
         assert_eq!(kind_lengths(&state), Err(NOT_SOUND));
         assert_eq!(edge_at(&state, 1_000), Err(NOT_SOUND));
         assert_eq!(degree_at(&state, Point::new(0, 0)), Err(NOT_SOUND));
+        assert_eq!(column(&state, 0), Err(NOT_SOUND));
+        assert_eq!(column(&state, 30_001), Err(NOT_SOUND));
         for size in [0, 10, LONGEST] {
             let found = lend(size, &[], "unsound", |out| write_into(&state, out));
             assert_eq!(found, Err(NOT_SOUND));

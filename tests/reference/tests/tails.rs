@@ -9,43 +9,25 @@ use reference::listed::Listed;
 use reference::listing::listing;
 use reference::plane::Point;
 use reference::refusals::{refused_calls, NOT_SOUND};
-use reference::script::answer_line;
+use reference::rows::{plays, right, shows};
 use reference::session::*;
 use reference::tail_rows::ROWS;
 use reference::tail_rules::right_by_rule;
-use reference::tail_variants::{Player, WRONG_PLAYERS};
+use reference::tail_variants::WRONG_PLAYERS;
 use reference::tails::{decks, sweeping, with_tails, NO_TAILS, SIGNED_TAILS, TAILS};
 use reference::tree::tree;
 
-/// The answers of a player to the lines of a session.
-fn played(player: Player, lines: &[(&str, &str)]) -> Vec<String> {
-    let mut state = State::default();
-    let answer = |(line, _): &(&str, &str)| player(&mut state, line);
-    lines.iter().map(answer).collect()
-}
-
-fn right(state: &mut State, line: &str) -> String {
-    answer_line(state, line.as_bytes()).expect("a line that is answered")
-}
-
 #[test]
 fn rows() {
-    for (title, lines) in ROWS {
-        let answers: Vec<&str> = lines.iter().map(|(_, answer)| *answer).collect();
-        assert_eq!(played(right, lines), answers, "{title}");
-        assert_eq!(played(right_by_rule, lines), answers, "{title}");
-    }
+    plays(right, &ROWS);
+    plays(right_by_rule, &ROWS);
 }
 
 /// Each wrong version answers some line of some session otherwise.
 #[test]
 fn wrong_versions_show() {
     for (title, wrong) in WRONG_PLAYERS {
-        let shows =
-            |(_, lines): &&(_, &[(&str, &str)])| played(wrong, lines) != played(right, lines);
-        let rows: Vec<&str> = ROWS.iter().filter(shows).map(|row| row.0).collect();
-        println!("{title}: {}", rows.join("; "));
-        assert!(!rows.is_empty(), "{title}");
+        shows(title, wrong, &ROWS);
     }
 }
 

@@ -13,7 +13,7 @@ use compare::by_hand::run::run_to_end;
 use compare::by_hand::tree::tree;
 use compare::by_hand::{prim, sorted_pairs, Ended};
 use compare::check::runs::{ended, run_proved};
-use compare::cpu_time::timed;
+use compare::cpu_time::{timed, warm};
 use compare::input::points::{on_grid, Stored};
 use reference::file::{read, write_plain, LONGEST};
 use reference::generate::Random;
@@ -73,13 +73,6 @@ const CALLS: usize = 100;
 /// The deck of sensors at the points.
 fn deck(points: &[Point]) -> Deck {
     Deck::of(&State::new(sensors(points), Vec::new()))
-}
-
-/// What a way finds and takes the second time of two, so that it finds the
-/// caches as it left them itself and not as another way did.
-fn warm<T>(mut way: impl FnMut() -> T) -> (T, f64) {
-    way();
-    timed(way)
 }
 
 /// A deck of pins and what the ways take for it, in nanoseconds.

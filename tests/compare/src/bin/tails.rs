@@ -7,7 +7,7 @@ use compare::binding::parts::Parts;
 use compare::binding::questions::{ask, Question};
 use compare::by_hand::run::run_to_end;
 use compare::check::runs::{ended, run_proved};
-use compare::input::points::on_grid;
+use compare::input::points::{lanes, on_grid};
 use reference::generate::Random;
 use reference::pins::sensors;
 use reference::plane::Point;
@@ -21,19 +21,6 @@ fn with_tail(deck: &Deck, tail: u32) -> Deck {
     let (next, parts) = call(deck, Call::SetTail(tail));
     assert_eq!(parts, Parts::of(Reply::Done), "a tail of {tail}");
     next
-}
-
-/// Two lanes of 30 bays each, 15 on a side and 250 apart, with a display at each end.
-fn lanes() -> Vec<Point> {
-    let mut points = Vec::new();
-    for lane in [0, 1_600] {
-        points.extend([-300, 250 * 14 + 300].map(|x| Point::new(x, lane)));
-        for bay in 0..15 {
-            points.extend([-500, 500].map(|side| Point::new(250 * bay, lane + side)));
-        }
-    }
-    points.sort();
-    points
 }
 
 /// Rounds that add a tap, taps, the length with tails and the length without them, of a

@@ -48,6 +48,14 @@ mod library {
             numbers: &mut [u64; 3],
             places: &mut [i32; 4],
         ) -> u8;
+        /// The best candidate of a column and its saving.
+        pub fn entry_column(
+            x: i32,
+            words: &[u64; WORDS],
+            kinds: &[u8; KIND_PLACES],
+            numbers: &mut [u64; 3],
+            places: &mut [i32; 4],
+        ) -> u8;
     }
 }
 
@@ -59,6 +67,7 @@ pub enum Question {
     Kinds,
     EdgeAt(usize),
     DegreeAt(i32, i32),
+    Column(i32),
 }
 
 /// Whether the deck is sound.
@@ -83,6 +92,7 @@ pub fn ask(deck: &Deck, question: Question) -> Parts {
         Question::Kinds => make!(entry_kind_lengths),
         Question::EdgeAt(i) => make!(entry_edge_at, i),
         Question::DegreeAt(x, y) => make!(entry_degree_at, x, y),
+        Question::Column(x) => make!(entry_column, x),
     };
     parts
 }

@@ -3,6 +3,7 @@
 //! can ask for enough of it.
 
 pub mod arrows;
+pub mod columns;
 pub mod entries;
 pub mod pictures;
 pub mod programs;

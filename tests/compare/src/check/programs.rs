@@ -7,6 +7,7 @@ use reference::file::{LONGEST, SHORTEST};
 use reference::listing::list_program;
 use reference::packing::pack;
 use reference::picture::draw;
+use reference::rows::Row;
 use reference::script::hex_of;
 use reference::script::play;
 
@@ -22,6 +23,15 @@ pub fn same_script(script: &[u8]) -> String {
     let expected = play(script);
     assert_eq!(deckplay(script), expected);
     expected
+}
+
+/// Plays sessions, which have the answers that are written down with them.
+pub fn same_rows(rows: &[Row]) {
+    for (title, lines) in rows {
+        let script: String = lines.iter().map(|(line, _)| format!("{line}\n")).collect();
+        let answers: String = lines.iter().map(|(_, said)| format!("{said}\n")).collect();
+        assert_eq!(deckplay(script.as_bytes()), answers, "{title}");
+    }
 }
 
 /// What a program writes, or the line by which it says why not.

@@ -6,7 +6,7 @@ use crate::binding::parts::{coordinate, Parts};
 use crate::binding::questions::{ask, is_valid, Question};
 use reference::generate::Random;
 use reference::plane::{Edge, Point};
-use reference::session::{counts, degree_at, edge_at, kind_lengths, length, Reply, State};
+use reference::session::{column, counts, degree_at, edge_at, kind_lengths, length, Reply, State};
 
 /// The parts of an edge and its length.
 fn edge_parts((edge, length): (Edge, i64)) -> Parts {
@@ -22,6 +22,17 @@ pub fn kind_parts(lengths: [i64; 3]) -> Parts {
     Parts {
         numbers: lengths.map(|length| length as u64),
         ..Parts::number(10, 0)
+    }
+}
+
+/// The parts of what a column has: the candidate and its saving, or none.
+pub fn column_parts(found: Option<(Point, i64)>) -> Parts {
+    let Some((Point { x, y }, saved)) = found else {
+        return Parts::number(12, 0);
+    };
+    Parts {
+        places: [x, y, saved, 0].map(coordinate),
+        ..Parts::number(11, 0)
     }
 }
 
@@ -42,11 +53,12 @@ fn expected(state: &State, question: Question) -> Result<Parts, u8> {
             let point = Point::new(x.into(), y.into());
             Parts::number(9, degree_at(state, point)? as u64)
         }
+        Question::Column(x) => column_parts(column(state, x.into())?),
     })
 }
 
 /// Questions on a state: every place and every point held where they are at
-/// most `most`, and places and points that are not held.
+/// most `most`, places and points that are not held, and some columns.
 pub fn questions(random: &mut Random, state: &State, most: usize) -> Vec<Question> {
     let points = state.points();
     let end = points.len().saturating_sub(1);
@@ -64,9 +76,12 @@ pub fn questions(random: &mut Random, state: &State, most: usize) -> Vec<Questio
         let far = [(a.x + shift, a.y), (a.x, a.y + shift)];
         let more = near.into_iter().chain(far);
         asked.extend(more.map(|(x, y)| at(Point::new(x, y))));
+        let columns = [b.x, a.x + 1, a.x + shift].map(coordinate);
+        asked.extend(columns.map(Question::Column));
     }
     asked.push(Question::DegreeAt(30_001, 0));
     asked.push(Question::DegreeAt(i32::MIN, i32::MAX));
+    asked.extend([30_001, i32::MIN, i32::MAX].map(Question::Column));
     asked
 }
 
@@ -98,6 +113,8 @@ pub fn all_refused(deck: &Deck, state: &State) {
         Question::EdgeAt(usize::MAX),
         Question::DegreeAt(coordinate(held.x), coordinate(held.y)),
         Question::DegreeAt(30_001, 0),
+        Question::Column(coordinate(held.x)),
+        Question::Column(30_001),
     ] {
         let refused = Parts::of(Reply::Refused(11));
         assert_eq!(ask(deck, question), refused, "{question:?} on {deck:?}");

@@ -93,3 +93,16 @@ pub fn free_crossings(points: &[Point]) -> Vec<Point> {
     free.retain(|p| points.binary_search(p).is_err());
     free
 }
+
+/// Two lanes of 30 bays each, 15 on a side and 250 apart, with a display at each end.
+pub fn lanes() -> Vec<Point> {
+    let mut points = Vec::new();
+    for lane in [0, 1_600] {
+        points.extend([-300, 250 * 14 + 300].map(|x| Point::new(x, lane)));
+        for bay in 0..15 {
+            points.extend([-500, 500].map(|side| Point::new(250 * bay, lane + side)));
+        }
+    }
+    points.sort();
+    points
+}

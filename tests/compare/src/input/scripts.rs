@@ -3,7 +3,8 @@
 use super::calls::{some_call, Shape};
 use reference::devices::any_line;
 use reference::file::write;
-use reference::generate::{question, Place, Random};
+use reference::generate::{Place, Random};
+use reference::random_scripts::question;
 use reference::script::hex_of;
 use reference::session::{call, State};
 
