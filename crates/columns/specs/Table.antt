@@ -39,8 +39,9 @@ beside = point 0 0 ∷ point 0 10 ∷ point 5 5 ∷ []
 abbrev three : List Point
 three = point 0 0 ∷ point 5 8 ∷ point 10 0 ∷ []
 
--- No point, one and two in a line: no column. A column below 0, and with tails 2 · 3 lower. A line on which every place is held; no line, be it between points, below 0 or out of range. Equals at 0, and
--- below 0 with tails: the lower. A saving above 0, one of 0, and one above 0 without tails that is below 0 with them.
+-- No point, one and two in a line: no column. A column below 0, and with tails 2 · 3 lower. A line on which every place is held; no line, be it between
+-- points, below 0 or out of range. Equals at 0, and below 0 with tails: the lower. A saving above 0, one of 0, and one above 0 without tails that is below 0
+-- with them.
 unfoldable pub columnTable : List ColumnRow
 columnTable =
     row [] 0 (pos 0) noCandidate

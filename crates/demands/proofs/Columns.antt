@@ -93,7 +93,9 @@ module _ (d : Deck) (s : Sound d) where
     λ e x u y v n t.
         let h = named x u y v .0 n in
         round-of d s .finished .0 e (point u y) (h .0 .candidate) (subst (λ (z : ℤ). T (ltZ (pos 0) z)) (h .1) t),
-    λ f. round-of d s .finished .1 (λ c k t. let r = over c k in f (c .x) (r .0) (r .1) (r .2) (r .3) (before-later whole-order (pos 0) (r .2) (saved (d .tail) ps c) t (r .4))),
+    λ f. round-of d s .finished .1 (λ c k t.
+        let r = over c k in
+        f (c .x) (r .0) (r .1) (r .2) (r .3) (before-later whole-order (pos 0) (r .2) (saved (d .tail) ps c) t (r .4))),
   )
 
   tap : (x y : ℤ) (fall : ℕ) → called d call.oneRound .reply ≡ reply.Tap x y fall
