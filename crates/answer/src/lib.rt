@@ -1,4 +1,6 @@
 // What one line of a script does to a deck, and the text of its answer.
+#![tactic(auto)]
+
 ghost use Rattle.std.specs.Prelude.{◌≡◌, ◌≤◌, min, length};
 ghost use Rattle.deck.specs.Calls.{called};
 ghost use Rattle.deck.specs.Questions.{asked};
@@ -34,7 +36,7 @@ const FILE_ROOM: usize = LINE_LIMIT / 2;
 const LONGEST_SIZE: usize = LONGEST_FILE as usize;
 
 // The deck after a line, and how long its answer is, 0 for none.
-#[derive(Drop)]
+#[derive(Clone, Copy)]
 pub struct Played {
     pub next: Deck,
     pub size: usize,

@@ -1,4 +1,6 @@
 // The numbers of a line behind a place, up to five: the arguments of a call.
+#![tactic(auto)]
+
 ghost use Rattle.std.specs.Prelude.{◌≡◌, drop};
 ghost use Rattle.words.specs.Words.{words_of};
 ghost use Rattle.arguments.specs.Arguments.{appended, with_word, arguments_of};
@@ -7,7 +9,7 @@ use numbers::{Number, number_of};
 use words::next;
 
 // The numbers that words stand for, none to five of them; or others: a word that stands for no number, or a sixth word.
-#[derive(Drop)]
+#[derive(Clone, Copy)]
 pub enum Arguments {
     Zero,
     One(i32),

@@ -1,5 +1,7 @@
 // What a display shows for a bay: an arrow, by the octant that the bay is in, and the glyph of an arrow. Every public function takes all values
 // of its parameters.
+#![tactic(auto)]
+
 ghost use Rattle.std.specs.Prelude.{◌≡◌, ◌<◌, T};
 ghost use Rattle.plane.specs.Point.{point};
 ghost use Rattle.table.specs.Table as table;
@@ -16,7 +18,7 @@ const BAD_PITCH: u8 = 13;
 const TOO_FAR: u8 = 14;
 
 // What a display indicates for a bay: the number of a refusal, or that of an arrow, 0 to 8.
-#[derive(Drop)]
+#[derive(Clone, Copy)]
 pub enum Indication {
     Refused(u8),
     Arrow(u8),

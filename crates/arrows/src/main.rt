@@ -1,4 +1,6 @@
 // Prints the table of arrows (SPEC 9.6), one number a line. Reads nothing.
+#![tactic(auto)]
+
 mod text;
 
 use text::{TEXT_ROOM, list_arrows};

@@ -1,4 +1,6 @@
 // Numbers in base ten and the line of a refusal, written from a place of a slice on. Each function returns the place behind what it wrote.
+#![tactic(auto)]
+
 pub mod encode;
 pub mod line;
 

@@ -3,6 +3,8 @@
 //
 // The entry of the numbers u and v stands at u * PLACES + v. Kruskal's pass fills the table: the key that merges two labels is the
 // longest so far, so its length is the bottleneck of each number with the one label and each with the other.
+#![tactic(auto)]
+
 ghost use Rattle.std.specs.Prelude.{◌≡◌, ℕ, ◌+◌, ◌≤◌, ◌<◌, length, take};
 ghost use Rattle.keys.specs.Keys.{places};
 ghost use Rattle.bottleneck.specs.Table.{entries, entry, chosen, RowFilled, LabelsMerged, FillRequires, Bottlenecks};

@@ -1,4 +1,6 @@
 // The header and the sections of a deck file put into a buffer. Each function returns the place behind what it puts.
+#![tactic(auto)]
+
 pub mod file;
 
 ghost use Rattle.std.specs.Prelude.{◌++◌, ◌+◌, ◌*◌, ◌≤◌, ◌<◌, length, take};

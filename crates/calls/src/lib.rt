@@ -1,4 +1,6 @@
 // The calls on a deck in working form. Each returns the next one and a reply; a refused call returns the same one.
+#![tactic(auto)]
+
 ghost use Rattle.std.specs.Prelude.{◌≡◌, T};
 ghost use Rattle.model.specs.Contents.{ValidContents};
 ghost use Rattle.model.specs.Call as call;
@@ -15,7 +17,7 @@ use working::deck::{LONGEST_TAIL, WorkingDeck, follow};
 
 // What a call replies: done, or a refusal by its number; a round: finished, or the new Steiner point and the whole fall in
 // length; a run to the end: the number of rounds that added a Steiner point.
-#[derive(Drop)]
+#[derive(Clone, Copy)]
 pub enum Reply {
     Done,
     Refused(u8),
@@ -25,7 +27,7 @@ pub enum Reply {
 }
 
 // The deck that follows, in working form, and the reply.
-#[derive(Drop)]
+#[derive(Clone, Copy)]
 pub struct Changed {
     pub working: WorkingDeck,
     pub reply: Reply,

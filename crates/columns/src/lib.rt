@@ -2,6 +2,8 @@
 //
 // Places that are held are no candidates. They spare nothing, and would win a column in which every candidate makes the tree longer, so their rows are
 // left out before the search.
+#![tactic(auto)]
+
 ghost use Rattle.std.specs.Prelude.{◌≡◌, ◌∷◌, [], ◌+◌, ◌*◌, ◌≤◌, ◌<◌, length, take};
 ghost use Rattle.std.proofs.Math.IntN.{sub_ℕ};
 ghost use Rattle.arrays.specs.Set.{passing};
@@ -24,7 +26,7 @@ use search::found::{Best, Greatest};
 use working::Working;
 
 // What a column answers: no candidate, or one by its x, its y and its saving.
-#[derive(Drop)]
+#[derive(Clone, Copy)]
 pub enum Choice {
     Nothing,
     Candidate(i32, i32, i32),

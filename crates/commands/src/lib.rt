@@ -1,4 +1,6 @@
 // The commands of a script: a name and the numbers behind it.
+#![tactic(auto)]
+
 ghost use Rattle.std.specs.Prelude.{◌≡◌};
 ghost use Rattle.commands.specs.Commands.{of_numbers, of_one_word, with_number, with_size, with_pair, with_three};
 ghost use Rattle.commands.specs.Commands.{question_word, with_kind, is_short, are_short, with_five};
@@ -7,7 +9,7 @@ use arguments::Arguments;
 use arrays::same::same_bytes;
 
 // A call that changes the deck.
-#[derive(Drop)]
+#[derive(Clone, Copy)]
 pub enum Change {
     Add(i32, i32, u32),
     Withdraw(i32, i32),
@@ -17,7 +19,7 @@ pub enum Change {
 }
 
 // A question on the deck.
-#[derive(Drop)]
+#[derive(Clone, Copy)]
 pub enum Query {
     Length,
     Counts,
@@ -29,7 +31,7 @@ pub enum Query {
 
 // A question on directions, for which no deck is needed: the octant of a difference, the arrow from a display to a bay at a pitch, the glyph of
 // a number.
-#[derive(Drop)]
+#[derive(Clone, Copy)]
 pub enum Direction {
     Octant(i32, i32),
     Arrow(i16, i16, i16, i16, i32),
@@ -38,7 +40,7 @@ pub enum Direction {
 
 // What a line asks for: nothing, as it is empty or a comment; no command; a file to read, which `bytes_of` gives; a file to write,
 // into so many bytes; a call; a question on the deck; a question on directions; the listing.
-#[derive(Drop)]
+#[derive(Clone, Copy)]
 pub enum Command {
     Blank,
     Error,

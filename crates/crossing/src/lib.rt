@@ -1,6 +1,8 @@
 // The best crossing of a round: of the candidates (SPEC 4.4) the lowest that makes the tree shortest, if it makes it shorter at all; and that of one column.
 //
 // The points are the first n of two slices of stored coordinates, lower first, and the keys of their tree the first m of `keys`.
+#![tactic(auto)]
+
 pub mod prepare;
 
 ghost use Rattle.std.specs.Prelude.{◌≡◌, map, ◌≤◌, ◌<◌, take};

@@ -17,14 +17,14 @@ use working::Working;
 use working::deck::{LONGEST_TAIL, WorkingDeck};
 
 // Whether points are those of a valid state, with their working form where they are.
-#[derive(Drop)]
+#[derive(Clone, Copy)]
 pub struct Formed {
     pub ok: bool,
     pub form: Working,
 }
 
 // Whether a deck is sound, with the deck in working form where it is.
-#[derive(Drop)]
+#[derive(Clone, Copy)]
 pub struct Checked {
     pub ok: bool,
     pub working: WorkingDeck,

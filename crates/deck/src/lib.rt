@@ -1,5 +1,7 @@
 // The deck (SPEC 5.1): its pins with their kinds, its Steiner points (taps), its tail length and the edges of its tree (runs), with the calls and
 // questions on it.
+#![tactic(auto)]
+
 mod answers;
 pub mod changes;
 pub mod check;
@@ -13,7 +15,7 @@ use points::{MAX_PINS, PLACES, Points};
 
 // The kinds stand in the order of the pins. An edge is the numbers of its two points in one, 128 times the first and the second, rising: the
 // listing order. Unused places hold zeros.
-#[derive(Drop)]
+#[derive(Clone, Copy)]
 pub struct Deck {
     pub points: Points,
     pub kinds: [u8; MAX_PINS],
@@ -22,7 +24,7 @@ pub struct Deck {
 }
 
 // What a call hands back: the deck that follows, and the reply.
-#[derive(Drop)]
+#[derive(Clone, Copy)]
 pub struct Outcome {
     pub next: Deck,
     pub reply: Reply,

@@ -1,4 +1,6 @@
 // The drawing program (SPEC 9.9): a deck file on standard input; on standard output a picture of its deck in SVG, or `refused N` on standard error.
+#![tactic(auto)]
+
 mod text;
 
 use deckfile::READ_ROOM;

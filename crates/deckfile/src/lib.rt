@@ -1,5 +1,7 @@
 // Deck files (SPEC 7): reading one, and writing one into a buffer. A deck is checked and its tree built once: whoever
 // goes on with a file reads and writes its deck in working form, and `read` and `write` do the same for decks.
+#![tactic(auto)]
+
 pub mod answer;
 mod reader;
 
@@ -30,7 +32,7 @@ pub const LONGEST: usize = header::LONGEST;
 pub const READ_ROOM: usize = LONGEST + 1;
 
 // What writing answers: a refusal by its number, or the length of the file.
-#[derive(Drop)]
+#[derive(Clone, Copy)]
 pub enum Written {
     Refused(u8),
     Length(usize),

@@ -1,4 +1,6 @@
 // The listing program (SPEC 9.1): a deck file on standard input; on standard output its listing after a run to the end, or `refused N`.
+#![tactic(auto)]
+
 mod text;
 
 use deckfile::READ_ROOM;

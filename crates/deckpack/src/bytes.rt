@@ -10,7 +10,7 @@ use lines::push;
 use packing::Packing;
 
 // What the lines so far leave, and how many bytes of the next line are there.
-#[derive(Drop)]
+#[derive(Clone, Copy)]
 pub struct Reader {
     pub packing: Packing,
     pub size: usize,

@@ -1,5 +1,7 @@
 // Packs a text of coordinates (SPEC 9.7): on standard input one pin a line, on standard output the plain file of the deck of these pins; or nothing,
 // and on standard error the line of the first fault.
+#![tactic(auto)]
+
 mod bytes;
 
 ghost use Rattle.packing.specs.Held.{Packs};

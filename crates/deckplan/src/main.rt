@@ -1,5 +1,7 @@
 // The planning program (SPEC 9.8): a deck file on standard input; on standard output the file of its deck after a run to the end, or `refused N` on
 // standard error.
+#![tactic(auto)]
+
 mod text;
 
 use deckfile::{LONGEST, READ_ROOM};

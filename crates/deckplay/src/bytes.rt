@@ -9,7 +9,7 @@ use deck::Deck;
 use lines::push;
 
 // The deck that the lines so far leave, and how many bytes of the next line are there.
-#[derive(Drop)]
+#[derive(Clone, Copy)]
 pub struct Reader {
     pub deck: Deck,
     pub size: usize,

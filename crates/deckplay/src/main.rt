@@ -1,4 +1,6 @@
 // Plays a script of calls: on standard input one call a line, on standard output one answer line for each.
+#![tactic(auto)]
+
 mod bytes;
 
 ghost use Rattle.std.specs.Prelude.{◌≡◌};

@@ -1,4 +1,6 @@
 // Answers to questions on directions, for which no deck is needed: the line of an octant, of an arrow, of a glyph.
+#![tactic(auto)]
+
 ghost use Rattle.std.specs.Prelude.{◌≡◌, ◌≤◌, length};
 ghost use Rattle.arrays.specs.Paste.{Pasted};
 ghost use Rattle.ascii.specs.Text.{fitting};

@@ -1,4 +1,6 @@
 // What the firmware of a display calls: the arrow to a bay, and its glyph.
+#![tactic(auto)]
+
 ghost use Rattle.std.specs.Prelude.{◌≡◌};
 ghost use Rattle.plane.specs.Point.{point};
 ghost use Rattle.arrow.specs.Arrow as arrow;

@@ -1,5 +1,7 @@
 // The parts of a picture in SVG (SPEC 9.9), each put from a place of a slice on: its head and its foot, a path for a run and a symbol for a point.
 // Each function returns the place behind what it put.
+#![tactic(auto)]
+
 ghost use Rattle.std.specs.Prelude.{◌++◌, ◌+◌, ◌≤◌, length};
 ghost use Rattle.arrays.specs.Paste.{Pasted};
 ghost use Rattle.plane.specs.Code.{point_of};

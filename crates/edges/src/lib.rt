@@ -1,4 +1,6 @@
 // The edges of a working form in the listing order, and lengths with tails. Whoever needs the edges of a deck or a length asks here.
+#![tactic(auto)]
+
 ghost use Rattle.std.specs.Prelude.{◌≡◌, ◌≤◌, ◌<◌};
 ghost use Rattle.plane.specs.Point.{dist};
 ghost use Rattle.plane.specs.Code.{point_of};
@@ -13,7 +15,7 @@ use points::PLACES;
 use working::Working;
 
 // An edge by the codes of its ends, the lower first, and its length.
-#[derive(Drop)]
+#[derive(Clone, Copy)]
 pub struct CodedEdge {
     pub low: u64,
     pub high: u64,

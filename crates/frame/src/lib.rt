@@ -1,4 +1,6 @@
 // The frame of a picture (SPEC 9.9): the box around the points of a deck, and where in the picture a point is drawn.
+#![tactic(auto)]
+
 ghost use Rattle.std.specs.Prelude.{◌≡◌, map, ◌≤◌, ◌<◌, length, take};
 ghost use Rattle.arrays.specs.Tab.{tab};
 ghost use Rattle.plane.specs.Coordinate.{base, coordinate};
@@ -20,14 +22,14 @@ const MIDDLE: u64 = 220;
 const MARGIN: u64 = 20;
 
 // The least and the greatest of some coordinates, in stored form.
-#[derive(Drop)]
+#[derive(Clone, Copy)]
 struct Reach {
     low: u16,
     high: u16,
 }
 
 // The box around points: its left and its upper side, in stored form, its width and its height.
-#[derive(Drop)]
+#[derive(Clone, Copy)]
 pub struct Frame {
     pub left: u16,
     pub top: u16,

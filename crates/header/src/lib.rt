@@ -1,4 +1,6 @@
 // The header of a file: the four letters, the count of sections, and a pair of offset and length for each; checks 1 to 3.
+#![tactic(auto)]
+
 ghost use Rattle.std.specs.Prelude.{◌≡◌, suc, ◌≤◌, ◌<◌, length};
 ghost use Rattle.model.specs.Sections as model;
 ghost use Rattle.model.specs.File.{shortest, headed, whole, plain, has_kinds};

@@ -1,5 +1,7 @@
 // An edge between two numbered points as one number, its key: (length * 128 + low) * 128 + high, where low and high are the numbers of
 // its two points, low the smaller. One comparison of keys compares lengths, then low, then high.
+#![tactic(auto)]
+
 ghost use Rattle.std.specs.Prelude.{◌≡◌, ◌≤◌, ◌<◌};
 ghost use Rattle.keys.specs.Keys as spec;
 

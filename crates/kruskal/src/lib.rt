@@ -1,5 +1,7 @@
 // Kruskal's pass over a list of keys: for each key, whether its two numbers are connected already by the keys that
 // were kept before. Each of the numbers below PLACES has a label, and two numbers are connected exactly if they have the same one.
+#![tactic(auto)]
+
 ghost use Rattle.std.specs.Prelude.{◌≡◌, [], ℕ, ◌≤◌, ◌<◌, length, take, get_or};
 ghost use Rattle.spanning.specs.Kruskal.{kruskal};
 ghost use Rattle.keys.specs.Keys.{places, key_graph};

@@ -1,4 +1,6 @@
 // The line of an input so far: its bytes at the front of an array.
+#![tactic(auto)]
+
 ghost use Rattle.std.specs.Prelude.{◌≡◌, ◌≤◌, length, take};
 ghost use Rattle.lines.specs.Lines.{input_room, more};
 

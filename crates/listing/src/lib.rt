@@ -1,4 +1,6 @@
 // The listing of a deck, in ASCII, written to the caller's slice.
+#![tactic(auto)]
+
 ghost use Rattle.std.specs.Prelude.{◌+◌, ◌≤◌, length};
 ghost use Rattle.model.specs.State.{Valid};
 ghost use Rattle.model.specs.Contents.{ValidContents};
@@ -24,7 +26,7 @@ use working::deck::WorkingDeck;
 pub const LISTING_ROOM: usize = 8704;
 
 // What a program prints for a deck file: so many bytes, on standard error where the file was refused, else on standard output.
-#[derive(Drop)]
+#[derive(Clone, Copy)]
 pub struct Printed {
     pub refused: bool,
     pub size: usize,

@@ -1,4 +1,6 @@
 // What is counted and measured of a deck in working form. The listing and the questions both ask here.
+#![tactic(auto)]
+
 ghost use Rattle.std.specs.Prelude.{◌≡◌, ◌≤◌, length};
 ghost use Rattle.model.specs.Contents.{ValidContents};
 ghost use Rattle.model.specs.KindLength.{kind_lengths};
@@ -15,7 +17,7 @@ use working::deck::WorkingDeck;
 pub const KIND_COUNT: usize = 3;
 
 // The numbers of pins, Steiner points and edges, and the length of the tree.
-#[derive(Drop)]
+#[derive(Clone, Copy)]
 pub struct Measures {
     pub pins: u64,
     pub steiner: u64,

@@ -1,4 +1,6 @@
 // The nearest points of a new one, by octants.
+#![tactic(auto)]
+
 ghost use Rattle.std.specs.Prelude.{◌≡◌, ◌≤◌, ◌<◌, length};
 ghost use Rattle.plane.specs.Stored.{point_at};
 ghost use Rattle.keys.specs.Held.{held};

@@ -1,4 +1,6 @@
 // Whole numbers of 32 bits, as words of a line.
+#![tactic(auto)]
+
 ghost use Rattle.std.specs.Prelude.{◌≡◌, ◌≤◌, pos, neg_ℤ};
 ghost use Rattle.numbers.specs.Numbers.{largest, smallest, magnitude_of, number_of};
 
@@ -8,7 +10,7 @@ const LARGEST: u64 = 2147483647;
 const SMALLEST: u64 = LARGEST + 1;
 
 // A word as a number: none, or its value.
-#[derive(Drop)]
+#[derive(Clone, Copy)]
 pub enum Number {
     NoNumber,
     Is(i32),

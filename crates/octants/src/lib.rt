@@ -1,4 +1,6 @@
 // The octants: which of eight the difference of two points is in.
+#![tactic(auto)]
+
 ghost use Rattle.std.specs.Prelude.{◌≡◌, ◌+◌, ◌≤◌, ◌-ℤ◌};
 ghost use Rattle.plane.specs.Coordinate.{coordinate};
 ghost use Rattle.octants.specs.Octant as table;

@@ -1,4 +1,6 @@
 // A text of coordinates line by line (SPEC 9.7): the deck of its pins so far, or the first fault.
+#![tactic(auto)]
+
 pub mod text;
 
 ghost use Rattle.std.specs.Prelude.{◌≡◌};
@@ -14,7 +16,7 @@ use pin_line::{PinLine, parse};
 use working::deck::WorkingDeck;
 
 // The first fault: none so far, a line that is none of these lines, or a pin that is refused; with the number of the line.
-#[derive(Drop)]
+#[derive(Clone, Copy)]
 pub enum Fault {
     None,
     Error(u64),
@@ -22,7 +24,7 @@ pub enum Fault {
 }
 
 // A text of which some lines were taken: the deck of their pins, how many lines they are, and the first fault.
-#[derive(Drop)]
+#[derive(Clone, Copy)]
 pub struct Packing {
     pub deck: WorkingDeck,
     pub lines: u64,

@@ -1,4 +1,6 @@
 // The picture of a deck in SVG (SPEC 9.9), written to the caller's slice.
+#![tactic(auto)]
+
 ghost use Rattle.std.specs.Prelude.{◌≡◌, map, ◌+◌, ◌*◌, ◌≤◌, length, take};
 ghost use Rattle.arrays.specs.Paste.{Pasted};
 ghost use Rattle.plane.specs.Code.{point_of};

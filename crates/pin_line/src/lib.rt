@@ -1,4 +1,6 @@
 // One line of a text of coordinates (SPEC 9.7): the pin that it asks for.
+#![tactic(auto)]
+
 ghost use Rattle.std.specs.Prelude.{◌≡◌, ◌≤◌, length};
 ghost use Rattle.arrays.specs.Set.{all};
 ghost use Rattle.pin_line.specs.PinLines.{is_comment, text_length, is_plain, with_kind, of_numbers, of_text, pin_line_of};
@@ -7,7 +9,7 @@ use arguments::{Arguments, arguments_of};
 use lines::LINE_LIMIT;
 
 // What a line asks for: nothing, as it is passed over; no pin, as it is none of these lines; a pin at a place, of a kind.
-#[derive(Drop)]
+#[derive(Clone, Copy)]
 pub enum PinLine {
     Passed,
     Error,

@@ -1,4 +1,6 @@
 // The plain file of a deck in working form (SPEC 7.4): its pins, no tap and no run, and the kinds if one is not a sensor (7.8).
+#![tactic(auto)]
+
 ghost use Rattle.std.specs.Prelude.{◌≡◌, ◌≤◌, length};
 ghost use Rattle.arrays.specs.Paste.{Pasted};
 ghost use Rattle.model.specs.DeviceKinds.{sensors_only};

@@ -13,7 +13,7 @@ const STORED_LIMIT: u64 = 60000;
 const LOWEST: i32 = -LIMIT;
 
 // A point by its code, or the answer that it is out of range.
-#[derive(Drop)]
+#[derive(Clone, Copy)]
 pub enum Located {
     OutOfRange,
     At(u64),

@@ -2,6 +2,8 @@
 //
 // A stored coordinate is a u16 that holds the coordinate plus 30,000. Every function here takes all values of its parameters,
 // also stored coordinates above 60,000, which no point in range has.
+#![tactic(auto)]
+
 pub mod codes;
 pub mod numbers;
 

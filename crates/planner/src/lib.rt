@@ -1,4 +1,6 @@
 // What the quote program calls: a deck file planned to the end.
+#![tactic(auto)]
+
 ghost use Rattle.std.specs.Prelude.{◌≡◌};
 ghost use Rattle.model.specs.File.{read_file};
 ghost use Rattle.deckfile.specs.Answer.{answer_number, answer_buffer};

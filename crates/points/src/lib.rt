@@ -1,4 +1,6 @@
 // The points of a deck: its pins and its Steiner points (taps) as codes (SPEC 5.1).
+#![tactic(auto)]
+
 pub mod change;
 pub mod check;
 pub mod kinds;
@@ -20,7 +22,7 @@ pub const MAX_POINTS: usize = MAX_PINS + MAX_STEINER + 1;
 pub const PLACES: usize = plane::PLACES;
 
 // Codes (see the crate plane) rise in each array, no code stands in both, and unused places hold zeros.
-#[derive(Drop)]
+#[derive(Clone, Copy)]
 pub struct Points {
     pub pins: [u64; MAX_PINS],
     pub npins: usize,

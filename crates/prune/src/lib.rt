@@ -1,4 +1,6 @@
 // The sweep on a working form (SPEC 4.1; the field's word is prune).
+#![tactic(auto)]
+
 pub mod change;
 
 ghost use Rattle.std.specs.Prelude.{◌≡◌, ◌≤◌, length, take};

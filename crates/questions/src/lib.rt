@@ -1,4 +1,6 @@
 // The questions on a deck in working form.
+#![tactic(auto)]
+
 ghost use Rattle.std.specs.Prelude.{◌≡◌, T};
 ghost use Rattle.model.specs.Contents.{ValidContents};
 ghost use Rattle.model.specs.Question as question;
@@ -17,7 +19,7 @@ use working::deck::WorkingDeck;
 // What a question answers: a refusal by its number; the length; the counts of pins, Steiner points and edges; an edge by its
 // lower end, its higher end and its length, or that there is none at the place; the number of edges at a point; the lengths of the kinds 0, 1 and 2; the
 // candidate of a column with its saving, or that there is none.
-#[derive(Drop)]
+#[derive(Clone, Copy)]
 pub enum Answer {
     Refused(u8),
     Length(u64),

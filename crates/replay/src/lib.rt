@@ -1,4 +1,6 @@
 // Lists of calls in bytes, for C: made on the deck of a file, which is then written.
+#![tactic(auto)]
+
 mod list;
 
 ghost use Rattle.std.specs.Prelude.{◌≡◌};

@@ -1,4 +1,6 @@
 // Lines for the replies and answers of a deck's calls and questions, without the line feed.
+#![tactic(auto)]
+
 ghost use Rattle.std.specs.Prelude.{◌+◌, ◌≤◌, length};
 ghost use Rattle.arrays.specs.Paste.{Pasted};
 ghost use Rattle.replies.specs.Replies.{numbers_text, point_head, fall_text, ends_text, edge_text, candidate_text, column_text, reply_text, answer_text};

@@ -1,5 +1,7 @@
 // The round and the run to the end on a working form, with tails of some length. Each function asks for a working form in order; whoever hands one in has to
 // show that it is, as the check of a deck does.
+#![tactic(auto)]
+
 ghost use Rattle.std.specs.Prelude.{◌≡◌, ◌≤◌};
 ghost use Rattle.model.specs.State.{Valid, points};
 ghost use Rattle.model.specs.Tail.{longest_tail};
@@ -13,14 +15,14 @@ use search::found::Best;
 use working::Working;
 
 // What a round does: it is finished, or adds a Steiner point, with its x, its y and the whole fall in length.
-#[derive(Drop)]
+#[derive(Clone, Copy)]
 pub enum Step {
     Finished,
     Tap(i32, i32, u64),
 }
 
 // A working form after a round, whether the round added a Steiner point, and what it did.
-#[derive(Drop)]
+#[derive(Clone, Copy)]
 pub struct Rounded {
     pub working: Working,
     pub added: bool,
@@ -28,7 +30,7 @@ pub struct Rounded {
 }
 
 // A working form after a run to the end, and how many rounds added a Steiner point.
-#[derive(Drop)]
+#[derive(Clone, Copy)]
 pub struct Ended {
     pub working: Working,
     pub count: u64,

@@ -1,4 +1,6 @@
 // The lines of a deck's listing: the two of three numbers, a tap line for each Steiner point and a run line for each edge.
+#![tactic(auto)]
+
 ghost use Rattle.std.specs.Prelude.{map, ◌+◌, ◌*◌, ◌≤◌, length, take};
 ghost use Rattle.plane.specs.Coordinate.{coordinate};
 ghost use Rattle.model.specs.Listing as model;

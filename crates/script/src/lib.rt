@@ -1,5 +1,7 @@
 // One line of a script of calls: the command that it asks for, and the bytes of a file in it. A line that asks for nothing and a
 // line that is no command have their own variants, so every line has an answer.
+#![tactic(auto)]
+
 ghost use Rattle.std.specs.Prelude.{◌≡◌, ◌≤◌, length, take, drop};
 ghost use Rattle.script.specs.Line.{command_of, of_words, with_file, of_file, file_in_line};
 ghost use Rattle.arrays.specs.Paste.{Pasted};

@@ -1,4 +1,6 @@
 // The search over the crossings, column by column.
+#![tactic(auto)]
+
 pub mod found;
 
 ghost use Rattle.std.specs.Prelude.{◌≡◌, List, map, ℕ, ◌≤◌, length, take};

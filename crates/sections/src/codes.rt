@@ -65,7 +65,7 @@ fn are_placed(pins: &[u64], n: usize, steiner: &[u64], m: usize) -> bool
 }
 
 // The points of a file as codes, with zeros behind them.
-#[derive(Drop)]
+#[derive(Clone, Copy)]
 pub struct FilePoints {
     pub ok: bool,
     pub pins: [u64; MAX_PINS],

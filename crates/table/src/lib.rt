@@ -1,4 +1,6 @@
 // The table of arrows: the constant, and the same numbers worked out by the octants.
+#![tactic(auto)]
+
 pub mod arrows;
 
 ghost use Rattle.std.specs.Prelude.{◌≡◌};

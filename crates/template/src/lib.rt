@@ -1,4 +1,6 @@
 // Texts with places for numbers: `%` stands for the next number, and `@` for the coordinate that it holds.
+#![tactic(auto)]
+
 ghost use Rattle.std.specs.Prelude.{◌+◌, ◌*◌, ◌≤◌, length};
 ghost use Rattle.plane.specs.Coordinate.{coordinate};
 ghost use Rattle.model.specs.Listing.{signed_decimal};
@@ -10,7 +12,7 @@ use ascii::{decimal, signed};
 use plane::{BASE, to_signed};
 
 // Where the text goes on, and how many numbers are used.
-#[derive(Drop)]
+#[derive(Clone, Copy)]
 pub struct Place {
     pub next: usize,
     pub used: usize,

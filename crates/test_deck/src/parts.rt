@@ -6,7 +6,7 @@ use calls::Reply;
 use columns::Choice;
 use questions::Answer;
 
-#[derive(Drop)]
+#[derive(Clone, Copy)]
 pub struct Parts {
     pub kind: u8,
     pub numbers: [u64; 3],

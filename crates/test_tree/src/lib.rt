@@ -1,5 +1,7 @@
 // The tree for tests in another language: functions over slices that ask nothing of their caller. A refusal is the answer REFUSED, and
 // nothing is written then.
+#![tactic(auto)]
+
 mod lengths;
 mod points;
 

@@ -1,11 +1,13 @@
 // The words of a line, one after the other, and bytes in hexadecimal.
+#![tactic(auto)]
+
 pub mod hex;
 
 ghost use Rattle.std.specs.Prelude.{◌≡◌, ◌+◌, ◌≤◌, length, drop};
 ghost use Rattle.words.specs.Words.{is_space, spaces, letters, Next};
 
 // A word: from the place `start` of its line up to the place `end`, which is not its own.
-#[derive(Drop)]
+#[derive(Clone, Copy)]
 pub struct Span {
     pub start: usize,
     pub end: usize,

@@ -11,7 +11,7 @@ use points::{MAX_PINS, Points};
 pub const LONGEST_TAIL: u64 = 500;
 
 // Only as many kinds count as there are pins.
-#[derive(Drop)]
+#[derive(Clone, Copy)]
 pub struct WorkingDeck {
     pub form: Working,
     pub kinds: [u8; MAX_PINS],

@@ -1,4 +1,6 @@
 // The working form of a deck: its points, all of them in one array with their coordinates, and the keys of their tree.
+#![tactic(auto)]
+
 pub mod deck;
 
 ghost use Rattle.std.specs.Prelude.{◌≡◌, ℕ, ◌≤◌, ◌<◌, length, get_or};
@@ -13,7 +15,7 @@ use points::{PLACES, Points};
 // Room for the keys of a tree while it is built: one for each place, and one for each octant of the point that joins.
 const KEY_ROOM: usize = PLACES + OCTANTS;
 
-#[derive(Drop)]
+#[derive(Clone, Copy)]
 pub struct Working {
     pub points: Points,
     pub codes: [u64; PLACES],
