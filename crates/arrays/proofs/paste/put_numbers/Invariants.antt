@@ -1,0 +1,12 @@
+-- `arrays::paste::put_numbers` meets its contract. The invariant: the numbers passed are written.
+use Prim.Native.Nat.{◌-◌}
+use lib.ListN.{length}
+use borrow.Author.Rules.{rules}
+use Rattle.arrays.proofs.paste.Copy.{Copied, copied_none, copied_more, copied_end}
+use Rattle.arrays.proofs.paste.put_numbers.Given as goal
+
+abbrev pub invariant-loop-i : goal.invariant-loop-i
+invariant-loop-i l = Copied l.items l.initial.out l.out l.at l.i
+
+abbrev pub decreases-loop-i : goal.decreases-loop-i
+decreases-loop-i l = length l.items - l.i

@@ -1,0 +1,10 @@
+-- `ascii::decimal` meets its contract: the digits are written as one word.
+use mathlib.Core.Path.{◌≡◌}
+use lib.ListN.{length}
+use borrow.Author.Rules.{rules}
+use Rattle.ascii.proofs.Decimals.{decimal-put}
+use Rattle.ascii.proofs.decimal.Goals as goal
+
+pub returns : goal.returns
+returns c = let size : length c.digits-start.new.1.0 ≡ 20 = search rules in
+    decimal-put c.digits-start.new.1.0 _ _ _ c.digits-start.result _ _ size c.digits-start.ensures.places_after c.put_bytes.ensures

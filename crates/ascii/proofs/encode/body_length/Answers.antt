@@ -1,0 +1,13 @@
+-- `ascii::encode::body_length` meets its contract: by whether there is a last byte, and whether it is a line feed.
+use borrow.Author.Rules.{rules}
+use Rattle.ascii.proofs.encode.Text.{body_empty, body_feed, body_other}
+use Rattle.ascii.proofs.encode.body_length.Goals as goal
+
+pub returns-then-n-eq0 : goal.returns-then-n-eq0
+returns-then-n-eq0 c = body_empty c.args.lines.now c.if-n-eq0.true
+
+pub returns-then-lines-n-eq10 : goal.returns-then-lines-n-eq10
+returns-then-lines-n-eq10 c = body_feed c.args.lines.now c.if-lines-n-eq10.true
+
+pub returns : goal.returns
+returns c = body_other c.args.lines.now c.if-lines-n-eq10.false

@@ -1,0 +1,13 @@
+-- `ascii::encode::spread_all` meets its contract. The invariant: what stands for the bytes passed is written.
+use Prim.Native.Nat.{◌-◌}
+use native.Mathlib.Omega.{arith}
+use borrow.Author.Rules.{rules}
+use Rattle.ascii.specs.Encoding.{spread}
+use Rattle.arrays.proofs.paste.Lines.{PutFirst, each_to, each-first_none, each-first_more, each-first_end}
+use Rattle.ascii.proofs.encode.spread_all.Given as goal
+
+abbrev pub invariant-loop-i : goal.invariant-loop-i
+invariant-loop-i l = PutFirst (each_to spread l.lines) 3 l.n l.initial.out l.out 0 l.next l.i
+
+abbrev pub decreases-loop-i : goal.decreases-loop-i
+decreases-loop-i l = l.n - l.i

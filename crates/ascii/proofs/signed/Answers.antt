@@ -1,0 +1,13 @@
+-- `ascii::signed` meets its contract: the magnitude, behind a minus sign where the number is negative.
+use native.Mathlib.Omega.{arith}
+use borrow.Author.Rules.{rules}
+use Rattle.arrays.proofs.paste.Parts.{pasted_then}
+use Rattle.ascii.proofs.Signs.{minus_put, plus_put}
+use Rattle.ascii.proofs.signed.Goals as goal
+
+pub returns-then-z-lt0 : goal.returns-then-z-lt0
+returns-then-z-lt0 c = minus_put _ _ _ _ _ _ c.ranges.z c.magnitude.ensures c.if-z-lt0.true
+    (pasted_then c.put_byte-next.ensures (omega arith) c.decimal.ensures.pasted)
+
+pub returns : goal.returns
+returns c = plus_put _ _ _ _ _ _ c.ranges.z c.magnitude-2.ensures c.if-z-lt0.false c.decimal-2.ensures.pasted

@@ -1,0 +1,9 @@
+-- `calls::run_to_end` meets its contract, by that of `rounds::finish_of`.
+use Rattle.calls.proofs.RoundCalls.{end_is}
+use Rattle.calls.proofs.run_to_end.Goals as goal
+
+pub finish_of-e-requires : goal.finish_of-e-requires
+finish_of-e-requires c = (c.requires.0, (c.requires.1.state, c.requires.1.tailed))
+
+pub returns : goal.returns
+returns c = end_is _ c.requires.0 c.requires.1 _ c.finish_of-e.ensures

@@ -1,0 +1,9 @@
+-- `columns::saving_of` meets its contract: the saving is that difference, read back as it is.
+use mathlib.Core.Path.{◌∙◌}
+use mir.Syntax.{w32}
+use mir.ValLaws.{to_z-of_z}
+use borrow.Author.Rules.{rules}
+use Rattle.columns.proofs.saving_of.Goals as goal
+
+pub returns : goal.returns
+returns c = to_z-of_z w32 _ (record { sfits = c.difference.type-inv }) ∙ c.difference.ensures

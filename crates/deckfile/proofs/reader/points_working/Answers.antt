@@ -1,0 +1,29 @@
+-- `deckfile::reader::points_working` meets its contract: the codes found are those of the points shown, with zeros behind.
+use mathlib.Core.Path.{◌≡◌}
+use lib.ListN.{length}
+use Rattle.sections.specs.Codes.{file_places}
+use Rattle.deckfile.proofs.reader.LastCheck.{found_within, found_length, found_fits, steiner-put, working_for}
+use borrow.Author.Rules.{rules}
+use Rattle.deckfile.proofs.reader.points_working.Goals as goal
+
+pub slice_bounds-all-end : goal.slice_bounds-all-end
+slice_bounds-all-end c = let full : length c.args.found.steiner ≡ file_places = search rules in
+    found_within c.args.b.now c.requires.0 c.requires.1.1.0 c.args.found _ c.size-m.ensures.0
+    c.requires.1.1.1 full
+
+pub slice_bounds-put_numbers-end-2 : goal.slice_bounds-put_numbers-end-2
+slice_bounds-put_numbers-end-2 c = let full : length c.args.found.steiner ≡ file_places = search rules in
+    found_length c.args.b.now c.pre.0 c.pre.1.1.0 c.args.found _ c.size-m.ensures.0
+    c.pre.1.1.1 full
+
+pub put_numbers-requires : goal.put_numbers-requires
+put_numbers-requires c = let full : length c.args.found.steiner ≡ file_places = search rules in
+    found_fits c.args.b.now c.pre.0 c.pre.1.1.0 c.args.found _ c.size-m.ensures.0
+    c.pre.1.1.1 full
+
+pub returns : goal.returns
+returns c = let b = c.args.b.now in
+    let p = c.pre.1.1.0 in
+    let row = steiner-put b c.pre.0 p _ c.pre.1.0 _ c.size-m.ensures.0 c.put_numbers.ensures in
+    working_for b c.pre.0 p _ c.pre.1.0 _ _ c.size-n.ensures.0 c.size-m.ensures.0 _ row
+    _ c.form_of.ensures

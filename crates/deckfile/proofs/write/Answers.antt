@@ -1,0 +1,19 @@
+-- `deckfile::write` meets its contract: the check, then the file of the working form.
+use borrow.Author.Tests.{not-true, not-false}
+use mathlib.Core.Path.{sym, ◌∙◌}
+use Rattle.deck.proofs.Calls.{checked_sound, checked_valid}
+use Rattle.deckfile.proofs.Stored.{write_unsound, write-stored}
+use borrow.Author.Rules.{rules}
+use Rattle.deckfile.proofs.write.Goals as goal
+
+pub returns-then-not-c : goal.returns-then-not-c
+returns-then-not-c c = let k = c.check-c.ensures in
+    write_unsound _ _ (sym k.ok ∙ not-true _ c.if-not-c.true)
+
+pub write_working-requires : goal.write_working-requires
+write_working-requires c = checked_valid _ _ c.check-c.ensures (not-false _ c.if-not-c.false)
+
+pub returns : goal.returns
+returns c = let k = c.check-c.ensures in
+    let e = not-false _ c.if-not-c.false in
+    write-stored _ _ (sym k.ok ∙ e) (checked_sound _ _ k e).2 c.write_working.ensures

@@ -1,0 +1,10 @@
+-- `deckfile::write_working` meets its contract: a buffer that is too short, or the file in it.
+use Rattle.deckfile.proofs.Stored.{stored_short, stored-done}
+use borrow.Author.Rules.{rules}
+use Rattle.deckfile.proofs.write_working.Goals as goal
+
+pub returns-then-out-n : goal.returns-then-out-n
+returns-then-out-n c = stored_short _ _ _ c.file_length-n.ensures c.if-out-n.true
+
+pub returns : goal.returns
+returns c = stored-done _ _ _ c.file_length-n.ensures c.if-out-n.false c.put_file.ensures

@@ -1,0 +1,15 @@
+-- `listing::write_taps` meets its contract: a valid state has few Steiner points.
+use native.Mathlib.Omega.{arith}
+use borrow.Author.Rules.{rules}
+use Rattle.model.proofs.FileSize.{steiner_few_lem}
+use Rattle.points.proofs.Coded.{steiner_count_lem}
+use Rattle.listing.proofs.write_taps.Goals as goal
+
+pub tap_lines-requires : goal.tap_lines-requires
+tap_lines-requires c = let p = c.requires.1.0 in
+    let s = p.arranged.steiner_codes in
+    (omega (arith, steiner_few_lem _ c.requires.1.1, steiner_count_lem _ p.arranged), omega (arith, s.few, s.size))
+
+pub returns : goal.returns
+returns c = let few = steiner_few_lem _ c.requires.1.1 in
+    (c.tap_lines.ensures.pasted, omega (arith, c.tap_lines.ensures.upper_bound, few, steiner_count_lem _ c.requires.1.0.arranged))

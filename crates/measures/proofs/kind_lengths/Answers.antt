@@ -1,0 +1,55 @@
+-- `measures::kind_lengths` meets its contract. The invariant: the edges passed are added up, each in the sum of its kind.
+use mathlib.Core.Path.{◌≡◌}
+use Prim.Native.Nat.{◌-◌, ◌≤◌}
+use native.Mathlib.Omega.{arith}
+use lib.ListN.{length}
+use borrow.Author.Rules.{rules}
+use Rattle.model.specs.KindLength.{run_kind}
+use Rattle.working.specs.WorkingDeck.{contents_of}
+use Rattle.edges.specs.Edges.{edge_of}
+use Rattle.measures.proofs.Sums.{SumsTo, sums_none, kind_is, sum_fits, sums_more, sums_all}
+use Rattle.measures.proofs.kind_lengths.Goals as goal
+
+-- The kind of the edge.
+known : (at : tie.After-edge-kind invariant-loop decreases-loop)
+    → let at-loop = (test_of (edge_of_lem at)).before.before in
+    (at.edge-kind.result ≡ run_kind (contents_of (entry_of at-loop).args.d) (edge_of (edge_of_lem at).edge_at.result)) × (at.edge-kind.result ≤ 2)
+known at =
+    let at-loop = (test_of (edge_of_lem at)).before.before in
+    let pre = (entry_of at-loop).pre in
+    kind_is _ pre.0 pre.1 (edge_of_lem at).edge_at.ensures at.edge-kind.ensures
+
+kinds-sized : (entry : tie.Start invariant-loop decreases-loop) → length entry.args.d.kinds ≡ 64
+kinds-sized entry = search rules
+
+pub loop-i-init : goal.loop-i-init
+loop-i-init c = sums_none _
+
+pub edge_at-e-requires : goal.edge_at-e-requires
+edge_at-e-requires c = ((c).requires.0, (c.edge_numbers-ends.ensures, (c.loop-i-test.true, (c).requires.1.tailed)))
+
+pub edge_kind-k-requires : goal.edge_kind-k-requires
+edge_kind-k-requires c = let entry = (c) in
+    let codes = entry.pre.0.arranged.pin_codes in
+    (omega (arith, codes.few, codes.size), omega (arith, codes.few, kinds-sized entry))
+
+pub offset_bounds-sums-k : goal.offset_bounds-sums-k
+offset_bounds-sums-k c = omega (arith, (known c).1)
+
+pub bounds-sums-k : goal.bounds-sums-k
+bounds-sums-k c = omega (arith, (known c).1)
+
+pub overflow_add-sums : goal.overflow_add-sums
+overflow_add-sums c = let k = known c in
+    let fits = sum_fits _ _ _ _ _ c.loop-i.inv c.edge_at-e.ensures k.0 k.1 (c).pre.1.tailed in
+    omega (arith, fits, c.loop-i-test.taken, (c).pre.0.keys_few)
+
+pub bounds-sums-k-in-loop-i : goal.bounds-sums-k-in-loop-i
+bounds-sums-k-in-loop-i c = omega (arith, (known c).1)
+
+pub loop-i-preserved : goal.loop-i-preserved
+loop-i-preserved c = let k = known c in
+    sums_more _ _ _ _ _ c.loop-i.inv c.edge_at-e.ensures k.0 k.1 (c).pre.1.tailed
+
+pub returns : goal.returns
+returns c = sums_all _ (c).requires.0 c.loop-i.invariant c.loop-i-test.false

@@ -1,0 +1,25 @@
+-- `picture::draw_working` meets its contract: the parts of the picture in turn, each behind the one before.
+use native.Mathlib.Omega.{arith}
+use borrow.Author.Rules.{rules}
+use Rattle.arrays.proofs.paste.Parts.{pasted_then}
+use Rattle.ascii.proofs.Room.{front_none, front-put}
+use Rattle.picture.specs.Rooms.{picture_room}
+use Rattle.picture.proofs.Texts.{picture_put}
+use Rattle.picture.proofs.draw_working.Goals as goal
+
+pub returns-then-out-lt-PICTURE_ROOM : goal.returns-then-out-lt-PICTURE_ROOM
+returns-then-out-lt-PICTURE_ROOM c = front_none picture_room _ _ c.if-out-lt-PICTURE_ROOM.true
+
+pub returns : goal.returns
+returns c = let head = c.put_head-runs.ensures in
+    let runs = c.put_runs-end.ensures in
+    let end = c.put_bytes-symbols.ensures in
+    let points = c.put_points-foot.ensures in
+    let foot = c.put_foot.ensures in
+    let room = c.if-out-lt-PICTURE_ROOM.false in
+    front-put picture_room _ _ _ _ room
+    (picture_put c.args.d _ _ c.measure-m.ensures c.frame_for-f.ensures
+    (pasted_then head.0 (omega (arith, room, head.1))
+    (pasted_then runs.0 (omega (arith, room, head.1, runs.1))
+    (pasted_then end (omega (arith, room, head.1, runs.1, end.next))
+    (pasted_then points.0 (omega (arith, room, head.1, runs.1, end.next, points.1)) foot.0)))))

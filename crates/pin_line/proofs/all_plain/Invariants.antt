@@ -1,0 +1,18 @@
+-- `pin_line::all_plain` meets its contract. The invariant: the bytes passed pass the test.
+use mathlib.Core.Path.{ap, ◌∙◌}
+use Prim.Native.Nat.{◌-◌}
+use native.Mathlib.Omega.{arith}
+use lib.ListN.{length}
+use lib.Seq.{take-length}
+use borrow.Author.Rules.{rules}
+use borrow.Author.Tests.{not-true, not-false}
+use Rattle.arrays.specs.Set.{all}
+use Rattle.sorted.proofs.Scan.{Passed, passed_none, passed_more, passed_fail, passed_end}
+use Rattle.pin_line.specs.PinLines.{is_plain}
+use Rattle.pin_line.proofs.all_plain.Given as goal
+
+abbrev pub invariant-loop-i : goal.invariant-loop-i
+invariant-loop-i l = Passed is_plain l.text (length l.text) l.i
+
+abbrev pub decreases-loop-i : goal.decreases-loop-i
+decreases-loop-i l = length l.text - l.i

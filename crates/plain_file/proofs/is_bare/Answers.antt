@@ -1,0 +1,19 @@
+-- `plain_file::is_bare` meets its contract: there are places for the kinds.
+use mathlib.Core.Path.{◌≡◌, sym}
+use Prim.Native.Nat.{◌≤◌}
+use native.Mathlib.Omega.{arith}
+use lib.ListN.{length}
+use lib.Seq.{length-take-le}
+use borrow.Author.Rules.{rules}
+use Rattle.plain_file.proofs.is_bare.Goals as goal
+
+few : (entry : tie.Start) → entry.args.w.form.points.npins ≤ length entry.args.w.kinds
+few entry =
+    let long : length entry.args.w.kinds ≡ 64 = search rules in
+    omega (arith, long, entry.requires.arranged.pin_codes.few)
+
+pub slice_bounds-kinds-end : goal.slice_bounds-kinds-end
+slice_bounds-kinds-end c = few c
+
+pub slice_bounds-all_within-end : goal.slice_bounds-all_within-end
+slice_bounds-all_within-end c = sym (length-take-le _ _ (few c))

@@ -1,0 +1,21 @@
+-- `plane::difference` meets its contract: 32 bits hold both numbers and their difference, so all three are read back as they are.
+use mathlib.Core.Path.{◌≡◌, sym, ap₂, ◌∙◌, subst}
+use native.Mathlib.Omega.{arith}
+use borrow.Author.Rules.{rules}
+use lib.IntN.{sub_ℕ, ◌-ℤ◌}
+use mir.Syntax.{w32}
+use mir.Val.{SFits, to_z}
+use mir.ValLaws.{to_z_pos}
+use Rattle.arrays.proofs.Signed.{read_is}
+use Rattle.plane.proofs.Signed.{lowered, lowered_fits}
+use Rattle.plane.proofs.difference.Goals as goal
+
+lesser : (s : tie.Start) → to_z w32 s.args.a -ℤ to_z w32 s.args.b ≡ sub_ℕ s.args.a s.args.b
+lesser s =
+    ap₂ ◌-ℤ◌ (to_z_pos w32 s.args.a (omega (arith, s.requires))) (to_z_pos w32 s.args.b (omega (arith, s.requires))) ∙ lowered s.args.a s.args.b
+
+pub overflow_sub-result : goal.overflow_sub-result
+overflow_sub-result c = subst (SFits w32) (sym (lesser c)) (lowered_fits c.args.a c.args.b c.requires.0 c.requires.1)
+
+pub returns : goal.returns
+returns c = read_is (sub-result c) (lesser c)

@@ -1,0 +1,25 @@
+-- `planner::planner_plan` meets its contract: a refusal of the file, or its deck in working form run to the end and written.
+-- (must-fail/deck_as_read.edit changes a line that names the place `run`.)
+use Rattle.model.specs.Call.{contents_after}
+use Rattle.model.specs.File.{read_file}
+use Rattle.model.proofs.FileAnswer.{read_possible}
+use Rattle.deckfile.proofs.answer.Entry.{read-refused, read_taken, changed_valid, answer-stored}
+use Rattle.planner.specs.Entry.{to_end}
+use borrow.Author.Rules.{rules}
+use Rattle.planner.proofs.planner_plan.Goals as goal
+
+pub returns-then-refused-ne0 : goal.returns-then-refused-ne0
+returns-then-refused-ne0 c = read-refused (read_file _) to_end _ _ c.read_working-c.ensures c.refusal_number-refused.ensures c.if-refused-ne0.true
+
+pub run_to_end-e-requires : goal.run_to_end-e-requires
+run_to_end-e-requires c = let taken = read_taken (read_file _) (read_possible _) c.read_working-c.ensures c.refusal_number-refused.ensures c.if-refused-ne0.false in
+    (taken.1, taken.2)
+
+pub write_working-requires : goal.write_working-requires
+write_working-requires c = let taken = read_taken (read_file _) (read_possible _) c.read_working-c.ensures c.refusal_number-refused.ensures c.if-refused-ne0.false in
+    changed_valid taken.2 c.run_to_end-e.ensures
+
+pub returns : goal.returns
+unfolding contents_after
+returns c = let taken = read_taken (read_file _) (read_possible _) c.read_working-c.ensures c.refusal_number-refused.ensures c.if-refused-ne0.false in
+    answer-stored (read_file _) to_end _ taken.0 c.run_to_end-e.ensures.next c.number_of.ensures c.write_working.ensures

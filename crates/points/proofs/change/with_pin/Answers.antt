@@ -1,0 +1,8 @@
+-- `points::change::with_pin` meets its contract: the point joins the pins and leaves the Steiner points.
+use Rattle.points.proofs.change.Joins.{with_pin_lem}
+use borrow.Author.Rules.{rules}
+use Rattle.points.proofs.change.with_pin.Goals as goal
+
+pub returns : goal.returns
+returns c = with_pin_lem _ c.requires.0 _ c.requires.1.0 _ _ _ _ c.requires.1.1 c.put-npins.ensures c.put-npins.auto.0 c.out-nsteiner.ensures
+    c.out-nsteiner.auto.0

@@ -1,0 +1,7 @@
+-- `points::change::with_steiner` meets its contract: the point joins the Steiner points.
+use Rattle.points.proofs.change.Joins.{with_steiner_lem}
+use borrow.Author.Rules.{rules}
+use Rattle.points.proofs.change.with_steiner.Goals as goal
+
+pub returns : goal.returns
+returns c = with_steiner_lem _ c.requires.0 _ c.requires.1.0 _ _ c.requires.1.1.0 c.requires.1.1.1 c.put-nsteiner.ensures c.put-nsteiner.auto.0

@@ -1,0 +1,7 @@
+-- `points::change::without_pin` meets its contract: the point leaves the pins.
+use Rattle.points.proofs.change.Joins.{without_pin_lem}
+use borrow.Author.Rules.{rules}
+use Rattle.points.proofs.change.without_pin.Goals as goal
+
+pub returns : goal.returns
+returns c = without_pin_lem _ c.requires.0 _ c.requires.1 _ _ c.out-npins.ensures c.out-npins.auto.0

@@ -1,0 +1,7 @@
+-- `points::change::without_steiner` meets its contract: the point leaves the Steiner points.
+use Rattle.points.proofs.change.Joins.{without-steiner}
+use borrow.Author.Rules.{rules}
+use Rattle.points.proofs.change.without_steiner.Goals as goal
+
+pub returns : goal.returns
+returns c = without-steiner _ c.requires.0 _ c.requires.1 _ _ c.out-nsteiner.ensures c.out-nsteiner.auto.0

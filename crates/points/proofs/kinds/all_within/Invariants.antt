@@ -1,0 +1,19 @@
+-- `points::kinds::all_within` meets its contract. The invariant: the numbers passed are at most `most`.
+use mathlib.Core.Path.{refl, ap, ◌∙◌}
+use mathlib.Core.Bool.{Bool}
+use Prim.Native.Nat.{ℕ, ◌-◌}
+use native.Mathlib.Omega.{arith}
+use lib.Dec.{leb}
+use lib.ListN.{length}
+use lib.Seq.{take-length}
+use borrow.Author.Tests.{le-leb, lt-leb}
+use borrow.Author.Rules.{rules}
+use Rattle.arrays.specs.Set.{all}
+use Rattle.sorted.proofs.Scan.{Passed, passed_none, passed_more, passed_fail, passed_end}
+use Rattle.points.proofs.kinds.all_within.Given as goal
+
+abbrev pub invariant-loop-i : goal.invariant-loop-i
+invariant-loop-i l = Passed (within l.most) l.kinds (length l.kinds) l.i
+
+abbrev pub decreases-loop-i : goal.decreases-loop-i
+decreases-loop-i l = length l.kinds - l.i

@@ -1,0 +1,14 @@
+-- `prune::change::with_steiner` meets its contract: a Steiner point joins, and a sweep follows.
+use mathlib.Core.Path.{ap, ◌∙◌}
+use Rattle.model.specs.State.{insert, remove, prune}
+use Rattle.prune.proofs.change.with_steiner.Goals as goal
+
+pub with_steiner-requires : goal.with_steiner-requires
+with_steiner-requires c = (c.requires.0.arranged, (c.requires.1.0, (c.requires.1.1.0, c.requires.1.1.1)))
+
+pub prune-requires : goal.prune-requires
+prune-requires c = c.with_steiner.ensures.0
+
+pub returns : goal.returns
+unfolding insert remove
+returns c = (c.prune.ensures.0, c.prune.ensures.1 ∙ ap prune c.with_steiner.ensures.1)

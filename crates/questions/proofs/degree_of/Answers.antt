@@ -1,0 +1,34 @@
+-- `questions::degree_of` meets its contract: a code held stands at the number of its point, one not held has no edge.
+use mathlib.Core.Path.{◌≡◌, sym, ◌∙◌}
+use native.Mathlib.Omega.{arith}
+use lib.ListN.{length}
+use borrow.Author.Tests.{not-true, not-false}
+use Rattle.arrays.proofs.Test.{of_true}
+use Rattle.questions.proofs.Answers.{degree_none, degree-there}
+use borrow.Author.Rules.{rules}
+use Rattle.questions.proofs.degree_of.Goals as goal
+
+codes-sized : (entry : tie.Start) → length entry.args.w.codes ≡ 128
+codes-sized entry = search rules
+
+keys-sized : (entry : tie.Start) → length entry.args.w.keys ≡ 136
+keys-sized entry = search rules
+
+pub has-requires : goal.has-requires
+has-requires c = omega (arith, c.requires.0.few, codes-sized c)
+
+pub returns-then-not-has : goal.returns-then-not-has
+returns-then-not-has c = let given = (c).requires in
+    degree_none _ given.0 _ given.1 (sym c.has.ensures ∙ not-true _ c.if-not-has.true)
+
+pub index_of-requires : goal.index_of-requires
+index_of-requires c = let entry = (c) in
+    omega (arith, entry.pre.0.few, codes-sized entry)
+
+pub degree_of-requires : goal.degree_of-requires
+degree_of-requires c = let entry = (c) in
+    omega (arith, entry.pre.0.keys_few, keys-sized entry)
+
+pub returns : goal.returns
+returns c = let held = of_true (sym c.has.ensures ∙ not-false _ c.if-not-has.false) in
+    degree-there _ (c).requires.0 _ _ _ held c.index_of.ensures c.degree_of.ensures

@@ -1,0 +1,14 @@
+-- `questions::edge_at` meets its contract: the edge at the place, or none beyond the last.
+use mathlib.Core.Path.{◌∙◌}
+use Rattle.questions.proofs.Answers.{no_edge, edge-there}
+use borrow.Author.Rules.{rules}
+use Rattle.questions.proofs.edge_at.Goals as goal
+
+pub returns-then-d-i : goal.returns-then-d-i
+returns-then-d-i c = no_edge _ _ c.requires.0 _ c.if-d-i.true
+
+pub edge_at-requires : goal.edge_at-requires
+edge_at-requires c = (c.requires.0, (c.edge_numbers-ends.ensures, (c.if-d-i.false, c.requires.1.tailed)))
+
+pub returns : goal.returns
+returns c = c.answer_of.ensures ∙ edge-there _ _ _ _ c.edge_at.ensures

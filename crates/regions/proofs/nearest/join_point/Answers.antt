@@ -1,0 +1,14 @@
+-- `regions::nearest::join_point` meets its contract: the point is west of the column, or it is not.
+use mathlib.Core.Path.{refl}
+use mathlib.Core.Logic.{inl, inr}
+use native.Mathlib.Omega.{arith}
+use borrow.Author.Rules.{rules}
+use Rattle.regions.proofs.nearest.join_point.Goals as goal
+
+pub relax_point-requires : goal.relax_point-requires
+relax_point-requires c = let p = c.requires in
+    ((p.0.0, p.0.1, record { low = omega arith; is = inl (c.if-xs-j.true, refl) }), p.1)
+
+pub relax_point-requires-2 : goal.relax_point-requires-2
+relax_point-requires-2 c = let p = c.requires in
+    ((p.0.0, p.0.1, record { low = omega arith; is = inr (c.if-xs-j.false, refl) }), p.1)

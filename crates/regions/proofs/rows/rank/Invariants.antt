@@ -1,0 +1,14 @@
+-- `regions::rows::rank` meets its contract. The invariant: the rows passed are below y.
+use mathlib.Core.Logic.{⊎_elim}
+use Prim.Native.Nat.{ℕ, ◌-◌, ◌≤◌, ◌<◌}
+use native.Mathlib.Nat.{eq-or-lt_of_le}
+use native.Mathlib.Omega.{arith}
+use borrow.Author.Count.{below_none, below_more}
+use lib.ListN.{get_or}
+use Rattle.regions.proofs.rows.rank.Given as goal
+
+abbrev pub invariant-loop-r : goal.invariant-loop-r
+invariant-loop-r l = (l.r ≤ l.count) × ((q : ℕ) → q < l.r → get_or l.rows q 0 < l.y)
+
+abbrev pub decreases-loop-r : goal.decreases-loop-r
+decreases-loop-r l = l.count - l.r
