@@ -15,5 +15,5 @@ pub slice_bounds-read-end : goal.slice_bounds-read-end
 slice_bounds-read-end c = (front-within c.bytes_of-n.ensures).1
 
 pub returns : goal.returns
-returns c = let f = filled-file _ _ _ c.bytes_of-n.ensures (read_fits _ c.requires.0) in
+returns c = let f = filled-file _ _ _ c.bytes_of-n.ensures (read_fits _ c.requires.line_value) in
     plays_same _ _ _ _ _ (ap changes (c.read.ensures ∙ ap reading f)) c.changed.ensures

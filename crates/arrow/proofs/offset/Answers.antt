@@ -16,4 +16,4 @@ overflow_cast-result c = raised_cast table_limit c.args.d c.ranges.d c.requires 
 
 pub returns : goal.returns
 returns c = let same = ap nat_abs (raised_read table_limit c.args.d c.ranges.d c.requires (omega arith)) in
-    (same, omega (arith, same, raised_most table_limit c.args.d c.ranges.d c.requires (omega arith)))
+    record { value = same; upper_bound = omega (arith, same, raised_most table_limit c.args.d c.ranges.d c.requires (omega arith)) }

@@ -5,4 +5,4 @@ use Rattle.arrays.proofs.paste.Parts.{pasted_then}
 use Rattle.ascii.proofs.decimal_field.Goals as goal
 
 pub returns : goal.returns
-returns c = (pasted_then c.put_byte-next.ensures (omega arith) c.decimal.ensures.pasted, omega arith)
+returns c = record { pasted = pasted_then c.put_byte-next.ensures (omega arith) c.decimal.ensures.pasted; upper_bound = omega arith }

@@ -13,7 +13,7 @@ pub shape_of-places-then-rest-lt10 : goal.shape_of-places-then-rest-lt10
 shape_of-places-then-rest-lt10 c = filled-size _ _ _ _ c.loop-i.invariant c.loop-i-test.true c.args.places.now c.requires
 
 pub returns-then-rest-lt10 : goal.returns-then-rest-lt10
-returns-then-rest-lt10 c = (omega arith, filled_end _ _ _ _ c.loop-i.invariant c.loop-i-test.true c.if-rest-lt10.true)
+returns-then-rest-lt10 c = record { upper_bound = omega arith; places_after = filled_end _ _ _ _ c.loop-i.invariant c.loop-i-test.true c.if-rest-lt10.true }
 
 pub loop-i-preserved : goal.loop-i-preserved
 loop-i-preserved c = filled_more _ _ _ _ c.loop-i.invariant c.loop-i-test.true c.if-rest-lt10.false
@@ -22,4 +22,4 @@ pub shape_of-places : goal.shape_of-places
 shape_of-places c = c.loop-i.invariant.size ∙ sym c.requires
 
 pub returns : goal.returns
-returns c = (omega arith, filled_full _ _ _ _ c.loop-i.invariant c.loop-i-test.false)
+returns c = record { upper_bound = omega arith; places_after = filled_full _ _ _ _ c.loop-i.invariant c.loop-i-test.false }

@@ -8,4 +8,4 @@ use Rattle.ascii.proofs.signed_field.Goals as goal
 
 pub returns : goal.returns
 returns c = let text = pasted_same (read_one signed_decimal c.ranges.z) c.signed.ensures.pasted in
-    (pasted_then c.put_byte-next.ensures (omega arith) text, omega arith)
+    record { pasted = pasted_then c.put_byte-next.ensures (omega arith) text; upper_bound = omega arith }

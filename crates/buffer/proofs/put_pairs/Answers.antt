@@ -11,14 +11,14 @@ loop-k-init c = none_put _ _ _ _
 
 pub put_pair-next-requires : goal.put_pair-next-requires
 put_pair-next-requires c = let put = c.loop-k.invariant.put in
-    omega (arith, put.most, put.same, c.requires.0)
+    omega (arith, put.most, put.same, c.requires.sizes_in_bounds)
 
 pub overflow_add-offset : goal.overflow_add-offset
-overflow_add-offset c = omega (arith, next-within _ _ _ _ c.loop-k.invariant c.loop-k-test.true, c.requires.1)
+overflow_add-offset c = omega (arith, next-within _ _ _ _ c.loop-k.invariant c.loop-k-test.true, c.requires.sizes_bound)
 
 pub loop-k-preserved : goal.loop-k-preserved
 loop-k-preserved c = let put = c.loop-k.invariant.put in
-    pair_put _ _ _ _ c.loop-k.invariant c.loop-k-test.true (omega (arith, put.most, put.same, c.requires.0))
+    pair_put _ _ _ _ c.loop-k.invariant c.loop-k-test.true (omega (arith, put.most, put.same, c.requires.sizes_in_bounds))
     c.put_pair-next.ensures c.put_pair-next.auto.1.1.0
 
 pub shape_of-out : goal.shape_of-out

@@ -6,4 +6,4 @@ use borrow.Author.Rules.{rules}
 use Rattle.columns.proofs.saving_of.Goals as goal
 
 pub returns : goal.returns
-returns c = to_z-of_z w32 _ (record { sfits = c.difference.type-inv }) ∙ c.difference.ensures
+returns c = to_z-of_z w32 _ (record { sfits = c.difference.type_inv }) ∙ c.difference.ensures

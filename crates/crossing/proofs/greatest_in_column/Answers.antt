@@ -14,4 +14,4 @@ returns c = let at-prepare = (c) in
     let at-ys = at-blank2.before.before.before.before in
     let entry = at-ys.before.before in
     let found = c.column.ensures _ at-prepare.prepare.ensures in
-    (found, found_fits entry.pre.0 (λ i. (at-ys.before.shared-slice-known.given i).fits) (λ i. (at-ys.shared-slice-known2.given i).fits) _ found)
+    record { value = found; gain_le_most_gain = found_fits entry.pre.0 (λ i. (at-ys.before.shared-slice-known.given i).fits) (λ i. (at-ys.shared-slice-known2.given i).fits) _ found }

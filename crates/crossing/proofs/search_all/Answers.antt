@@ -8,9 +8,6 @@ use Rattle.crossing.proofs.prepare.Values.{lines-written, lines-rise}
 use Rattle.crossing.proofs.Candidates.{best_found}
 use Rattle.crossing.proofs.search_all.Goals as goal
 
-columns : (c : tie.After-lines) → Lines (start c).args.xs.now (start c).args.n c.lines.new.1.1.0 c.lines.result
-columns c = lines-written (start c).args.xs.now (start c).args.n c.lines.ensures
-
 rows : (c : tie.After-lines2)
     → Lines (start (columns-stand c)).args.ys.now (start (columns-stand c)).args.n c.lines2.new.1.1.0 c.lines2.result
 rows c = lines-written (start (columns-stand c)).args.ys.now (start (columns-stand c)).args.n c.lines2.ensures
@@ -27,4 +24,4 @@ pub returns : goal.returns
 returns c = let at_rows = (c) in
     let at-columns = at_rows.before.before.before in
     let p = at-columns.before.before.before.before.before.pre in
-    best_found _ p.0 p.1 (columns at-columns) (rows at_rows) (c.all_columns.ensures _ c.prepare.ensures)
+    best_found _ p.0 p.1 (lines-written at-columns.before.before.before.before.before.args.xs.now at-columns.before.before.before.before.before.args.n at-columns.lines.ensures) (rows at_rows) (c.all_columns.ensures _ c.prepare.ensures)

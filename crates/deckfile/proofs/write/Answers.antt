@@ -8,12 +8,12 @@ use Rattle.deckfile.proofs.write.Goals as goal
 
 pub returns-then-not-c : goal.returns-then-not-c
 returns-then-not-c c = let k = c.check-c.ensures in
-    write_unsound _ _ (sym k.ok ∙ not-true _ c.if-not-c.true)
+    record { value = (write_unsound _ _ (sym k.ok ∙ c.if-not-c.true).0; out_after = (write_unsound _ _ (sym k.ok ∙ c.if-not-c.true).1 }
 
 pub write_working-requires : goal.write_working-requires
-write_working-requires c = checked_valid _ _ c.check-c.ensures (not-false _ c.if-not-c.false)
+write_working-requires c = checked_valid _ _ c.check-c.ensures c.if-not-c.false
 
 pub returns : goal.returns
 returns c = let k = c.check-c.ensures in
-    let e = not-false _ c.if-not-c.false in
-    write-stored _ _ (sym k.ok ∙ e) (checked_sound _ _ k e).2 c.write_working.ensures
+    let e = c.if-not-c.false in
+    record { value = (write-stored _ _ (sym k.ok ∙ e) (checked_sound _ _ k e).2 (c.write_working.ensures.value, c.write_working.ensures.out_after)).0; out_after = (write-stored _ _ (sym k.ok ∙ e) (checked_sound _ _ k e).2 (c.write_working.ensures.value, c.write_working.ensures.out_after)).1 }

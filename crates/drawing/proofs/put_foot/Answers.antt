@@ -6,8 +6,5 @@ use Rattle.drawing.proofs.Parts.{foot_put}
 use Rattle.drawing.proofs.put_foot.Goals as goal
 
 pub returns : goal.returns
-returns c = let place = c.fill-names.ensures in
-    let names = c.put_legend-caption.ensures in
-    let caption = c.fill.ensures in
-    let text = pasted_then place.0 (omega (arith, place.1)) (pasted_then names.0 (omega (arith, place.1, names.1)) caption.0) in
-    (foot_put _ _ _ _ c.long_side.ensures.value text, omega (arith, place.1, names.1, caption.1))
+returns c = let text = pasted_then c.fill-names.ensures.pasted (omega (arith, c.fill-names.ensures.upper_bound)) (pasted_then c.put_legend-caption.ensures.pasted (omega (arith, c.fill-names.ensures.upper_bound, c.put_legend-caption.ensures.upper_bound)) c.fill.ensures.pasted) in
+    record { pasted = foot_put _ _ _ _ c.long_side.ensures.value text; upper_bound = omega (arith, c.fill-names.ensures.upper_bound, c.put_legend-caption.ensures.upper_bound, c.fill.ensures.upper_bound) }

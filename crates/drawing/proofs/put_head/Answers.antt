@@ -6,8 +6,5 @@ use Rattle.drawing.proofs.Parts.{head_put}
 use Rattle.drawing.proofs.put_head.Goals as goal
 
 pub returns : goal.returns
-returns c = let size = c.fill-symbols.ensures in
-    let symbols = c.put_definitions-ground.ensures in
-    let ground = c.fill.ensures in
-    let text = pasted_then size.0 (omega (arith, size.1)) (pasted_then symbols.0 (omega (arith, size.1, symbols.1)) ground.0) in
-    (head_put _ c.long_side-u.ensures.value text, omega (arith, size.1, symbols.1, ground.1))
+returns c = let text = pasted_then c.fill-symbols.ensures.pasted (omega (arith, c.fill-symbols.ensures.upper_bound)) (pasted_then c.put_definitions-ground.ensures.pasted (omega (arith, c.fill-symbols.ensures.upper_bound, c.put_definitions-ground.ensures.upper_bound)) c.fill.ensures.pasted) in
+    record { pasted = head_put _ c.long_side-u.ensures.value text; upper_bound = omega (arith, c.fill-symbols.ensures.upper_bound, c.put_definitions-ground.ensures.upper_bound, c.fill.ensures.upper_bound) }

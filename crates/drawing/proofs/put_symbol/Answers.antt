@@ -5,9 +5,5 @@ use Rattle.drawing.proofs.Parts.{symbol_put}
 use Rattle.drawing.proofs.put_symbol.Goals as goal
 
 pub returns : goal.returns
-returns c = let side = c.long_side.ensures in
-    let text = c.put_numbered.ensures in (
-      symbol_put _ _ _ c.x_of-x.ensures c.y_of-y.ensures c.across.ensures c.down.ensures side.0
-          text.0,
-      omega (arith, text.1),
-    )
+returns c = record { pasted = symbol_put _ _ _ c.x_of-x.ensures c.y_of-y.ensures c.across.ensures c.down.ensures c.long_side.ensures.value
+          c.put_numbered.ensures.pasted; upper_bound = omega (arith, c.put_numbered.ensures.upper_bound) }

@@ -9,4 +9,4 @@ unfolding long_side
 returns c = let first = c.larger-2.ensures in
     let second = c.larger.ensures in
     let known = c.struct_known-2-1.given in
-    (omega (arith, first, second), (omega (arith, first, second), omega (arith, first, second, known)))
+    record { value = omega (arith, first, second); lower_bound = (omega (arith, first, second), omega (arith, first, second, known)) }

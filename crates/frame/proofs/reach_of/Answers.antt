@@ -5,7 +5,7 @@ use Rattle.frame.proofs.Extremes.{ReachFrom, reach_last, reach_more, reach_all, 
 use Rattle.frame.proofs.reach_of.Goals as goal
 
 pub returns-then-n-eq0 : goal.returns-then-n-eq0
-returns-then-n-eq0 c = reach_none _ _ c.if-n-eq0.true
+returns-then-n-eq0 c = record { low_value = (reach_none _ _ c.if-n-eq0.true).0; high_value = (reach_none _ _ c.if-n-eq0.true).1 }
 
 pub loop-i-init : goal.loop-i-init
 loop-i-init c = reach_last _ _ c.requires c.if-n-eq0.false _ c.wide-low.ensures
@@ -24,4 +24,4 @@ pub overflow_cast-result-2 : goal.overflow_cast-result-2
 overflow_cast-result-2 c = record { fits = c.loop-i.invariant.stored.1 }
 
 pub returns : goal.returns
-returns c = reach_all _ _ c.requires _ _ _ c.loop-i.invariant c.loop-i-test.false
+returns c = record { low_value = (reach_all _ _ c.requires _ _ _ c.loop-i.invariant c.loop-i-test.false).0; high_value = (reach_all _ _ c.requires _ _ _ c.loop-i.invariant c.loop-i-test.false).1 }

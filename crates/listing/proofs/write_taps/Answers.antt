@@ -6,10 +6,10 @@ use Rattle.points.proofs.Coded.{steiner_count_lem}
 use Rattle.listing.proofs.write_taps.Goals as goal
 
 pub tap_lines-requires : goal.tap_lines-requires
-tap_lines-requires c = let p = c.requires.1.0 in
+tap_lines-requires c = let p = c.requires.in_order_lem in
     let s = p.arranged.steiner_codes in
-    (omega (arith, steiner_few_lem _ c.requires.1.1, steiner_count_lem _ p.arranged), omega (arith, s.few, s.size))
+    (omega (arith, steiner_few_lem _ c.requires.valid, steiner_count_lem _ p.arranged), omega (arith, s.few, s.size))
 
 pub returns : goal.returns
-returns c = let few = steiner_few_lem _ c.requires.1.1 in
-    (c.tap_lines.ensures.pasted, omega (arith, c.tap_lines.ensures.upper_bound, few, steiner_count_lem _ c.requires.1.0.arranged))
+returns c = let few = steiner_few_lem _ c.requires.valid in
+    record { pasted = c.tap_lines.ensures.pasted; upper_bound = omega (arith, c.tap_lines.ensures.upper_bound, few, steiner_count_lem _ c.requires.in_order_lem.arranged) }

@@ -19,9 +19,6 @@ known at =
     let pre = (entry_of at-loop).pre in
     kind_is _ pre.0 pre.1 (edge_of_lem at).edge_at.ensures at.edge-kind.ensures
 
-kinds-sized : (entry : tie.Start invariant-loop decreases-loop) → length entry.args.d.kinds ≡ 64
-kinds-sized entry = search rules
-
 pub loop-i-init : goal.loop-i-init
 loop-i-init c = sums_none _
 
@@ -31,7 +28,7 @@ edge_at-e-requires c = ((c).requires.0, (c.edge_numbers-ends.ensures, (c.loop-i-
 pub edge_kind-k-requires : goal.edge_kind-k-requires
 edge_kind-k-requires c = let entry = (c) in
     let codes = entry.pre.0.arranged.pin_codes in
-    (omega (arith, codes.few, codes.size), omega (arith, codes.few, kinds-sized entry))
+    (omega (arith, codes.few, codes.size), omega (arith, codes.few, (search rules)))
 
 pub offset_bounds-sums-k : goal.offset_bounds-sums-k
 offset_bounds-sums-k c = omega (arith, (known c).1)

@@ -9,19 +9,11 @@ use mir.ValLaws.{to_z_pos, to_z-of_z}
 use Rattle.numbers.proofs.Digits.{minus_is, minus_fits}
 use Rattle.numbers.proofs.negated.Goals as goal
 
--- The difference as it is computed.
-read : (c : tie.Start) → pos 0 -ℤ to_z w64 c.args.m ≡ neg_ℤ (pos c.args.m)
-read c = ap (λ (z : ℤ). pos 0 -ℤ z) (to_z_pos w64 c.args.m (omega arith)) ∙ minus_is c.args.m
-
--- It is read back from its 64 bits.
-back : (c : tie.Start) → to_z w64 (of_z w64 (pos 0 -ℤ to_z w64 c.args.m)) ≡ neg_ℤ (pos c.args.m)
-back c = to_z-of_z w64 _ (sub-result c) ∙ read c
-
 pub overflow_sub-result : goal.overflow_sub-result
-overflow_sub-result c = subst (SFits w64) (sym (read c)) (minus_fits c.args.m c.requires).0
+overflow_sub-result c = subst (SFits w64) (sym (ap (λ (z : ℤ). pos 0 -ℤ z) (to_z_pos w64 c.args.m (omega arith)) ∙ minus_is c.args.m)) (minus_fits c.args.m c.requires).0
 
 pub overflow_cast-result-2 : goal.overflow_cast-result-2
-overflow_cast-result-2 c = subst (SFits w32) (sym (back c)) (minus_fits c.args.m c.requires).1
+overflow_cast-result-2 c = subst (SFits w32) (sym (to_z-of_z w64 _ (subst (SFits w64) (sym (ap (λ (z : ℤ). pos 0 -ℤ z) (to_z_pos w64 c.args.m (omega arith)) ∙ minus_is c.args.m)) (minus_fits c.args.m c.requires).0) ∙ (ap (λ (z : ℤ). pos 0 -ℤ z) (to_z_pos w64 c.args.m (omega arith)) ∙ minus_is c.args.m))) (minus_fits c.args.m c.requires).1
 
 pub returns : goal.returns
-returns c = to_z-of_z w32 _ (cast-result-2 c) ∙ back c
+returns c = to_z-of_z w32 _ (subst (SFits w32) (sym (to_z-of_z w64 _ (subst (SFits w64) (sym (ap (λ (z : ℤ). pos 0 -ℤ z) (to_z_pos w64 c.args.m (omega arith)) ∙ minus_is c.args.m)) (minus_fits c.args.m c.requires).0) ∙ (ap (λ (z : ℤ). pos 0 -ℤ z) (to_z_pos w64 c.args.m (omega arith)) ∙ minus_is c.args.m))) (minus_fits c.args.m c.requires).1) ∙ (to_z-of_z w64 _ (subst (SFits w64) (sym (ap (λ (z : ℤ). pos 0 -ℤ z) (to_z_pos w64 c.args.m (omega arith)) ∙ minus_is c.args.m)) (minus_fits c.args.m c.requires).0) ∙ (ap (λ (z : ℤ). pos 0 -ℤ z) (to_z_pos w64 c.args.m (omega arith)) ∙ minus_is c.args.m))

@@ -14,7 +14,7 @@ returns-then-m-gt-SMALLEST c = minus_none _ c.if-word-eq0.false c.magnitude-m.re
 
 pub returns-then-word-eq45 : goal.returns-then-word-eq45
 returns-then-word-eq45 c = let m = c.magnitude-m.result in
-    ap Is (read_is (record { sfits = c.negated.type-inv }) c.negated.ensures)
+    ap Is (read_is (record { sfits = c.negated.type_inv }) c.negated.ensures)
     ∙ minus_some _ c.if-word-eq0.false m c.if-word-eq45.true c.magnitude-m.ensures c.if-m-gt-SMALLEST.false
 
 pub returns-then-m-gt-LARGEST : goal.returns-then-m-gt-LARGEST
@@ -23,5 +23,5 @@ returns-then-m-gt-LARGEST c = plus_none _ c.if-word-eq0.false c.magnitude-m-2.re
 
 pub returns : goal.returns
 returns c = let m = c.magnitude-m-2.result in
-    ap Is (read_is (record { sfits = c.positive.type-inv }) c.positive.ensures)
+    ap Is (read_is (record { sfits = c.positive.type_inv }) c.positive.ensures)
     ∙ plus_some _ c.if-word-eq0.false m c.if-word-eq45.false c.magnitude-m-2.ensures c.if-m-gt-LARGEST.false

@@ -11,21 +11,15 @@ pub overflow_add-result : goal.overflow_add-result
 overflow_add-result c = omega (arith, c.passes-below.ensures.upper_bound)
 
 pub returns-then-is_lower : goal.returns-then-is_lower
-returns-then-is_lower c = let s = c.args in (
-      c.passes-above.ensures.value ∙ between_upper s.ax s.ay s.bx s.by (sym c.is_lower.ensures ∙ c.if-is_lower.true),
-      omega (arith, c.passes-above.ensures.upper_bound),
-    )
+returns-then-is_lower c = let s = c.args in
+    record { value = c.passes-above.ensures.value ∙ between_upper s.ax s.ay s.bx s.by (sym c.is_lower.ensures ∙ c.if-is_lower.true); upper_bound = omega (arith, c.passes-above.ensures.upper_bound) }
 
 pub returns-then-is_lower-2 : goal.returns-then-is_lower-2
-returns-then-is_lower-2 c = let s = c.args in (
-      ap (λ (n : ℕ). n + 4) c.passes-below.ensures.value
-          ∙ between_under s.ax s.ay s.bx s.by (sym c.is_lower-else-is_lower.ensures ∙ c.if-is_lower-2.true),
-      omega (arith, c.passes-below.ensures.upper_bound),
-    )
+returns-then-is_lower-2 c = let s = c.args in
+    record { value = ap (λ (n : ℕ). n + 4) c.passes-below.ensures.value
+          ∙ between_under s.ax s.ay s.bx s.by (sym c.is_lower-else-is_lower.ensures ∙ c.if-is_lower-2.true); upper_bound = omega (arith, c.passes-below.ensures.upper_bound) }
 
 pub returns-else-is_lower-2 : goal.returns-else-is_lower-2
-returns-else-is_lower-2 c = let s = c.args in (
-      between_none s.ax s.ay s.bx s.by (sym c.is_lower.ensures ∙ c.if-is_lower.false)
-          (sym c.is_lower-else-is_lower.ensures ∙ c.if-is_lower-2.false),
-      omega arith,
-    )
+returns-else-is_lower-2 c = let s = c.args in
+    record { value = between_none s.ax s.ay s.bx s.by (sym c.is_lower.ensures ∙ c.if-is_lower.false)
+          (sym c.is_lower-else-is_lower.ensures ∙ c.if-is_lower-2.false); upper_bound = omega arith }

@@ -11,4 +11,4 @@ pub overflow_add-result-2 : goal.overflow_add-result-2
 overflow_add-result-2 c = omega (arith, at_most_one c.args.p, at_most_one c.args.q, at_most_one c.args.s)
 
 pub returns : goal.returns
-returns c = (search rules, omega (arith, at_most_one c.args.p, at_most_one c.args.q, at_most_one c.args.s))
+returns c = record { value = search rules; upper_bound = omega (arith, at_most_one c.args.p, at_most_one c.args.q, at_most_one c.args.s) }

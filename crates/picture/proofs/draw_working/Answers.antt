@@ -11,15 +11,11 @@ pub returns-then-out-lt-PICTURE_ROOM : goal.returns-then-out-lt-PICTURE_ROOM
 returns-then-out-lt-PICTURE_ROOM c = front_none picture_room _ _ c.if-out-lt-PICTURE_ROOM.true
 
 pub returns : goal.returns
-returns c = let head = c.put_head-runs.ensures in
-    let runs = c.put_runs-end.ensures in
-    let end = c.put_bytes-symbols.ensures in
-    let points = c.put_points-foot.ensures in
-    let foot = c.put_foot.ensures in
+returns c = let end = c.put_bytes-symbols.ensures in
     let room = c.if-out-lt-PICTURE_ROOM.false in
     front-put picture_room _ _ _ _ room
     (picture_put c.args.d _ _ c.measure-m.ensures c.frame_for-f.ensures
-    (pasted_then head.0 (omega (arith, room, head.1))
-    (pasted_then runs.0 (omega (arith, room, head.1, runs.1))
-    (pasted_then end (omega (arith, room, head.1, runs.1, end.next))
-    (pasted_then points.0 (omega (arith, room, head.1, runs.1, end.next, points.1)) foot.0)))))
+    (pasted_then c.put_head-runs.ensures.pasted (omega (arith, room, c.put_head-runs.ensures.upper_bound))
+    (pasted_then c.put_runs-end.ensures.pasted (omega (arith, room, c.put_head-runs.ensures.upper_bound, c.put_runs-end.ensures.upper_bound))
+    (pasted_then end (omega (arith, room, c.put_head-runs.ensures.upper_bound, c.put_runs-end.ensures.upper_bound, end.next))
+    (pasted_then c.put_points-foot.ensures.pasted (omega (arith, room, c.put_head-runs.ensures.upper_bound, c.put_runs-end.ensures.upper_bound, end.next, c.put_points-foot.ensures.upper_bound)) c.put_foot.ensures.pasted)))))

@@ -10,28 +10,24 @@ use Rattle.picture.proofs.Texts.{points-put}
 use Rattle.picture.proofs.put_points.Goals as goal
 
 pub put_symbols-next-requires : goal.put_symbols-next-requires
-put_symbols-next-requires c = let arranged = c.requires.1.0.arranged in
+put_symbols-next-requires c = let arranged = c.requires.in_order_lem.arranged in
     let kinds : length c.args.d.kinds ≡ 64 = search rules in
     let pins = arranged.pin_codes in
-    (omega (arith, c.requires.0, pins.few), (omega (arith, pins.few, kinds), omega (arith, pins.few, pins.size)))
+    (omega (arith, c.requires.points_room_in_bounds, pins.few), (omega (arith, pins.few, kinds), omega (arith, pins.few, pins.size)))
 
 pub put_symbols-requires : goal.put_symbols-requires
-put_symbols-requires c = let arranged = c.requires.1.0.arranged in
-    let few = steiner_few_lem _ c.requires.1.1.state in
+put_symbols-requires c = let arranged = c.requires.in_order_lem.arranged in
+    let few = steiner_few_lem _ c.requires.valid_contents.state in
     let count = steiner_count_lem _ arranged in
     let steiner = arranged.steiner_codes in (
-      omega (arith, c.requires.0, arranged.pin_codes.few, few, count, c.put_symbols-next.ensures.upper_bound, c.put_symbols-next.auto.0),
+      omega (arith, c.requires.points_room_in_bounds, arranged.pin_codes.few, few, count, c.put_symbols-next.ensures.upper_bound, c.put_symbols-next.auto.0),
       (omega (arith, few, count), omega (arith, steiner.few, steiner.size)),
     )
 
 pub returns : goal.returns
-returns c = let arranged = c.requires.1.0.arranged in
-    let few = steiner_few_lem _ c.requires.1.1.state in
+returns c = let arranged = c.requires.in_order_lem.arranged in
+    let few = steiner_few_lem _ c.requires.valid_contents.state in
     let count = steiner_count_lem _ arranged in
     let steiner = arranged.steiner_codes in
-    let pins = c.put_symbols-next.ensures in
-    let taps = c.put_symbols.ensures in (
-      points-put _ c.args.d (omega (arith, steiner.few, steiner.size)) (omega (arith, steiner.few))
-          (pasted_then pins.0 (omega (arith, pins.1, c.requires.0, arranged.pin_codes.few)) taps.0),
-      omega (arith, pins.1, taps.1, arranged.pin_codes.few, few, count),
-    )
+    record { pasted = points-put _ c.args.d (omega (arith, steiner.few, steiner.size)) (omega (arith, steiner.few))
+          (pasted_then c.put_symbols-next.ensures.pasted (omega (arith, c.put_symbols-next.ensures.upper_bound, c.requires.points_room_in_bounds, arranged.pin_codes.few)) c.put_symbols.ensures.pasted); upper_bound = omega (arith, c.put_symbols-next.ensures.upper_bound, c.put_symbols.ensures.upper_bound, arranged.pin_codes.few, few, count) }

@@ -16,7 +16,7 @@ loop-i-init c = let symbols = c.args.symbols.now in
 
 pub put_symbol-next-requires : goal.put_symbol-next-requires
 put_symbol-next-requires c = let inv = c.loop-i.invariant in
-    omega (arith, c.requires.0, inv.most, inv.same, c.loop-i-test.true)
+    omega (arith, c.requires.n_in_bounds, inv.most, inv.same, c.loop-i-test.true)
 
 pub loop-i-preserved : goal.loop-i-preserved
 loop-i-preserved c = let symbols = c.args.symbols.now in
@@ -25,13 +25,14 @@ loop-i-preserved c = let symbols = c.args.symbols.now in
     let inv = c.loop-i.invariant in
     let symbol = c.put_symbol-next in
     first_more (symbols_to b symbols codes) symbol_room _ _ _ _ _ _ _ _ _ inv c.loop-i-test.true
-    (symbol_more b symbols codes c.loop-i.i (omega (arith, c.requires.1.0, c.loop-i-test.true))
-    (omega (arith, c.requires.1.1, c.loop-i-test.true))) (omega (arith, c.requires.0, inv.most, inv.same, c.loop-i-test.true))
+    (symbol_more b symbols codes c.loop-i.i (omega (arith, c.requires.n_in_bounds_2.0, c.loop-i-test.true))
+    (omega (arith, c.requires.n_in_bounds_2.1, c.loop-i-test.true))) (omega (arith, c.requires.n_in_bounds, inv.most, inv.same, c.loop-i-test.true))
     symbol.ensures.0 symbol.ensures.1 symbol.auto.0
 
 pub shape_of-out : goal.shape_of-out
 shape_of-out c = c.loop-i.invariant.same
 
 pub returns : goal.returns
-returns c = first_end (symbols_to (box_in c.args.f) c.args.symbols.now c.args.codes.now) symbol_room _ _ _ _ _ _ c.loop-i.invariant
-    c.loop-i-test.false
+returns c = record { pasted = (first_end (symbols_to (box_in c.args.f) c.args.symbols.now c.args.codes.now) symbol_room _ _ _ _ _ _ c.loop-i.invariant
+    c.loop-i-test.false).0; upper_bound = (first_end (symbols_to (box_in c.args.f) c.args.symbols.now c.args.codes.now) symbol_room _ _ _ _ _ _ c.loop-i.invariant
+    c.loop-i-test.false).1 }

@@ -16,12 +16,12 @@ loop-i-init c = passed_none _ _ _
 
 pub returns-then-not-is_plain : goal.returns-then-not-is_plain
 returns-then-not-is_plain c = passed_fail _ _ _ _ _ c.loop-i.invariant (omega (arith, c.loop-i-test.true)) (omega arith)
-    c.is_plain.ensures (not-true _ c.if-not-is_plain.true)
+    c.is_plain.ensures c.if-not-is_plain.true
     ∙ ap (all is_plain) (take-length _)
 
 pub loop-i-preserved : goal.loop-i-preserved
 loop-i-preserved c = passed_more _ _ _ _ _ c.loop-i.invariant (omega (arith, c.loop-i-test.true)) (omega arith)
-    c.is_plain.ensures (not-false _ c.if-not-is_plain.false)
+    c.is_plain.ensures c.if-not-is_plain.false
 
 pub returns : goal.returns
 returns c = passed_end _ _ _ _ c.loop-i.invariant c.loop-i-test.false (omega arith) ∙ ap (all is_plain) (take-length _)

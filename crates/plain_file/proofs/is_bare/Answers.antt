@@ -7,13 +7,8 @@ use lib.Seq.{length-take-le}
 use borrow.Author.Rules.{rules}
 use Rattle.plain_file.proofs.is_bare.Goals as goal
 
-few : (entry : tie.Start) → entry.args.w.form.points.npins ≤ length entry.args.w.kinds
-few entry =
-    let long : length entry.args.w.kinds ≡ 64 = search rules in
-    omega (arith, long, entry.requires.arranged.pin_codes.few)
-
 pub slice_bounds-kinds-end : goal.slice_bounds-kinds-end
-slice_bounds-kinds-end c = few c
+slice_bounds-kinds-end c = (let long : length c.args.w.kinds ≡ 64 = search rules in omega (arith, long, c.requires.arranged.pin_codes.few))
 
 pub slice_bounds-all_within-end : goal.slice_bounds-all_within-end
-slice_bounds-all_within-end c = sym (length-take-le _ _ (few c))
+slice_bounds-all_within-end c = sym (length-take-le _ _ (let long : length c.args.w.kinds ≡ 64 = search rules in omega (arith, long, c.requires.arranged.pin_codes.few)))

@@ -7,15 +7,12 @@ use Rattle.plain_file.proofs.Parts.{plain_parts_lem}
 use borrow.Author.Rules.{rules}
 use Rattle.plain_file.proofs.put_file.Goals as goal
 
-sized : (entry : tie.Start) → length entry.args.w.kinds ≡ 64
-sized entry = search rules
-
 pub put_parts-requires : goal.put_parts-requires
 put_parts-requires c = let few = c.pre.0.arranged.pin_codes.few in
     record {
       few = few;
       in_pins = omega (arith, few, c.pre.0.arranged.pin_codes.size);
-      in_kinds = omega (arith, few, sized c);
+      in_kinds = omega (arith, few, (search rules));
       room = omega (arith, c.pre.1.1);
     }
 

@@ -10,12 +10,8 @@ use Rattle.arrays.proofs.Signed.{read_is}
 use Rattle.plane.proofs.Signed.{lowered, lowered_fits}
 use Rattle.plane.proofs.difference.Goals as goal
 
-lesser : (s : tie.Start) → to_z w32 s.args.a -ℤ to_z w32 s.args.b ≡ sub_ℕ s.args.a s.args.b
-lesser s =
-    ap₂ ◌-ℤ◌ (to_z_pos w32 s.args.a (omega (arith, s.requires))) (to_z_pos w32 s.args.b (omega (arith, s.requires))) ∙ lowered s.args.a s.args.b
-
 pub overflow_sub-result : goal.overflow_sub-result
-overflow_sub-result c = subst (SFits w32) (sym (lesser c)) (lowered_fits c.args.a c.args.b c.requires.0 c.requires.1)
+overflow_sub-result c = subst (SFits w32) (sym (ap₂ ◌-ℤ◌ (to_z_pos w32 c.args.a (omega (arith, c.requires))) (to_z_pos w32 c.args.b (omega (arith, c.requires))) ∙ lowered c.args.a c.args.b)) (lowered_fits c.args.a c.args.b c.requires.0 c.requires.1)
 
 pub returns : goal.returns
-returns c = read_is (sub-result c) (lesser c)
+returns c = read_is (subst (SFits w32) (sym (ap₂ ◌-ℤ◌ (to_z_pos w32 c.args.a (omega (arith, c.requires))) (to_z_pos w32 c.args.b (omega (arith, c.requires))) ∙ lowered c.args.a c.args.b)) (lowered_fits c.args.a c.args.b c.requires.0 c.requires.1)) (ap₂ ◌-ℤ◌ (to_z_pos w32 c.args.a (omega (arith, c.requires))) (to_z_pos w32 c.args.b (omega (arith, c.requires))) ∙ lowered c.args.a c.args.b)

@@ -9,7 +9,7 @@ use borrow.Author.Rules.{rules}
 use Rattle.planner.proofs.planner_plan.Goals as goal
 
 pub returns-then-refused-ne0 : goal.returns-then-refused-ne0
-returns-then-refused-ne0 c = read-refused (read_file _) to_end _ _ c.read_working-c.ensures c.refusal_number-refused.ensures c.if-refused-ne0.true
+returns-then-refused-ne0 c = record { value = (read-refused (read_file _) to_end _ _ c.read_working-c.ensures c.refusal_number-refused.ensures c.if-refused-ne0.true).0; out_after = (read-refused (read_file _) to_end _ _ c.read_working-c.ensures c.refusal_number-refused.ensures c.if-refused-ne0.true).1 }
 
 pub run_to_end-e-requires : goal.run_to_end-e-requires
 run_to_end-e-requires c = let taken = read_taken (read_file _) (read_possible _) c.read_working-c.ensures c.refusal_number-refused.ensures c.if-refused-ne0.false in
@@ -22,4 +22,4 @@ write_working-requires c = let taken = read_taken (read_file _) (read_possible _
 pub returns : goal.returns
 unfolding contents_after
 returns c = let taken = read_taken (read_file _) (read_possible _) c.read_working-c.ensures c.refusal_number-refused.ensures c.if-refused-ne0.false in
-    answer-stored (read_file _) to_end _ taken.0 c.run_to_end-e.ensures.next c.number_of.ensures c.write_working.ensures
+    record { value = (answer-stored (read_file _) to_end _ taken.0 c.run_to_end-e.ensures.next c.number_of.ensures (c.write_working.ensures.value, c.write_working.ensures.out_after)).0; out_after = (answer-stored (read_file _) to_end _ taken.0 c.run_to_end-e.ensures.next c.number_of.ensures (c.write_working.ensures.value, c.write_working.ensures.out_after)).1 }

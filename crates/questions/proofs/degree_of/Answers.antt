@@ -8,14 +8,8 @@ use Rattle.questions.proofs.Answers.{degree_none, degree-there}
 use borrow.Author.Rules.{rules}
 use Rattle.questions.proofs.degree_of.Goals as goal
 
-codes-sized : (entry : tie.Start) → length entry.args.w.codes ≡ 128
-codes-sized entry = search rules
-
-keys-sized : (entry : tie.Start) → length entry.args.w.keys ≡ 136
-keys-sized entry = search rules
-
 pub has-requires : goal.has-requires
-has-requires c = omega (arith, c.requires.0.few, codes-sized c)
+has-requires c = omega (arith, c.requires.in_order_lem.few, (search rules))
 
 pub returns-then-not-has : goal.returns-then-not-has
 returns-then-not-has c = let given = (c).requires in
@@ -23,11 +17,11 @@ returns-then-not-has c = let given = (c).requires in
 
 pub index_of-requires : goal.index_of-requires
 index_of-requires c = let entry = (c) in
-    omega (arith, entry.pre.0.few, codes-sized entry)
+    omega (arith, entry.pre.0.few, (search rules))
 
 pub degree_of-requires : goal.degree_of-requires
 degree_of-requires c = let entry = (c) in
-    omega (arith, entry.pre.0.keys_few, keys-sized entry)
+    omega (arith, entry.pre.0.keys_few, (search rules))
 
 pub returns : goal.returns
 returns c = let held = of_true (sym c.has.ensures ∙ not-false _ c.if-not-has.false) in

@@ -6,10 +6,7 @@ use Rattle.ascii.proofs.Signs.{field_again}
 use Rattle.replies.proofs.point_head.Goals as goal
 
 pub returns : goal.returns
-returns c = (
-      pasted_then c.put_bytes-a.ensures (omega arith)
+returns c = record { pasted = pasted_then c.put_bytes-a.ensures (omega arith)
           (pasted_then (field_again _ c.ranges.x c.signed_field-b.ensures.pasted) (omega arith)
           (pasted_then (field_again _ c.ranges.y c.signed_field-c.ensures.pasted) (omega arith)
-          c.put_bytes.ensures)),
-      omega arith,
-    )
+          c.put_bytes.ensures)); upper_bound = omega arith }

@@ -9,10 +9,10 @@ use Rattle.rounds.proofs.Run.{Running, running_start, running_less, running_fits
 use Rattle.rounds.proofs.finish_of.Goals as goal
 
 pub round_of-last-requires : goal.round_of-last-requires
-round_of-last-requires c = c.requires
+round_of-last-requires c = (c.requires.in_order_lem, (c.requires.valid, c.requires.tail_le_longest_tail))
 
 pub loop-more-init : goal.loop-more-init
-loop-more-init c = (running_start _ _ _ c.requires.0 c.requires.1.0 c.requires.1.1 c.round_of-last.ensures, refl)
+loop-more-init c = (running_start _ _ _ c.requires.in_order_lem c.requires.valid c.requires.tail_le_longest_tail c.round_of-last.ensures, refl)
 
 pub overflow_add-count : goal.overflow_add-count
 overflow_add-count c = let h = running_fits _ _ _ _ _ c.loop-more.invariant.0 (sym c.loop-more.invariant.1 ∙ c.loop-more-test.true) in
@@ -20,7 +20,7 @@ overflow_add-count c = let h = running_fits _ _ _ _ _ c.loop-more.invariant.0 (s
 
 pub round_of-last-requires-in-loop-more : goal.round_of-last-requires-in-loop-more
 round_of-last-requires-in-loop-more c = let h = running_next _ _ _ _ _ c.loop-more.invariant.0 (sym c.loop-more.invariant.1 ∙ c.loop-more-test.true) in
-    (h.0, (h.1, c.requires.1.1))
+    (h.0, (h.1, c.requires.tail_le_longest_tail))
 
 pub loop-more-smaller : goal.loop-more-smaller
 loop-more-smaller c = omega (arith, running_less _ _ _ _ _ c.loop-more.invariant.0 (sym c.loop-more.invariant.1 ∙ c.loop-more-test.true))
@@ -29,4 +29,4 @@ pub loop-more-preserved : goal.loop-more-preserved
 loop-more-preserved c = (running_more _ _ _ _ _ c.loop-more.invariant.0 (sym c.loop-more.invariant.1 ∙ c.loop-more-test.true) _ c.round_of-last-in-loop-more.ensures, refl)
 
 pub returns : goal.returns
-returns c = running_end _ _ _ _ _ c.loop-more.invariant.0 c.requires.1.0 (sym c.loop-more.invariant.1 ∙ c.loop-more-test.false)
+returns c = running_end _ _ _ _ _ c.loop-more.invariant.0 c.requires.valid (sym c.loop-more.invariant.1 ∙ c.loop-more-test.false)

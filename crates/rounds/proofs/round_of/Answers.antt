@@ -31,13 +31,13 @@ overflow_sub-fall c = let entry = (c) in
 
 pub returns-in-Nothing : goal.returns-in-Nothing
 returns-in-Nothing c = let e = sym c.best_of.ensures ∙ c.in-Nothing.is in
-    record { in_order = c.requires.0; next = next-stays _ _ e; added = added-stays _ _ e; step = step_stays _ _ e }
+    record { in_order = c.requires.in_order_lem; next = next-stays _ _ e; added = added-stays _ _ e; step = step_stays _ _ e }
 
 pub returns-in-At : goal.returns-in-At
 returns-in-At c = let j = joined c in
     let e = c.with_steiner-next.ensures.1 in
-    let x = read_is (record { sfits = c.to_signed-x.type-inv }) c.to_signed-x.ensures in
-    let y = read_is (record { sfits = c.to_signed-y.type-inv }) c.to_signed-y.ensures in
+    let x = read_is (record { sfits = c.to_signed-x.type_inv }) c.to_signed-x.ensures in
+    let y = read_is (record { sfits = c.to_signed-y.type_inv }) c.to_signed-y.ensures in
     record {
       in_order = c.with_steiner-next.ensures.0;
       next = next-joins _ _ _ _ _ j _ e;

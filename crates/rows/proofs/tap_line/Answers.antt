@@ -5,8 +5,5 @@ use Rattle.arrays.proofs.paste.Parts.{pasted_then}
 use Rattle.rows.proofs.tap_line.Goals as goal
 
 pub returns : goal.returns
-returns c = (
-      pasted_then c.put_bytes-a.ensures (omega arith)
-          (pasted_then c.point_fields-b.ensures.pasted (omega arith) c.put_byte.ensures),
-      omega arith,
-    )
+returns c = record { pasted = pasted_then c.put_bytes-a.ensures (omega arith)
+          (pasted_then c.point_fields-b.ensures.pasted (omega arith) c.put_byte.ensures); upper_bound = omega arith }

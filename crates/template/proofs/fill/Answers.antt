@@ -20,4 +20,4 @@ pub shape_of-out : goal.shape_of-out
 shape_of-out c = c.loop-i.invariant.same
 
 pub returns : goal.returns
-returns c = fill_end _ _ _ _ c.loop-i.invariant c.loop-i-test.false
+returns c = record { pasted = (fill_end _ _ _ _ c.loop-i.invariant c.loop-i-test.false).0; upper_bound = (fill_end _ _ _ _ c.loop-i.invariant c.loop-i-test.false).1 }

@@ -8,5 +8,4 @@ use Rattle.template.proofs.put_coordinate.Goals as goal
 
 pub returns : goal.returns
 returns c = let coordinate = c.to_signed in
-    let text = c.signed.ensures in
-    (pasted_same (ap signed_decimal (read_is (record { sfits = coordinate.type-inv }) coordinate.ensures)) text.0, text.1)
+    record { pasted = pasted_same (ap signed_decimal (read_is (record { sfits = coordinate.type-inv }) coordinate.ensures)) c.signed.ensures.pasted; upper_bound = c.signed.ensures.upper_bound }

@@ -15,7 +15,7 @@ loop-i-init c = (c.requires, refl)
 pub returns-then-is_space : goal.returns-then-is_space
 returns-then-is_space c = let l = c.loop-i in
     let said = sym c.is_space.ensures ∙ c.if-is_space.true in
-    (letters-stop _ _ l.i l.invariant.1 c.loop-i-test.true said, l.invariant.0)
+    record { value = letters-stop _ _ l.i l.invariant.1 c.loop-i-test.true said; upper_bound = l.invariant.0 }
 
 pub loop-i-preserved : goal.loop-i-preserved
 loop-i-preserved c = let l = c.loop-i in
@@ -23,4 +23,4 @@ loop-i-preserved c = let l = c.loop-i in
     (omega arith, letters_on _ _ l.i l.invariant.1 c.loop-i-test.true said)
 
 pub returns : goal.returns
-returns c = (letters_end _ _ c.loop-i.i c.loop-i.invariant.1 c.loop-i-test.false, c.loop-i.invariant.0)
+returns c = record { value = letters_end _ _ c.loop-i.i c.loop-i.invariant.1 c.loop-i-test.false; upper_bound = c.loop-i.invariant.0 }

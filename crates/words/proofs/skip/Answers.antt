@@ -15,13 +15,13 @@ loop-i-init c = (c.requires, refl)
 
 pub returns-then-not-is_space : goal.returns-then-not-is_space
 returns-then-not-is_space c = let l = c.loop-i in
-    let said = sym c.is_space.ensures ∙ not-true _ c.if-not-is_space.true in
-    (spaces-stop _ _ l.i l.invariant.1 c.loop-i-test.true said, l.invariant.0)
+    let said = sym c.is_space.ensures ∙ c.if-not-is_space.true in
+    record { value = spaces-stop _ _ l.i l.invariant.1 c.loop-i-test.true said; upper_bound = l.invariant.0 }
 
 pub loop-i-preserved : goal.loop-i-preserved
 loop-i-preserved c = let l = c.loop-i in
-    let said = sym c.is_space.ensures ∙ not-false _ c.if-not-is_space.false in
+    let said = sym c.is_space.ensures ∙ c.if-not-is_space.false in
     (omega arith, spaces_on _ _ l.i l.invariant.1 c.loop-i-test.true said)
 
 pub returns : goal.returns
-returns c = (spaces_end _ _ c.loop-i.i c.loop-i.invariant.1 c.loop-i-test.false, c.loop-i.invariant.0)
+returns c = record { value = spaces_end _ _ c.loop-i.i c.loop-i.invariant.1 c.loop-i-test.false; upper_bound = c.loop-i.invariant.0 }

@@ -10,9 +10,6 @@ use Rattle.writer.proofs.Parts.{few, file_parts_lem, parts-kept}
 use borrow.Author.Rules.{rules}
 use Rattle.writer.proofs.put_file.Goals as goal
 
-sized : (entry : tie.Start) → length entry.args.w.kinds ≡ 64
-sized entry = search rules
-
 pub put_parts-requires : goal.put_parts-requires
 put_parts-requires c = let at-edges = (c) in
     let at_bare = at-edges.before in
@@ -20,7 +17,7 @@ put_parts-requires c = let at-edges = (c) in
     let w = entry.args.w in
     let long : length at-edges.edge-numbers.result ≡ 128 = search rules in
     let fits = parts-kept w entry.pre.0 entry.pre.1.0 at_bare.is-bare.ensures at-edges.edge-numbers.ensures long _ entry.pre.1.1 in
-    (fits, omega (arith, sized entry, (few w entry.pre.0 entry.pre.1.0).0))
+    (fits, omega (arith, (search rules), (few w entry.pre.0 entry.pre.1.0).0))
 
 pub returns : goal.returns
 returns c = let at-edges = (c) in

@@ -4,10 +4,10 @@ use Rattle.ascii.proofs.encode.Text.{body_empty, body_feed, body_other}
 use Rattle.ascii.proofs.encode.body_length.Goals as goal
 
 pub returns-then-n-eq0 : goal.returns-then-n-eq0
-returns-then-n-eq0 c = body_empty c.args.lines.now c.if-n-eq0.true
+returns-then-n-eq0 c = record { value = (body_empty c.args.lines.now c.if-n-eq0.true).0; upper_bound = (body_empty c.args.lines.now c.if-n-eq0.true).1 }
 
 pub returns-then-lines-n-eq10 : goal.returns-then-lines-n-eq10
-returns-then-lines-n-eq10 c = body_feed c.args.lines.now c.if-lines-n-eq10.true
+returns-then-lines-n-eq10 c = record { value = (body_feed c.args.lines.now c.if-lines-n-eq10.true).0; upper_bound = (body_feed c.args.lines.now c.if-lines-n-eq10.true).1 }
 
 pub returns : goal.returns
-returns c = body_other c.args.lines.now c.if-lines-n-eq10.false
+returns c = record { value = (body_other c.args.lines.now c.if-lines-n-eq10.false).0; upper_bound = (body_other c.args.lines.now c.if-lines-n-eq10.false).1 }

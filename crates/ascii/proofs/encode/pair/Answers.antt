@@ -6,8 +6,5 @@ use Rattle.ascii.proofs.encode.Text.{pair_is}
 use Rattle.ascii.proofs.encode.pair.Goals as goal
 
 pub returns : goal.returns
-returns c = (
-      pasted_same (pair_is c.args.b _ _ c.digit.ensures c.digit-2.ensures)
-          (pasted_then c.put_byte-next.ensures (omega arith) c.put_byte.ensures),
-      omega arith,
-    )
+returns c = record { pasted = pasted_same (pair_is c.args.b _ _ c.digit.ensures c.digit-2.ensures)
+          (pasted_then c.put_byte-next.ensures (omega arith) c.put_byte.ensures); upper_bound = omega arith }

@@ -6,7 +6,7 @@ use Rattle.ascii.proofs.encode.Text.{spread_feed, spread_other}
 use Rattle.ascii.proofs.encode.spread.Goals as goal
 
 pub returns-then-b-eq10 : goal.returns-then-b-eq10
-returns-then-b-eq10 c = (pasted_same (spread_feed _ c.if-b-eq10.true) c.put_bytes.ensures, omega arith)
+returns-then-b-eq10 c = record { pasted = pasted_same (spread_feed _ c.if-b-eq10.true) c.put_bytes.ensures; upper_bound = omega arith }
 
 pub returns : goal.returns
-returns c = (pasted_same (spread_other _ c.if-b-eq10.false) c.put_byte.ensures, omega arith)
+returns c = record { pasted = pasted_same (spread_other _ c.if-b-eq10.false) c.put_byte.ensures; upper_bound = omega arith }

@@ -10,7 +10,7 @@ pub loop-i-init : goal.loop-i-init
 loop-i-init c = each-first_none spread 3 _ _ _ _
 
 pub loop-i-preserved : goal.loop-i-preserved
-loop-i-preserved c = each-first_more spread 3 _ _ _ _ c.loop-i.invariant c.loop-i-test.true c.requires.0 (omega arith)
+loop-i-preserved c = each-first_more spread 3 _ _ _ _ c.loop-i.invariant c.loop-i-test.true c.requires.n_in_bounds (omega arith)
     c.spread-next.ensures.pasted c.spread-next.ensures.upper_bound c.spread-next.auto.0
 
 pub shape_of-out : goal.shape_of-out

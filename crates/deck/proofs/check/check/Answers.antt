@@ -10,9 +10,6 @@ use Rattle.deck.proofs.check.Parts.{refuted, refused, tail_fail, points_fail, po
 use borrow.Author.Rules.{rules}
 use Rattle.deck.proofs.check.check.Goals as goal
 
-kinds-sized : (entry : tie.Start) → length entry.args.d.kinds ≡ 64
-kinds-sized entry = search rules
-
 pub returns-then-d-gt-LONGEST_TAIL : goal.returns-then-d-gt-LONGEST_TAIL
 returns-then-d-gt-LONGEST_TAIL c = refused _ _ c.unsound.ensures (tail_fail _ c.if-d-gt-LONGEST_TAIL.true)
 
@@ -38,6 +35,6 @@ returns-then-not-same_rest c = refused _ _ c.unsound-then-not-same_rest.ensures
     (refuted c.same_rest.ensures (not-true _ c.if-not-same_rest.true)))
 
 pub returns : goal.returns
-returns c = rest_pass _ _ c.form_of-f.ensures (not-false _ c.if-not-f.false) c.if-d-gt-LONGEST_TAIL.false (kinds-sized c)
+returns c = rest_pass _ _ c.form_of-f.ensures (not-false _ c.if-not-f.false) c.if-d-gt-LONGEST_TAIL.false (search rules)
     (of_true (sym c.knows_kinds.ensures ∙ not-false _ c.if-not-knows_kinds.false)) _ c.deck_of.ensures
     (of_true (sym c.same_rest.ensures ∙ not-false _ c.if-not-same_rest.false)) _ refl

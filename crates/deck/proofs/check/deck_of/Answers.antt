@@ -9,21 +9,15 @@ use Rattle.deck.specs.Form.{deck_of}
 use borrow.Author.Rules.{rules}
 use Rattle.deck.proofs.check.deck_of.Goals as goal
 
--- There are places for the kinds.
-few : (entry : tie.Start) → entry.args.w.form.points.npins ≤ length entry.args.w.kinds
-few entry =
-    let long : length entry.args.w.kinds ≡ 64 = search rules in
-    omega (arith, long, entry.requires.arranged.pin_codes.few)
-
 pub slice_bounds-all-end : goal.slice_bounds-all-end
-slice_bounds-all-end c = few c
+slice_bounds-all-end c = (let long : length c.args.w.kinds ≡ 64 = search rules in omega (arith, long, c.requires.arranged.pin_codes.few))
 
 pub slice_bounds-in_front-end : goal.slice_bounds-in_front-end
-slice_bounds-in_front-end c = sym (length-take-le _ _ (few c))
+slice_bounds-in_front-end c = sym (length-take-le _ _ (let long : length c.args.w.kinds ≡ 64 = search rules in omega (arith, long, c.requires.arranged.pin_codes.few)))
 
 pub in_front-kinds-requires : goal.in_front-kinds-requires
 in_front-kinds-requires c = let w = c.args.w in
-    omega (arith, length-take-le w.form.points.npins w.kinds (few c), c.requires.arranged.pin_codes.few)
+    omega (arith, length-take-le w.form.points.npins w.kinds (let long : length c.args.w.kinds ≡ 64 = search rules in omega (arith, long, c.requires.arranged.pin_codes.few)), c.requires.arranged.pin_codes.few)
 
 pub returns : goal.returns
 unfolding deck_of

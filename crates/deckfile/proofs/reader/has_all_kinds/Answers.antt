@@ -7,31 +7,23 @@ use Rattle.deckfile.proofs.reader.KindsCheck.{pair-there, slice_long, kinds-with
 use borrow.Author.Rules.{rules}
 use Rattle.deckfile.proofs.reader.has_all_kinds.Goals as goal
 
--- The section of n bytes lies within the file.
-within : (c : tie.After-offset) → let entry = c.before.before.before.before in c.offset.result + entry.args.n ≤ length entry.args.b.now
-within c =
-    let at_test = c.before in
-    let at_size = at_test.before in
-    let entry = at_size.before.before in
-    kinds-within _ entry.requires.0 entry.requires.1 c.offset.ensures.0 (sym at_test.if1.false ∙ at_size.size.ensures.0)
-
 pub size-requires : goal.size-requires
-size-requires c = pair-there _ c.requires.0 c.requires.1
+size-requires c = pair-there _ c.requires.sections c.requires.b_value
 
 pub returns-then-size-n : goal.returns-then-size-n
-returns-then-size-n c = other_length _ c.requires.0 c.requires.1 _ c.size.ensures.0 c.if-size-n.true
+returns-then-size-n c = other_length _ c.requires.sections c.requires.b_value _ c.size.ensures.0 c.if-size-n.true
 
 pub offset-at-requires : goal.offset-at-requires
-offset-at-requires c = pair-there _ c.requires.0 c.requires.1
+offset-at-requires c = pair-there _ c.requires.sections c.requires.b_value
 
 pub slice_bounds-kinds-end : goal.slice_bounds-kinds-end
-slice_bounds-kinds-end c = let h = within c in search rules
+slice_bounds-kinds-end c = let h = (kinds-within _ c.requires.sections c.requires.b_value c.offset-at.ensures.0 (sym c.if-size-n.false ∙ c.size.ensures.0)) in search rules
 
 pub returns-then-not-all_within : goal.returns-then-not-all_within
-returns-then-not-all_within c = no_kind_lem _ c.requires.0 c.requires.1 c.offset-at.ensures.0 c.size.ensures.0 c.if-size-n.false
+returns-then-not-all_within c = no_kind_lem _ c.requires.sections c.requires.b_value c.offset-at.ensures.0 c.size.ensures.0 c.if-size-n.false
     (slice_long c.offset-at.result c.args.n) c.all_within.ensures (not-true _ c.if-not-all_within.true)
 
 pub returns : goal.returns
-returns c = kinds_tested _ c.requires.0 c.requires.1 c.offset-at.ensures.0 c.size.ensures.0 c.if-size-n.false
+returns c = kinds_tested _ c.requires.sections c.requires.b_value c.offset-at.ensures.0 c.size.ensures.0 c.if-size-n.false
     (slice_long c.offset-at.result c.args.n) c.all_within.ensures (not-false _ c.if-not-all_within.false)
     c.all_within-2.ensures

@@ -7,16 +7,16 @@ use borrow.Author.Rules.{rules}
 use Rattle.deckfile.proofs.reader.has_edges.Goals as goal
 
 pub returns-then-size-w : goal.returns-then-size-w
-returns-then-size-w c = edges_other c.args.b.now c.requires.0 _ c.requires.1.0 c.requires.1.1 _ c.size.ensures.0 c.if-size-w.true
+returns-then-size-w c = edges_other c.args.b.now c.requires.sections _ c.requires.in_order_lem c.requires.valid _ c.size.ensures.0 c.if-size-w.true
 
 pub same_edges-requires : goal.same_edges-requires
-same_edges-requires c = let ordered = c.requires.1.0 in
+same_edges-requires c = let ordered = c.requires.in_order_lem in
     let full : length c.edge_numbers-ends.result ≡ 128 = search rules in (
-      third_within _ c.requires.0 _ ordered c.requires.1.1 _ _ c.size.ensures.0 c.if-size-w.false c.offset.ensures.0,
+      third_within _ c.requires.sections _ ordered c.requires.valid _ _ c.size.ensures.0 c.if-size-w.false c.offset.ensures.0,
       omega (arith, full, ordered.keys_few),
     )
 
 pub returns : goal.returns
 returns c = c.same_edges.ensures
-    ∙ edges_same c.args.b.now c.requires.0 _ c.requires.1.0 c.requires.1.1 _ _ _ c.size.ensures.0 c.if-size-w.false
+    ∙ edges_same c.args.b.now c.requires.sections _ c.requires.in_order_lem c.requires.valid _ _ _ c.size.ensures.0 c.if-size-w.false
     c.offset.ensures.0 c.edge_numbers-ends.ensures

@@ -9,22 +9,14 @@ use Rattle.deckfile.proofs.reader.KindsCheck.{pair-there, slice_long, kinds-leng
 use borrow.Author.Rules.{rules}
 use Rattle.deckfile.proofs.reader.kinds_of.Goals as goal
 
--- The section of n bytes lies within the file.
-within : (c : tie.After-offset) → let entry = c.before.before in c.offset.result + entry.args.n ≤ length entry.args.b.now
-within c =
-    let entry = c.before.before in
-    let p = entry.requires in
-    kinds-within _ p.0 p.1.0 c.offset.ensures.0 (p.1.1.0 ∙ kinds-length _ p.0 p.1.0)
-
 pub offset-at-requires : goal.offset-at-requires
-offset-at-requires c = pair-there _ c.requires.0 c.requires.1.0
+offset-at-requires c = pair-there _ c.requires.sections c.requires.b_value
 
 pub slice_bounds-in_front-end : goal.slice_bounds-in_front-end
-slice_bounds-in_front-end c = let h = within c in search rules
+slice_bounds-in_front-end c = let h = (kinds-within _ c.requires.sections c.requires.b_value c.offset-at.ensures.0 (c.requires.n_value.0 ∙ kinds-length _ c.requires.sections c.requires.b_value)) in search rules
 
 pub returns : goal.returns
-returns c = let p = c.requires in
-    let long = slice_long c.offset-at.result c.args.n in
+returns c = let long = slice_long c.offset-at.result c.args.n in
     c.in_front.ensures
     ∙ ap (λ (l : List ℕ). padded max_pins l)
-    (kinds-read c.args.b.now p.0 p.1.0 c.offset-at.ensures.0 (long ∙ p.1.1.0 ∙ kinds-length _ p.0 p.1.0))
+    (kinds-read c.args.b.now c.requires.sections c.requires.b_value c.offset-at.ensures.0 (long ∙ c.requires.n_value.0 ∙ kinds-length _ c.requires.sections c.requires.b_value))

@@ -8,8 +8,8 @@ use Rattle.deckfile.proofs.reader.points_working.Goals as goal
 
 pub slice_bounds-all-end : goal.slice_bounds-all-end
 slice_bounds-all-end c = let full : length c.args.found.steiner ≡ file_places = search rules in
-    found_within c.args.b.now c.requires.0 c.requires.1.1.0 c.args.found _ c.size-m.ensures.0
-    c.requires.1.1.1 full
+    found_within c.args.b.now c.requires.sections c.requires.t c.args.found _ c.size-m.ensures.0
+    c.requires.b_bound full
 
 pub slice_bounds-put_numbers-end-2 : goal.slice_bounds-put_numbers-end-2
 slice_bounds-put_numbers-end-2 c = let full : length c.args.found.steiner ≡ file_places = search rules in

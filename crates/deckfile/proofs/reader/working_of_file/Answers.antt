@@ -9,27 +9,12 @@ use Rattle.sections.specs.Layout.{Sections}
 use borrow.Author.Rules.{rules}
 use Rattle.deckfile.proofs.reader.working_of_file.Goals as goal
 
--- What `with_kinds` asks for, where the points are those of a valid state.
-ready : (c : tie.Else2) → let at-points-working = c.before.before in let entry = entry_of at-points-working in
-    Sections entry.args.b.now × InOrder at-points-working.points-working.result.form
-    × (state_of at-points-working.points-working.result.form ≡ file_state entry.args.b.now)
-ready c =
-    let at-points-working = c.before.before in
-    let entry = entry_of at-points-working in
-    let b = entry.args.b.now in
-    let for = at-points-working.points-working.ensures in
-    let ok = not-false _ c.if2.false in (
-      entry.pre.0,
-      (found_valid b entry.pre.0 entry.pre.1.1.1 entry.pre.1.0 _ for ok).0,
-      found_state b entry.pre.0 entry.pre.1.1.1 entry.pre.1.0 _ for ok,
-    )
-
 pub returns-then-size-gt-STEINER_ROOM : goal.returns-then-size-gt-STEINER_ROOM
-returns-then-size-gt-STEINER_ROOM c = read_as (last_many c.args.b.now c.requires.0 c.requires.1.1.1 _ c.size.ensures.0 c.if-size-gt-STEINER_ROOM.true)
+returns-then-size-gt-STEINER_ROOM c = read_as (last_many c.args.b.now c.requires.sections c.requires.t _ c.size.ensures.0 c.if-size-gt-STEINER_ROOM.true)
     c.refuse.ensures
 
 pub points_working-c-requires : goal.points_working-c-requires
-points_working-c-requires c = (c.requires.0, (c.requires.1.1.0, (c.requires.1.1.1, omega (arith, c.size.ensures.0))))
+points_working-c-requires c = (c.requires.sections, (c.requires.decodes, (c.requires.t, omega (arith, c.size.ensures.0))))
 
 pub returns-then-not-c : goal.returns-then-not-c
 returns-then-not-c c = let entry = (c) in
@@ -38,7 +23,7 @@ returns-then-not-c c = let entry = (c) in
     invalid) c.refuse-then-not-c.ensures
 
 pub with_kinds-requires : goal.with_kinds-requires
-with_kinds-requires c = let r = ready c in (r.0, (r.1, r.2))
+with_kinds-requires c = let r = (let entry = (c) in let b = entry.args.b.now in let for = c.points_working-c.ensures in let ok = not-false _ c.if-not-c.false in ( entry.pre.0, (found_valid b entry.pre.0 entry.pre.1.1.1 entry.pre.1.0 _ for ok).0, found_state b entry.pre.0 entry.pre.1.1.1 entry.pre.1.0 _ for ok, )) in (r.0, (r.1, r.2))
 
 pub returns-then-is_plain : goal.returns-then-is_plain
 returns-then-is_plain c = let entry = (c) in
@@ -63,7 +48,7 @@ returns-then-not-has_edges c = let entry = (c) in
     c.refuse-then-not-has_edges.ensures
 
 pub with_kinds-requires-2 : goal.with_kinds-requires-2
-with_kinds-requires-2 c = let r = ready c in (r.0, (r.1, r.2))
+with_kinds-requires-2 c = let r = (let entry = (c) in let b = entry.args.b.now in let for = c.points_working-c.ensures in let ok = not-false _ c.if-not-c.false in ( entry.pre.0, (found_valid b entry.pre.0 entry.pre.1.1.1 entry.pre.1.0 _ for ok).0, found_state b entry.pre.0 entry.pre.1.1.1 entry.pre.1.0 _ for ok, )) in (r.0, (r.1, r.2))
 
 pub returns : goal.returns
 returns c = let entry = (c) in

@@ -6,8 +6,5 @@ use Rattle.packing.proofs.text.line_head.Goals as goal
 
 pub returns : goal.returns
 returns c = let word = c.put_bytes-number.ensures in
-    let number = c.decimal_field-reason.ensures in
-    let colon = c.put_bytes.ensures in (
-      pasted_then word (omega (arith, word.next)) (pasted_then number.0 (omega (arith, word.next, number.1)) colon),
-      omega (arith, word.next, number.1, colon.next),
-    )
+    let colon = c.put_bytes.ensures in
+    record { pasted = pasted_then word (omega (arith, word.next)) (pasted_then c.decimal_field-reason.ensures.pasted (omega (arith, word.next, c.decimal_field-reason.ensures.upper_bound)) colon); upper_bound = omega (arith, word.next, c.decimal_field-reason.ensures.upper_bound, colon.next) }

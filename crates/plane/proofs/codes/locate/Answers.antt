@@ -12,26 +12,17 @@ use Rattle.arrays.proofs.Test.{and_parts, of_true}
 use Rattle.plane.proofs.codes.Points.{located_in, located-out}
 use Rattle.plane.proofs.codes.locate.Goals as goal
 
-test : (c : tie.After-is-in-range2) → in_range (point c.before.before) ≡ c.before.is_in_range.result && c.is-in-range2.result
-test c =
-    let s = c.before.before in
-    let x = c.before.is_in_range.ensures ∙ read_one coordinate_in_range s.ranges.x in
-    sym (ap₂ ◌&&◌ x (c.is-in-range2.ensures ∙ read_one coordinate_in_range s.ranges.y))
-
-both : (c : tie.Then1) → T c.before.before.is_in_range.result × T c.before.is-in-range2.result
-both c = and_parts c.before.before.is_in_range.result c.before.is-in-range2.result (of_true c.if1.true)
-
 pub stored-requires : goal.stored-requires
-stored-requires c = subst T c.is_in_range.ensures (both c).0
+stored-requires c = subst T c.is_in_range.ensures (and_parts c.is_in_range.result c.is_in_range-2.result (of_true c.if-is_in_range.true)).0
 
 pub stored-requires-then-is_in_range : goal.stored-requires-then-is_in_range
-stored-requires-then-is_in_range c = subst T c.is_in_range-2.ensures (both c).1
+stored-requires-then-is_in_range c = subst T c.is_in_range-2.ensures (and_parts c.is_in_range.result c.is_in_range-2.result (of_true c.if-is_in_range.true)).1
 
 pub returns-then-is_in_range : goal.returns-then-is_in_range
 unfolding code
 returns-then-is_in_range c = let x = c.stored.ensures ∙ read_one stored_of c.ranges.x in
     let y = c.stored-then-is_in_range.ensures ∙ read_one stored_of c.ranges.y in
-    ap At (c.pack.ensures.0 ∙ ap₂ packed x y) ∙ sym (located_in (record { x = c.args.x; y = c.args.y }) (test c ∙ c.if-is_in_range.true))
+    ap At (c.pack.ensures.0 ∙ ap₂ packed x y) ∙ sym (located_in (record { x = c.args.x; y = c.args.y }) ((let x = c.is_in_range.ensures ∙ read_one coordinate_in_range c.ranges.x in sym (ap₂ ◌&&◌ x (c.is_in_range-2.ensures ∙ read_one coordinate_in_range c.ranges.y))) ∙ c.if-is_in_range.true))
 
 pub returns-else-is_in_range : goal.returns-else-is_in_range
-returns-else-is_in_range c = sym (located-out (record { x = c.args.x; y = c.args.y }) (test c ∙ c.if-is_in_range.false))
+returns-else-is_in_range c = sym (located-out (record { x = c.args.x; y = c.args.y }) ((let x = c.is_in_range.ensures ∙ read_one coordinate_in_range c.ranges.x in sym (ap₂ ◌&&◌ x (c.is_in_range-2.ensures ∙ read_one coordinate_in_range c.ranges.y))) ∙ c.if-is_in_range.false))

@@ -11,10 +11,10 @@ pub loop-i-init : goal.loop-i-init
 loop-i-init c = passed_none _ _ _
 
 pub returns-then-not-is_code : goal.returns-then-not-is_code
-returns-then-not-is_code c = passed_fail _ _ _ _ _ c.loop-i.invariant (omega arith) c.requires c.is_code.ensures (not-true _ c.if-not-is_code.true)
+returns-then-not-is_code c = passed_fail _ _ _ _ _ c.loop-i.invariant (omega arith) c.requires c.is_code.ensures c.if-not-is_code.true
 
 pub loop-i-preserved : goal.loop-i-preserved
-loop-i-preserved c = passed_more _ _ _ _ _ c.loop-i.invariant (omega arith) c.requires c.is_code.ensures (not-false _ c.if-not-is_code.false)
+loop-i-preserved c = passed_more _ _ _ _ _ c.loop-i.invariant (omega arith) c.requires c.is_code.ensures c.if-not-is_code.false
 
 pub returns : goal.returns
 returns c = passed_end _ _ _ _ c.loop-i.invariant c.loop-i-test.false c.requires

@@ -17,12 +17,6 @@ room {n} {m} h k = le-leb (n + m) 127 (omega arith)
 no_room : {n m : ℕ} → n ≤ 64 → 127 - n < m → leb (n + m) 127 ≡ false
 no_room {n} {m} h k = lt-leb (n + m) 127 (omega arith)
 
-pins-sized : (entry : tie.Start) → length entry.args.q.pins ≡ 64
-pins-sized entry = search rules
-
-steiner-sized : (entry : tie.Start) → length entry.args.q.steiner ≡ 128
-steiner-sized entry = search rules
-
 pub returns-then-npins-gt-MAX_PINS : goal.returns-then-npins-gt-MAX_PINS
 returns-then-npins-gt-MAX_PINS c = and_no _ _ (lt-leb _ _ c.if-npins-gt-MAX_PINS.true)
 
@@ -30,14 +24,14 @@ pub returns-then-npins-nsteiner : goal.returns-then-npins-nsteiner
 returns-then-npins-nsteiner c = and_yes _ _ _ (le-leb _ _ c.if-npins-gt-MAX_PINS.false) (and_no _ _ (no_room c.if-npins-gt-MAX_PINS.false c.if-npins-nsteiner.true))
 
 pub is_ordered-requires : goal.is_ordered-requires
-is_ordered-requires c = omega (arith, c.if-npins-gt-MAX_PINS.false, pins-sized c)
+is_ordered-requires c = omega (arith, c.if-npins-gt-MAX_PINS.false, (search rules))
 
 pub returns-then-not-is_ordered : goal.returns-then-not-is_ordered
 returns-then-not-is_ordered c = and_yes _ _ _ (le-leb _ _ c.if-npins-gt-MAX_PINS.false) (and_yes _ _ _ (room c.if-npins-gt-MAX_PINS.false c.if-npins-nsteiner.false)
     (and_no _ _ (sym c.is_ordered.ensures ∙ not-true _ c.if-not-is_ordered.true)))
 
 pub is_ordered-requires-2 : goal.is_ordered-requires-2
-is_ordered-requires-2 c = omega (arith, c.if-npins-nsteiner.false, steiner-sized c)
+is_ordered-requires-2 c = omega (arith, c.if-npins-nsteiner.false, (search rules))
 
 pub returns-then-not-is_ordered-2 : goal.returns-then-not-is_ordered-2
 returns-then-not-is_ordered-2 c = and_yes _ _ _ (le-leb _ _ c.if-npins-gt-MAX_PINS.false) (and_yes _ _ _ (room c.if-npins-gt-MAX_PINS.false c.if-npins-nsteiner.false)
@@ -45,7 +39,7 @@ returns-then-not-is_ordered-2 c = and_yes _ _ _ (le-leb _ _ c.if-npins-gt-MAX_PI
     (and_no _ _ (sym c.is_ordered-2.ensures ∙ not-true _ c.if-not-is_ordered-2.true))))
 
 pub none_in-requires : goal.none_in-requires
-none_in-requires c = (omega (arith, c.if-npins-gt-MAX_PINS.false, pins-sized c), omega (arith, c.if-npins-nsteiner.false, steiner-sized c))
+none_in-requires c = (omega (arith, c.if-npins-gt-MAX_PINS.false, (search rules)), omega (arith, c.if-npins-nsteiner.false, (search rules)))
 
 pub returns : goal.returns
 returns c = and_yes _ _ _ (le-leb _ _ c.if-npins-gt-MAX_PINS.false) (and_yes _ _ _ (room c.if-npins-gt-MAX_PINS.false c.if-npins-nsteiner.false)

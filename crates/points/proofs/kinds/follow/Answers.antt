@@ -16,10 +16,6 @@ use Rattle.points.proofs.kinds.follow.Goals as goal
 abbrev kind_of : List ℕ → List ℕ → ℕ → ℕ → ℕ → ℕ
 kind_of pins kinds n other k = beside ltb other k (take n pins) (take n kinds)
 
--- The place behind the kind that was put.
-next_place : (c : tie.After-put-byte invariant-loop decreases-loop) → let at-loop = c.before.before.before.before.before in c.put_byte.result ≡ at-loop.loop.i + 1
-next_place c = c.put_byte.ensures.next
-
 pub loop-i-init : goal.loop-i-init
 loop-i-init c = each-first_none (one _) 1 _ _ _ _
 
@@ -27,16 +23,16 @@ pub put_byte-i-requires : goal.put_byte-i-requires
 put_byte-i-requires c = omega (arith, c.loop-i.invariant.same, c.loop-i-test.true, c.requires.3)
 
 pub loop-i-smaller : goal.loop-i-smaller
-loop-i-smaller c = omega (arith, next_place c, c.loop-i-test.true)
+loop-i-smaller c = omega (arith, c.put_byte-i.ensures.next, c.loop-i-test.true)
 
 pub loop-i-preserved : goal.loop-i-preserved
 loop-i-preserved c = let a = c.args in
     let text = one (kind_of a.pins.now a.kinds.now a.n a.other) in
     let put = pasted_same (ap (λ (z : ℕ). z ∷ []) c.kind_or.ensures) c.put_byte-i.ensures in
     subst⁻¹ (λ (z : ℕ). PutFirst (each_to text a.next.now) 1 a.m a.out.now c.put_byte-i.new.0 0 c.put_byte-i.result z)
-    (next_place c)
+    c.put_byte-i.ensures.next
     (each-first_more text 1 _ _ _ _ c.loop-i.invariant c.loop-i-test.true c.requires.2
-    (omega (arith, c.loop-i.invariant.same, c.loop-i-test.true, c.requires.3)) put (omega (arith, next_place c)) c.put_byte-i.auto.0)
+    (omega (arith, c.loop-i.invariant.same, c.loop-i-test.true, c.requires.3)) put (omega (arith, c.put_byte-i.ensures.next)) c.put_byte-i.auto.0)
 
 pub shape_of-out : goal.shape_of-out
 shape_of-out c = c.loop-i.invariant.same

@@ -4,7 +4,7 @@ use Rattle.model.specs.State.{insert, remove, prune}
 use Rattle.prune.proofs.change.insert.Goals as goal
 
 pub with_pin-requires : goal.with_pin-requires
-with_pin-requires c = (c.requires.0.arranged, (c.requires.1.0, c.requires.1.1))
+with_pin-requires c = (c.requires.in_order_lem.arranged, (c.requires.t, c.requires.npins_lt_max_pins))
 
 pub prune-requires : goal.prune-requires
 prune-requires c = c.with_pin.ensures.0

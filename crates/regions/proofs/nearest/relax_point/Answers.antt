@@ -7,15 +7,15 @@ use Rattle.regions.proofs.nearest.Sides.{relax_given, point_more}
 use Rattle.regions.proofs.nearest.relax_point.Goals as goal
 
 pub relax_rows-requires : goal.relax_rows-requires
-relax_rows-requires c = let p = c.requires.0 in
-    relax_given p.0 p.1 p.2 (omega arith) (p.0.ranked _ p.1) (omega arith) (omega arith) c.requires.1.complements (omega arith) refl
+relax_rows-requires c = let p = c.requires.column_given in
+    relax_given p.0 p.1 p.2 (omega arith) (p.0.ranked _ p.1) (omega arith) (omega arith) c.requires.at_rows.complements (omega arith) refl
 
 pub relax_rows-requires-2 : goal.relax_rows-requires-2
-relax_rows-requires-2 c = let p = c.requires.0 in
+relax_rows-requires-2 c = let p = c.requires.column_given in
     relax_given p.0 p.1 p.2 (p.0.ranked _ p.1) (omega arith) (omega arith) (omega arith) c.relax_rows.ensures.complements
     (omega arith) refl
 
 pub returns : goal.returns
-returns c = let p = c.requires.0 in
+returns c = let p = c.requires.column_given in
     let along = ap (λ (z : ℕ). z * 128 + c.args.j) c.apart.ensures in
-    point_more p.0 p.1 p.2 along (omega arith) c.relax_rows.ensures c.relax_rows-2.ensures c.requires.1
+    point_more p.0 p.1 p.2 along (omega arith) c.relax_rows.ensures c.relax_rows-2.ensures c.requires.at_rows

@@ -11,14 +11,14 @@ use Rattle.replay.proofs.list.call.Goals as goal
 pub returns-in-0 : goal.returns-in-0
 unfolding call_of
 returns-in-0 c = point_call _ c.in-0.is _ _ _ (λ (p : Point). add p c.args.kind) _ _
-    (read_is (record { sfits = c.signed32.type-inv }) c.signed32.ensures)
-    (read_is (record { sfits = c.signed32-in-0.type-inv }) c.signed32-in-0.ensures) refl c.add-o.ensures
+    (read_is (record { sfits = c.signed32.type_inv }) c.signed32.ensures)
+    (read_is (record { sfits = c.signed32-in-0.type_inv }) c.signed32-in-0.ensures) refl c.add-o.ensures
 
 pub returns-in-1 : goal.returns-in-1
 unfolding call_of
 returns-in-1 c = point_call _ c.in-1.is _ _ _ withdraw _ _
-    (read_is (record { sfits = c.signed32-in-1.type-inv }) c.signed32-in-1.ensures)
-    (read_is (record { sfits = c.signed32-in-1-2.type-inv }) c.signed32-in-1-2.ensures) refl c.withdraw-o.ensures
+    (read_is (record { sfits = c.signed32-in-1.type_inv }) c.signed32-in-1.ensures)
+    (read_is (record { sfits = c.signed32-in-1-2.type_inv }) c.signed32-in-1-2.ensures) refl c.withdraw-o.ensures
 
 pub returns-in-2 : goal.returns-in-2
 unfolding call_of

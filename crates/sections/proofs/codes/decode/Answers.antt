@@ -10,12 +10,13 @@ pub loop-i-init : goal.loop-i-init
 loop-i-init c = decoded_none _ _ _ _ c.requires.0 c.requires.1
 
 pub returns-in-OutOfRange : goal.returns-in-OutOfRange
-returns-in-OutOfRange c = decoded-stop _ _ _ _ c.requires.0 c.requires.1 _ _ c.loop-i.invariant (omega arith)
-    (sym c.locate_at.ensures ∙ c.in-OutOfRange.is)
+returns-in-OutOfRange c = record { value = (decoded-stop _ _ _ _ c.requires.0 c.requires.1 _ _ c.loop-i.invariant (omega arith)
+    (sym c.locate_at.ensures ∙ c.in-OutOfRange.is)).0; out_after = (decoded-stop _ _ _ _ c.requires.0 c.requires.1 _ _ c.loop-i.invariant (omega arith)
+    (sym c.locate_at.ensures ∙ c.in-OutOfRange.is)).1 }
 
 pub loop-i-preserved : goal.loop-i-preserved
 loop-i-preserved c = decoded_more _ _ _ _ c.requires.0 c.requires.1 _ _ c.loop-i.invariant (omega arith) _
     (sym c.locate_at.ensures ∙ c.in-At.is)
 
 pub returns : goal.returns
-returns c = decoded_end _ _ _ _ c.requires.0 c.requires.1 _ _ c.loop-i.invariant c.loop-i-test.false
+returns c = record { value = (decoded_end _ _ _ _ c.requires.0 c.requires.1 _ _ c.loop-i.invariant c.loop-i-test.false).0; out_after = (decoded_end _ _ _ _ c.requires.0 c.requires.1 _ _ c.loop-i.invariant c.loop-i-test.false).1 }

@@ -9,19 +9,19 @@ use borrow.Author.Rules.{rules}
 use Rattle.sections.proofs.codes.decode_points.Goals as goal
 
 pub decode_section-pins_ok-requires : goal.decode_section-pins_ok-requires
-decode_section-pins_ok-requires c = (pins-section _ c.requires.0, omega (arith, c.requires.1))
+decode_section-pins_ok-requires c = (pins-section _ c.requires.sections, omega (arith, c.requires.few_pins))
 
 pub decode_section-steiner_ok-requires : goal.decode_section-steiner_ok-requires
-decode_section-steiner_ok-requires c = (steiner-section _ c.requires.0, steiner-room _ c.requires.0)
+decode_section-steiner_ok-requires c = (steiner-section _ c.requires.sections, steiner-room _ c.requires.sections)
 
 pub are_placed-requires : goal.are_placed-requires
 are_placed-requires c = let pins : length c.decode_section-pins_ok.new.1.1.0 ≡ max_pins = search rules in
     let steiner : length c.decode_section-steiner_ok.new.1.1.0 ≡ file_places = search rules in (
-      omega (arith, pins, c.size-n.ensures.0, c.requires.1),
-      omega (arith, steiner, c.size-m.ensures.0, steiner-room _ c.requires.0),
+      omega (arith, pins, c.size-n.ensures.0, c.requires.few_pins),
+      omega (arith, steiner, c.size-m.ensures.0, steiner-room _ c.requires.sections),
     )
 
 pub returns : goal.returns
-returns c = decodes c.args.b.now c.requires.0 _ _ c.size-n.ensures.0 c.size-m.ensures.0
+returns c = decodes c.args.b.now c.requires.sections _ _ c.size-n.ensures.0 c.size-m.ensures.0
     c.decode_section-pins_ok.ensures.value c.decode_section-steiner_ok.ensures.value c.decode_section-pins_ok.ensures.out_after
     c.decode_section-steiner_ok.ensures.out_after c.are_placed.ensures

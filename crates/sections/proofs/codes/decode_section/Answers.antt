@@ -11,9 +11,8 @@ use Rattle.sections.proofs.codes.decode_section.Goals as goal
 
 pub decode-requires : goal.decode-requires
 decode-requires c = let size = c.size.ensures.0 in
-    (section-fits _ _ c.requires.0 c.offset.ensures.0 size, omega (arith, size, c.requires.1))
+    (section-fits _ _ c.requires.point_section c.offset.ensures.0 size, omega (arith, size, c.requires.k_in_bounds))
 
 pub returns : goal.returns
-returns c = let done = c.decode.ensures in
-    let are = section-read _ _ c.requires.0 c.offset.ensures.0 c.size.ensures.0 in
-    (done.0 ∙ ap (all in_range) are, done.1 ∙ ap (λ (ps : List Point). decoded ps c.args.out.now) are)
+returns c = let are = section-read _ _ c.requires.point_section c.offset.ensures.0 c.size.ensures.0 in
+    record { value = c.decode.ensures.value ∙ ap (all in_range) are; out_after = c.decode.ensures.out_after ∙ ap (λ (ps : List Point). decoded ps c.args.out.now) are }

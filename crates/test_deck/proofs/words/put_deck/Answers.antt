@@ -10,19 +10,16 @@ use Rattle.test_deck.proofs.words.Places.{Sized, laid_out_lem, deck_in_words}
 use borrow.Author.Rules.{rules}
 use Rattle.test_deck.proofs.words.put_deck.Goals as goal
 
-sized : (s : tie.Start) → Sized s.args.d
-sized s = record { pins = search rules; steiner = search rules; ends = search rules }
-
 set_twice : (l : List ℕ) (i a j b : ℕ) → length (set (set l i a) j b) ≡ length l
 set_twice l i a j b = length-set (set l i a) j b ∙ length-set l i a
 
 pub put_numbers-requires : goal.put_numbers-requires
-put_numbers-requires c = omega (arith, (sized c).pins)
+put_numbers-requires c = omega (arith, (record { pins = search rules; steiner = search rules; ends = search rules }).pins)
 
 pub put_numbers-requires-2 : goal.put_numbers-requires-2
 put_numbers-requires-2 c = omega (
       arith,
-      (sized c).steiner,
+      (record { pins = search rules; steiner = search rules; ends = search rules }).steiner,
       length-set c.put_numbers.new.0 pin_count_word c.args.d.points.npins,
       c.put_numbers.auto.0,
     )
@@ -30,12 +27,12 @@ put_numbers-requires-2 c = omega (
 pub put_numbers-requires-3 : goal.put_numbers-requires-3
 put_numbers-requires-3 c = omega (
       arith,
-      (sized c).ends,
+      (record { pins = search rules; steiner = search rules; ends = search rules }).ends,
       set_twice c.put_numbers-2.new.0 steiner_count_word c.args.d.points.nsteiner tail_word c.args.d.tail,
       c.put_numbers-2.auto.0,
     )
 
 pub returns : goal.returns
-returns c = let laid = laid_out_lem c.args.d (sized c) refl c.put_numbers.ensures c.put_numbers-2.ensures
+returns c = let laid = laid_out_lem c.args.d (record { pins = search rules; steiner = search rules; ends = search rules }) refl c.put_numbers.ensures c.put_numbers-2.ensures
     c.put_numbers-3.ensures in
-    (laid, ap (λ (w : List ℕ). deck_in w c.args.d.kinds) laid ∙ deck_in_words c.args.d (sized c))
+    record { words_after = laid; kinds_after = ap (λ (w : List ℕ). deck_in w c.args.d.kinds) laid ∙ deck_in_words c.args.d (record { pins = search rules; steiner = search rules; ends = search rules }) }
