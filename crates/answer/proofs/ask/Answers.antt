@@ -22,9 +22,8 @@ returns-in-Run c = answers _ c.in-Run.is (same_answer c.edge_at.ensures)
 
 pub returns-in-Degree : goal.returns-in-Degree
 unfolding question_for
-returns-in-Degree c = let fits = c.in-Degree.known-told2.given in
-    answers _ c.in-Degree.is
-    (asked_at (record { sfits = fits.0.1 }) (record { sfits = fits.1.0.1 }) _ of_degree c.degree_at.ensures) c.answered-in-Degree.ensures
+returns-in-Degree c = answers _ c.in-Degree.is
+    (asked_at (search rules) (search rules) _ of_degree c.degree_at.ensures) c.answered-in-Degree.ensures
 
 pub returns-in-Kinds : goal.returns-in-Kinds
 unfolding question_for
@@ -34,4 +33,4 @@ returns-in-Kinds c = answers _ c.in-Kinds.is (same_answer c.kind_lengths.ensures
 pub returns-in-Column : goal.returns-in-Column
 unfolding question_for
 returns-in-Column c = answers _ c.in-Column.is
-    (asked_of (record { sfits = c.in-Column.known-told3.given.0.1 }) _ of_column c.column.ensures) c.answered-in-Column.ensures
+    (asked_of (search rules) _ of_column c.column.ensures) c.answered-in-Column.ensures

@@ -9,17 +9,15 @@ use Rattle.answer.proofs.call.Goals as goal
 
 pub returns-in-Add : goal.returns-in-Add
 unfolding call_for
-returns-in-Add c = let fits = c.in-Add.known-told.given in
-    let kind = c.in-Add.kind in
+returns-in-Add c = let kind = c.in-Add.kind in
     makes _ c.in-Add.is
-    (called_at (record { sfits = fits.0.1 }) (record { sfits = fits.1.0.1 }) _ (λ (p : Point). call.add p kind) c.add.ensures)
+    (called_at (search rules) (search rules) _ (λ (p : Point). call.add p kind) c.add.ensures)
     c.changed.ensures
 
 pub returns-in-Withdraw : goal.returns-in-Withdraw
 unfolding call_for
-returns-in-Withdraw c = let fits = c.in-Withdraw.known-told2.given in
-    makes _ c.in-Withdraw.is
-    (called_at (record { sfits = fits.0.1 }) (record { sfits = fits.1.0.1 }) _ call.withdraw c.withdraw.ensures)
+returns-in-Withdraw c = makes _ c.in-Withdraw.is
+    (called_at (search rules) (search rules) _ call.withdraw c.withdraw.ensures)
     c.changed-in-Withdraw.ensures
 
 pub returns-in-Round : goal.returns-in-Round

@@ -18,27 +18,23 @@ returns-in-Zero c = read_one One c.ranges.z ∙ same-appended _ c.in-Zero.is
 
 pub returns-in-One : goal.returns-in-One
 unfolding appended
-returns-in-One c = let k = c.in-One.known-told.given in
-    read_two Two _ _ (record { sfits = k.0.1 }) c.ranges.z ∙ same-appended _ c.in-One.is
+returns-in-One c = read_two Two _ _ (search rules) c.ranges.z ∙ same-appended _ c.in-One.is
 
 pub returns-in-Two : goal.returns-in-Two
 unfolding appended
-returns-in-Two c = let k = c.in-Two.known-told2.given in
-    read-three Three _ _ _ (record { sfits = k.0.1 }) (record { sfits = k.1.0.1 }) c.ranges.z
+returns-in-Two c = read-three Three _ _ _ (search rules) (search rules) c.ranges.z
     ∙ same-appended _ c.in-Two.is
 
 pub returns-in-Three : goal.returns-in-Three
 unfolding appended
-returns-in-Three c = let k = c.in-Three.known-told3.given in
-    read-four Four _ _ _ _ (record { sfits = k.0.1 }) (record { sfits = k.1.0.1 }) (record { sfits = k.1.1.0.1 })
+returns-in-Three c = read-four Four _ _ _ _ (search rules) (search rules) (search rules)
     c.ranges.z
     ∙ same-appended _ c.in-Three.is
 
 pub returns-in-Four : goal.returns-in-Four
 unfolding appended
-returns-in-Four c = let k = c.in-Four.known-told4.given in
-    read_five Five _ _ _ _ _ (record { sfits = k.0.1 }) (record { sfits = k.1.0.1 }) (record { sfits = k.1.1.0.1 })
-    (record { sfits = k.1.1.1.0.1 }) c.ranges.z
+returns-in-Four c = read_five Five _ _ _ _ _ (search rules) (search rules) (search rules)
+    (search rules) c.ranges.z
     ∙ same-appended _ c.in-Four.is
 
 pub returns-in-Five : goal.returns-in-Five

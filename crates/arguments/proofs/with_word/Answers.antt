@@ -11,5 +11,5 @@ returns-in-NoNumber c = sym (ap (number_appended c.args.a) (sym c.number_of.ensu
 
 pub returns-in-Is : goal.returns-in-Is
 unfolding with_word
-returns-in-Is c = c.append.ensures ∙ read_one (appended c.args.a) (record { sfits = c.in-Is.known-told.given.0.1 })
+returns-in-Is c = c.append.ensures ∙ read_one (appended c.args.a) (search rules)
     ∙ sym (ap (number_appended c.args.a) (sym c.number_of.ensures ∙ c.in-Is.is))

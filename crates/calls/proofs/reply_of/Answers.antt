@@ -14,6 +14,5 @@ returns-in-Finished c = sym (ap step_reply c.in-Finished.is)
 pub returns-in-Tap : goal.returns-in-Tap
 unfolding step_reply
 returns-in-Tap c = let v = c.in-Tap.s.given.0 in
-    let k = c.in-Tap.known-told.given in
-    read_two (λ (x y : ℤ). Tap x y v.1.1.0) v.0 v.1.0 (record { sfits = k.0.1 }) (record { sfits = k.1.0.1 })
+    read_two (λ (x y : ℤ). Tap x y v.1.1.0) v.0 v.1.0 (search rules) (search rules)
     ∙ sym (ap step_reply c.in-Tap.is)

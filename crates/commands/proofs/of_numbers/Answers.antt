@@ -12,20 +12,18 @@ returns-in-Zero c = c.by_name.ensures ∙ same_command _ c.in-Zero.is
 
 pub returns-in-One : goal.returns-in-One
 unfolding of_numbers
-returns-in-One c = c.with_number.ensures ∙ read_one (with_number _) (record { sfits = c.in-One.known-told.given.0.1 })
+returns-in-One c = c.with_number.ensures ∙ read_one (with_number _) (search rules)
     ∙ same_command _ c.in-One.is
 
 pub returns-in-Two : goal.returns-in-Two
 unfolding of_numbers
-returns-in-Two c = let k = c.in-Two.known-told2.given in
-    c.with_pair.ensures ∙ read_two (with_pair _) _ _ (record { sfits = k.0.1 }) (record { sfits = k.1.0.1 })
+returns-in-Two c = c.with_pair.ensures ∙ read_two (with_pair _) _ _ (search rules) (search rules)
     ∙ same_command _ c.in-Two.is
 
 pub returns-in-Three : goal.returns-in-Three
 unfolding of_numbers
-returns-in-Three c = let k = c.in-Three.known-told3.given in
-    c.with_three.ensures
-    ∙ read-three (with_three _) _ _ _ (record { sfits = k.0.1 }) (record { sfits = k.1.0.1 }) (record { sfits = k.1.1.0.1 })
+returns-in-Three c = c.with_three.ensures
+    ∙ read-three (with_three _) _ _ _ (search rules) (search rules) (search rules)
     ∙ same_command _ c.in-Three.is
 
 pub returns-in-Four : goal.returns-in-Four
@@ -34,10 +32,9 @@ returns-in-Four c = same_command _ c.in-Four.is
 
 pub returns-in-Five : goal.returns-in-Five
 unfolding of_numbers
-returns-in-Five c = let k = c.in-Five.known-told5.given in
-    c.with_five.ensures
-    ∙ read_five (with_five _) _ _ _ _ _ (record { sfits = k.0.1 }) (record { sfits = k.1.0.1 }) (record { sfits = k.1.1.0.1 })
-    (record { sfits = k.1.1.1.0.1 }) (record { sfits = k.1.1.1.1.0.1 })
+returns-in-Five c = c.with_five.ensures
+    ∙ read_five (with_five _) _ _ _ _ _ (search rules) (search rules) (search rules)
+    (search rules) (search rules)
     ∙ same_command _ c.in-Five.is
 
 pub returns-in-Invalid : goal.returns-in-Invalid

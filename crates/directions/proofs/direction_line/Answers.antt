@@ -17,18 +17,16 @@ in-room out e = pasted_same (ap (λ (z : List ℕ). fitting 128 out z) e)
 
 pub returns-in-Octant : goal.returns-in-Octant
 unfolding direction_text
-returns-in-Octant c = let fits = c.in-Octant.known-told.given in
-    in-room _ (read_two octant_text _ _ (record { sfits = fits.0.1 }) (record { sfits = fits.1.0.1 })
+returns-in-Octant c = in-room _ (read_two octant_text _ _ (search rules) (search rules)
     ∙ ap direction_text (sym c.in-Octant.is)) c.octant_answer.ensures
 
 pub returns-in-Arrow : goal.returns-in-Arrow
 unfolding direction_text
-returns-in-Arrow c = let k = c.in-Arrow.known-told2.given in
-    in-room _ (ap indication_text (c.arrow.ensures ∙ read-arrow _ _ _ _ _ (record { sfits = k.0.1 }) (record { sfits = k.1.0.1 })
-    (record { sfits = k.1.1.0.1 }) (record { sfits = k.1.1.1.0.1 }) (record { sfits = k.1.1.1.1.0.1 }))
+returns-in-Arrow c = in-room _ (ap indication_text (c.arrow.ensures ∙ read-arrow _ _ _ _ _ (search rules) (search rules)
+    (search rules) (search rules) (search rules))
     ∙ ap direction_text (sym c.in-Arrow.is)) c.indication_line.ensures
 
 pub returns-in-Glyph : goal.returns-in-Glyph
 unfolding direction_text
-returns-in-Glyph c = in-room _ (ap glyph_text (c.glyph_of.ensures ∙ read_one glyph_of (record { sfits = c.in-Glyph.known-told3.given.0.1 }))
+returns-in-Glyph c = in-room _ (ap glyph_text (c.glyph_of.ensures ∙ read_one glyph_of (search rules))
     ∙ ap direction_text (sym c.in-Glyph.is)) c.glyph_line.ensures

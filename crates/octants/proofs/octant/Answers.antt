@@ -14,9 +14,6 @@ use Rattle.plane.proofs.Signed.{tests, sum_fits}
 use Rattle.octants.proofs.Read.{read-octant, read_none}
 use Rattle.octants.proofs.octant.Goals as goal
 
-found : (k : ℕ) (s : tie.Start) → SectorOf k (x s) (y s) → k ≡ octant s.args.dx s.args.dy
-found k s = read-octant k s.args.dx s.args.dy s.ranges.dx s.ranges.dy
-
 pub overflow_add-dx : goal.overflow_add-dx
 overflow_add-dx c = sum_fits (read c.args.dx) (read c.args.dy) (read_fits c.args.dx c.ranges.dx) (read_fits c.args.dy c.ranges.dy)
     (omega (arith, tests)) (omega (arith, tests))
@@ -27,38 +24,38 @@ overflow_add-dx-else-dy-le0 c = rw (+ℤ_comm (read c.args.dx) (read c.args.dy))
     (omega (arith, tests)) (omega (arith, tests)))
 
 pub returns-then-dy-dx : goal.returns-then-dy-dx
-returns-then-dy-dx c = found 0 c (omega (arith, tests))
+returns-then-dy-dx c = read-octant 0 c.args.dx c.args.dy c.ranges.dx c.ranges.dy (omega (arith, tests))
 
 pub returns-else-dy-dx : goal.returns-else-dy-dx
-returns-else-dy-dx c = found 1 c (omega (arith, tests))
+returns-else-dy-dx c = read-octant 1 c.args.dx c.args.dy c.ranges.dx c.ranges.dy (omega (arith, tests))
 
 pub returns-then-dx-dy-lt0 : goal.returns-then-dx-dy-lt0
 returns-then-dx-dy-lt0 c = let h = rw (to_z-of_z w32 ((read c.args.dx) +ℤ (read c.args.dy)) (sum_fits (read c.args.dx) (read c.args.dy) (read_fits c.args.dx c.ranges.dx) (read_fits c.args.dy c.ranges.dy) (omega (arith, tests)) (omega (arith, tests)))) at c.if-dx-dy-lt0.true in
-    found 6 c (omega (arith, tests, add_value (read c.args.dx) (read c.args.dy)))
+    read-octant 6 c.args.dx c.args.dy c.ranges.dx c.ranges.dy (omega (arith, tests, add_value (read c.args.dx) (read c.args.dy)))
 
 pub returns-else-dx-dy-lt0 : goal.returns-else-dx-dy-lt0
 returns-else-dx-dy-lt0 c = let h = rw (to_z-of_z w32 ((read c.args.dx) +ℤ (read c.args.dy)) (sum_fits (read c.args.dx) (read c.args.dy) (read_fits c.args.dx c.ranges.dx) (read_fits c.args.dy c.ranges.dy) (omega (arith, tests)) (omega (arith, tests)))) at c.if-dx-dy-lt0.false in
-    found 7 c (omega (arith, tests, add_value (read c.args.dx) (read c.args.dy)))
+    read-octant 7 c.args.dx c.args.dy c.ranges.dx c.ranges.dy (omega (arith, tests, add_value (read c.args.dx) (read c.args.dy)))
 
 pub returns-then-dx-dy : goal.returns-then-dx-dy
-returns-then-dx-dy c = found 4 c (omega (arith, tests))
+returns-then-dx-dy c = read-octant 4 c.args.dx c.args.dy c.ranges.dx c.ranges.dy (omega (arith, tests))
 
 pub returns-else-dx-dy : goal.returns-else-dx-dy
-returns-else-dx-dy c = found 5 c (omega (arith, tests))
+returns-else-dx-dy c = read-octant 5 c.args.dx c.args.dy c.ranges.dx c.ranges.dy (omega (arith, tests))
 
 pub returns-then-dx-dy-gt0 : goal.returns-then-dx-dy-gt0
 returns-then-dx-dy-gt0 c = let h = rw (to_z-of_z w32 ((read c.args.dx) +ℤ (read c.args.dy)) (rw (+ℤ_comm (read c.args.dx) (read c.args.dy)) (sum_fits (read c.args.dy) (read c.args.dx) (read_fits c.args.dy c.ranges.dy) (read_fits c.args.dx c.ranges.dx) (omega (arith, tests)) (omega (arith, tests))))) at c.if-dx-dy-gt0.true in
-    found 2 c (omega (arith, tests, add_value (read c.args.dx) (read c.args.dy)))
+    read-octant 2 c.args.dx c.args.dy c.ranges.dx c.ranges.dy (omega (arith, tests, add_value (read c.args.dx) (read c.args.dy)))
 
 pub returns-else-dx-dy-gt0 : goal.returns-else-dx-dy-gt0
 returns-else-dx-dy-gt0 c = let h = rw (to_z-of_z w32 ((read c.args.dx) +ℤ (read c.args.dy)) (rw (+ℤ_comm (read c.args.dx) (read c.args.dy)) (sum_fits (read c.args.dy) (read c.args.dx) (read_fits c.args.dy c.ranges.dy) (read_fits c.args.dx c.ranges.dx) (omega (arith, tests)) (omega (arith, tests))))) at c.if-dx-dy-gt0.false in
-    found 3 c (omega (arith, tests, add_value (read c.args.dx) (read c.args.dy)))
+    read-octant 3 c.args.dx c.args.dy c.ranges.dx c.ranges.dy (omega (arith, tests, add_value (read c.args.dx) (read c.args.dy)))
 
 pub returns-then-dy-gt0 : goal.returns-then-dy-gt0
-returns-then-dy-gt0 c = found 2 c (omega (arith, tests))
+returns-then-dy-gt0 c = read-octant 2 c.args.dx c.args.dy c.ranges.dx c.ranges.dy (omega (arith, tests))
 
 pub returns-then-dy-lt0 : goal.returns-then-dy-lt0
-returns-then-dy-lt0 c = found 6 c (omega (arith, tests))
+returns-then-dy-lt0 c = read-octant 6 c.args.dx c.args.dy c.ranges.dx c.ranges.dy (omega (arith, tests))
 
 pub returns-else-dy-lt0 : goal.returns-else-dy-lt0
 returns-else-dy-lt0 c = read_none c.args.dx c.args.dy c.ranges.dx c.ranges.dy (omega (arith, tests)) (omega (arith, tests))

@@ -19,7 +19,6 @@ returns-in-Error c = let d = c.args.p.deck in
 
 pub returns-in-Pin : goal.returns-in-Pin
 returns-in-Pin c = let d = c.args.p.deck in
-    let k = c.in-Pin.known-told.given in
     line-number d _ c.next_number-n.ensures
-    (line_pin d _ _ _ _ _ (record { sfits = k.0.1 }) (record { sfits = k.1.0.1 }) (sym c.parse.ensures ∙ c.in-Pin.is)
+    (line_pin d _ _ _ _ _ (search rules) (search rules) (sym c.parse.ensures ∙ c.in-Pin.is)
     c.add_pin.ensures)

@@ -18,14 +18,12 @@ returns-in-One c = same_line c.in-One.is
 
 pub returns-in-Two : goal.returns-in-Two
 unfolding of_numbers
-returns-in-Two c = let k = c.in-Two.known-told2.given in
-    read_two (λ (x y : ℤ). Pin x y 0) _ _ (record { sfits = k.0.1 }) (record { sfits = k.1.0.1 }) ∙ same_line c.in-Two.is
+returns-in-Two c = read_two (λ (x y : ℤ). Pin x y 0) _ _ (search rules) (search rules) ∙ same_line c.in-Two.is
 
 pub returns-in-Three : goal.returns-in-Three
 unfolding of_numbers
-returns-in-Three c = let k = c.in-Three.known-told3.given in
-    c.with_kind.ensures
-    ∙ read-three with_kind _ _ _ (record { sfits = k.0.1 }) (record { sfits = k.1.0.1 }) (record { sfits = k.1.1.0.1 })
+returns-in-Three c = c.with_kind.ensures
+    ∙ read-three with_kind _ _ _ (search rules) (search rules) (search rules)
     ∙ same_line c.in-Three.is
 
 pub returns-in-Four : goal.returns-in-Four

@@ -12,7 +12,6 @@ returns-in-Nothing c = pasted_same (sym (ap column_text c.in-Nothing.is)) c.put_
 
 pub returns-in-Candidate : goal.returns-in-Candidate
 unfolding column_text
-returns-in-Candidate c = let k = c.in-Candidate.known-told.given in
-    pasted_same (sym (ap column_text c.in-Candidate.is))
-    (pasted_same (read-three candidate_text _ _ _ (record { sfits = k.0.1 }) (record { sfits = k.1.0.1 }) (record { sfits = k.1.1.0.1 }))
+returns-in-Candidate c = pasted_same (sym (ap column_text c.in-Candidate.is))
+    (pasted_same (read-three candidate_text _ _ _ (search rules) (search rules) (search rules))
     c.candidate_line.ensures)

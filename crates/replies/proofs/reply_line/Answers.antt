@@ -26,9 +26,8 @@ returns-in-Finished c = front-put 128 _ _ _ _ c.if-out-lt-LINE_ROOM.false (paste
 pub returns-in-Tap : goal.returns-in-Tap
 unfolding reply_text
 returns-in-Tap c = let v = c.in-Tap.reply2.given.0 in
-    let k = c.in-Tap.known-told2.given in
     front-put 128 _ _ _ _ c.if-out-lt-LINE_ROOM.false (pasted_same (sym (ap reply_text c.in-Tap.is))
-    (pasted_same (read_two (λ (x y : ℤ). fall_text x y v.1.1.0) v.0 v.1.0 (record { sfits = k.0.1 }) (record { sfits = k.1.0.1 }))
+    (pasted_same (read_two (λ (x y : ℤ). fall_text x y v.1.1.0) v.0 v.1.0 (search rules) (search rules))
     c.fall_line.ensures))
 
 pub returns-in-Rounds : goal.returns-in-Rounds

@@ -18,9 +18,8 @@ pub returns-in-Counts : goal.returns-in-Counts
 returns-in-Counts c = ap parts_of_answer (sym c.in-Counts.is)
 
 pub returns-in-Edge : goal.returns-in-Edge
-returns-in-Edge c = let f = c.in-Edge.known-told4.given in
-    read_place _ _ _ _ (record { sfits = f.0.1 }) (record { sfits = f.1.0.1 })
-    (read_two (λ (u v : ℤ). u ∷ v ∷ []) _ _ (record { sfits = f.1.1.0.1 }) (record { sfits = f.1.1.1.0.1 }))
+returns-in-Edge c = read_place _ _ _ _ (search rules) (search rules)
+    (read_two (λ (u v : ℤ). u ∷ v ∷ []) _ _ (search rules) (search rules))
     ∙ ap parts_of_answer (sym c.in-Edge.is)
 
 pub returns-in-NoEdge : goal.returns-in-NoEdge

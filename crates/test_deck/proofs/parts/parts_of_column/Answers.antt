@@ -12,7 +12,6 @@ pub returns-in-Nothing : goal.returns-in-Nothing
 returns-in-Nothing c = c.one_number.ensures ∙ ap parts_of_column (sym c.in-Nothing.is)
 
 pub returns-in-Candidate : goal.returns-in-Candidate
-returns-in-Candidate c = let f = c.in-Candidate.known-told.given in
-    read_place _ _ _ _ (record { sfits = f.0.1 }) (record { sfits = f.1.0.1 })
-    (read_one (λ (s : ℤ). s ∷ pos 0 ∷ []) (record { sfits = f.1.1.0.1 }))
+returns-in-Candidate c = read_place _ _ _ _ (search rules) (search rules)
+    (read_one (λ (s : ℤ). s ∷ pos 0 ∷ []) (search rules))
     ∙ ap parts_of_column (sym c.in-Candidate.is)

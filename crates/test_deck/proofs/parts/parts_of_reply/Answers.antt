@@ -15,8 +15,7 @@ pub returns-in-Finished : goal.returns-in-Finished
 returns-in-Finished c = c.one_number-in-Finished.ensures ∙ ap parts_of_reply (sym c.in-Finished.is)
 
 pub returns-in-Tap : goal.returns-in-Tap
-returns-in-Tap c = let f = c.in-Tap.known-told2.given in
-    read_place _ _ _ _ (record { sfits = f.0.1 }) (record { sfits = f.1.0.1 }) refl
+returns-in-Tap c = read_place _ _ _ _ (search rules) (search rules) refl
     ∙ ap parts_of_reply (sym c.in-Tap.is)
 
 pub returns-in-Rounds : goal.returns-in-Rounds
