@@ -15,6 +15,6 @@ slice_bounds-join_lines-end c = (listing-within _ _ _ c.list-n.ensures).1
 
 pub returns : goal.returns
 returns c = let w = listing-within _ _ _ c.list-n.ensures in
-    let h : length c.list-n.new.1.0 ≡ 8704 = search rules in
+    let h : length c.list-n.new.out ≡ 8704 = search rules in
     plays (stays c.args.d _) _ _ _ _ _ _ (listing_room_lem _ _ h w.0 w.1) c.requires refl
     (ap joined_lines (listing-text _ _ _ c.list-n.ensures)) c.join_lines.ensures

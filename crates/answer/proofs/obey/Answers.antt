@@ -7,7 +7,7 @@ use borrow.Author.Rules.{rules}
 use Rattle.answer.proofs.obey.Goals as goal
 
 pub read-requires : goal.read-requires
-read-requires c = (sym c.requires.c_value ∙ c.in-Read.is, c.requires.answer_room_in_bounds)
+read-requires c = record { line_value = sym c.requires.c_value ∙ c.in-Read.is; answer_room_in_bounds = c.requires.answer_room_in_bounds }
 
 pub returns-in-Blank : goal.returns-in-Blank
 unfolding line_of

@@ -30,7 +30,7 @@ returns-then-not-near c = far _ _ _ (sym (c.is_pitch.ensures ∙ read_one is_pit
 pub entry-requires : goal.entry-requires
 entry-requires c = let both = and_parts (in_table (x-pitches (point c.args.x c.args.y) (point c.args.u c.args.v) c.args.pitch)) (in_table (y-pitches (point c.args.x c.args.y) (point c.args.u c.args.v) c.args.pitch))
     (of_true (sym (ap₂ (λ p q. p && q) (c.is_in_table.ensures ∙ ap in_table (read_is (record { sfits = c.pitches-dx.type_inv }) (c.pitches-dx.ensures ∙ read-pitches _ _ _ c.ranges.x c.ranges.u c.ranges.pitch))) (c.is_in_table-2.ensures ∙ ap in_table (read_is (record { sfits = c.pitches-dy.type_inv }) (c.pitches-dy.ensures ∙ read-pitches _ _ _ c.ranges.y c.ranges.v c.ranges.pitch)))) ∙ not-false _ c.if-not-near.false)) in
-    (subst (λ (q : ℤ). T (in_table q)) (sym (read_is (record { sfits = c.pitches-dx.type_inv }) (c.pitches-dx.ensures ∙ read-pitches _ _ _ c.ranges.x c.ranges.u c.ranges.pitch))) both.0, subst (λ (q : ℤ). T (in_table q)) (sym (read_is (record { sfits = c.pitches-dy.type_inv }) (c.pitches-dy.ensures ∙ read-pitches _ _ _ c.ranges.y c.ranges.v c.ranges.pitch))) both.1)
+    record { t = subst (λ (q : ℤ). T (in_table q)) (sym (read_is (record { sfits = c.pitches-dx.type_inv }) (c.pitches-dx.ensures ∙ read-pitches _ _ _ c.ranges.x c.ranges.u c.ranges.pitch))) both.0; t_2 = subst (λ (q : ℤ). T (in_table q)) (sym (read_is (record { sfits = c.pitches-dy.type_inv }) (c.pitches-dy.ensures ∙ read-pitches _ _ _ c.ranges.y c.ranges.v c.ranges.pitch))) both.1 }
 
 pub returns : goal.returns
 returns c = ap indication.Arrow (c.entry.ensures ∙ ap₂ entry (read_is (record { sfits = c.pitches-dx.type_inv }) (c.pitches-dx.ensures ∙ read-pitches _ _ _ c.ranges.x c.ranges.u c.ranges.pitch)) (read_is (record { sfits = c.pitches-dy.type_inv }) (c.pitches-dy.ensures ∙ read-pitches _ _ _ c.ranges.y c.ranges.v c.ranges.pitch)))

@@ -18,8 +18,8 @@ pub separate-requires : goal.separate-requires
 separate-requires c = refl
 
 pub loop-i-init : goal.loop-i-init
-loop-i-init c = pass_none c.requires c.clear_diagonal.auto.1.0
-    (labels_none c.separate.auto.0 c.separate.ensures) c.clear_diagonal.ensures
+loop-i-init c = pass_none c.requires c.clear_diagonal.auto.table
+    (labels_none c.separate.auto.labels c.separate.ensures) c.clear_diagonal.ensures
 
 pub overflow_cast-weight : goal.overflow_cast-weight
 overflow_cast-weight c = omega (arith, next-short c.loop-i.invariant c.loop-i-test.true)
@@ -27,7 +27,7 @@ overflow_cast-weight c = omega (arith, next-short c.loop-i.invariant c.loop-i-te
 pub loop-i-preserved-then-a-b : goal.loop-i-preserved-then-a-b
 loop-i-preserved-then-a-b c = pass_merge c.loop-i.invariant c.loop-i-test.true _ refl c.low-lo.ensures c.high-hi.ensures
     c.if-a-b.true
-    c.weight.ensures c.join.auto.1.1.1.1.1.0 c.join.ensures c.relabel.auto.0 c.relabel.ensures
+    c.weight.ensures c.join.auto.table c.join.ensures c.relabel.auto.labels c.relabel.ensures
 
 pub loop-i-preserved : goal.loop-i-preserved
 loop-i-preserved c = pass_skip c.loop-i.invariant c.loop-i-test.true _ refl c.low-lo.ensures c.high-hi.ensures c.if-a-b.false

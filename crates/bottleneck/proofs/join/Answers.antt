@@ -12,7 +12,7 @@ pub fill_row-requires : goal.fill_row-requires
 fill_row-requires c = (omega arith, omega arith)
 
 pub loop-i-preserved-then-c-a : goal.loop-i-preserved-then-c-a
-loop-i-preserved-then-c-a c = rows-first c.loop-i.invariant (omega arith) (omega arith) c.if-c-a.true c.fill_row.auto.1.1.1.1.1.0
+loop-i-preserved-then-c-a c = rows-first c.loop-i.invariant (omega arith) (omega arith) c.if-c-a.true c.fill_row.auto.table
     c.fill_row.ensures
 
 pub fill_row-requires-then-c-b : goal.fill_row-requires-then-c-b
@@ -20,7 +20,7 @@ fill_row-requires-then-c-b c = (omega arith, omega arith)
 
 pub loop-i-preserved-then-c-b : goal.loop-i-preserved-then-c-b
 loop-i-preserved-then-c-b c = rows-second c.loop-i.invariant (omega arith) (omega arith) c.if-c-a.false c.if-c-b.true
-    c.fill_row-then-c-b.auto.1.1.1.1.1.0 c.fill_row-then-c-b.ensures
+    c.fill_row-then-c-b.auto.table c.fill_row-then-c-b.ensures
 
 pub loop-i-preserved : goal.loop-i-preserved
 loop-i-preserved c = rows_skip c.loop-i.invariant (omega arith) (omega arith) c.if-c-a.false c.if-c-b.false

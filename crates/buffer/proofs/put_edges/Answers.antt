@@ -11,7 +11,7 @@ loop-i-init c = each-first_none ends_bytes 2 _ _ _ _
 
 pub loop-i-preserved : goal.loop-i-preserved
 loop-i-preserved c = each-first_more ends_bytes 2 _ _ _ _ c.loop-i.invariant c.loop-i-test.true c.requires.0 (omega arith)
-    c.put_edge-next.ensures (omega (arith, c.put_edge-next.ensures.next)) c.put_edge-next.auto.1.0
+    c.put_edge-next.ensures (omega (arith, c.put_edge-next.ensures.next)) c.put_edge-next.auto.out
 
 pub shape_of-out : goal.shape_of-out
 shape_of-out c = c.loop-i.invariant.same

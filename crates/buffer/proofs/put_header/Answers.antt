@@ -12,5 +12,5 @@ unfolding header
 returns c = let entry = (c) in
     let first = ap (λ (z : ℕ). pairs_from z entry.args.sizes.now) c.header_size.ensures in
     pasted_then c.put_bytes-count.ensures (omega (arith, entry.pre.0))
-    (pasted_then c.put2-first.ensures (omega (arith, entry.pre.0, c.put_bytes-count.auto.0))
+    (pasted_then c.put2-first.ensures (omega (arith, entry.pre.0, c.put_bytes-count.auto.out))
     (pasted_same first c.put_pairs.ensures))

@@ -19,7 +19,7 @@ overflow_add-offset c = omega (arith, next-within _ _ _ _ c.loop-k.invariant c.l
 pub loop-k-preserved : goal.loop-k-preserved
 loop-k-preserved c = let put = c.loop-k.invariant.put in
     pair_put _ _ _ _ c.loop-k.invariant c.loop-k-test.true (omega (arith, put.most, put.same, c.requires.sizes_in_bounds))
-    c.put_pair-next.ensures c.put_pair-next.auto.1.1.0
+    c.put_pair-next.ensures c.put_pair-next.auto.out
 
 pub shape_of-out : goal.shape_of-out
 shape_of-out c = c.loop-k.invariant.put.same

@@ -11,7 +11,7 @@ loop-i-init c = each-first_none code_bytes 4 _ _ _ _
 
 pub loop-i-preserved : goal.loop-i-preserved
 loop-i-preserved c = each-first_more code_bytes 4 _ _ _ _ c.loop-i.invariant c.loop-i-test.true c.requires.0 (omega arith)
-    c.put_point-next.ensures (omega (arith, c.put_point-next.ensures.next)) c.put_point-next.auto.1.0
+    c.put_point-next.ensures (omega (arith, c.put_point-next.ensures.next)) c.put_point-next.auto.out
 
 pub shape_of-out : goal.shape_of-out
 shape_of-out c = c.loop-i.invariant.same

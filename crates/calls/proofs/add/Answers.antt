@@ -8,12 +8,15 @@ use borrow.Author.Rules.{rules}
 use Rattle.calls.proofs.add.Goals as goal
 
 pub add_at-requires : goal.add_at-requires
-add_at-requires c = let there = read-located _ _ _ c.ranges.x c.ranges.y c.locate.ensures ∙ c.in-At.is in
-    (c.requires.in_order_lem, ((located_is _ _ there).1, c.requires.valid_contents))
+add_at-requires c = let there = read-located _ _ _ c.ranges.x c.ranges.y c.locate.ensures ∙ c.in
+    record { in_order = (-At.is in
+    (c.requires.in_order, ((located_is _ _ there).1, c.requires.valid_contents))).0; t = (-At.is in
+    (c.requires.in_order, ((located_is _ _ there).1, c.requires.valid_contents))).1.0; valid_contents = (-At.is in
+    (c.requires.in_order, ((located_is _ _ there).1, c.requires.valid_contents))).1.1 }
 
 pub returns-in-OutOfRange : goal.returns-in-OutOfRange
 returns-in-OutOfRange c = let out = read-located _ _ _ c.ranges.x c.ranges.y c.locate.ensures ∙ c.in-OutOfRange.is in
-    refused_is _ c.requires.in_order_lem _ 7 (add-out _ _ _ (out-located _ out)) _ c.refuse.ensures
+    refused_is _ c.requires.in_order _ 7 (add-out _ _ _ (out-located _ out)) _ c.refuse.ensures
 
 pub returns-in-At : goal.returns-in-At
 returns-in-At c = let there = read-located _ _ _ c.ranges.x c.ranges.y c.locate.ensures ∙ c.in-At.is in

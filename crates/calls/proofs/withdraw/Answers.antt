@@ -7,11 +7,11 @@ use borrow.Author.Rules.{rules}
 use Rattle.calls.proofs.withdraw.Goals as goal
 
 pub withdraw_at-requires : goal.withdraw_at-requires
-withdraw_at-requires c = (c.requires.in_order_lem, (located_is _ _ (read-located _ _ _ c.ranges.x c.ranges.y c.locate.ensures ∙ c.in-At.is)).1)
+withdraw_at-requires c = record { in_order = c.requires.in_order; t = (located_is _ _ (read-located _ _ _ c.ranges.x c.ranges.y c.locate.ensures ∙ c.in-At.is)).1 }
 
 pub returns-in-OutOfRange : goal.returns-in-OutOfRange
 returns-in-OutOfRange c = let out = read-located _ _ _ c.ranges.x c.ranges.y c.locate.ensures ∙ c.in-OutOfRange.is in
-    refused_is _ c.requires.in_order_lem _ 9 (withdraw_none _ _ (none_outside _ _ c.requires.valid_contents (out-located _ out))) _ c.refuse.ensures
+    refused_is _ c.requires.in_order _ 9 (withdraw_none _ _ (none_outside _ _ c.requires.valid_contents (out-located _ out))) _ c.refuse.ensures
 
 pub returns-in-At : goal.returns-in-At
 returns-in-At c = let there = read-located _ _ _ c.ranges.x c.ranges.y c.locate.ensures ∙ c.in-At.is in

@@ -20,16 +20,18 @@ zero-fits : SFits w32 (pos 0)
 zero-fits = record { sfits = omega arith }
 
 pub greatest-requires : goal.greatest-requires
-greatest-requires c = let there = read-located _ _ _ c.ranges.x zero-fits c.locate.ensures ∙ c.in-At.is in
-    (c.requires.in_order_lem, located-small _ there c.x_of.ensures)
+greatest-requires c = let there = read-located _ _ _ c.ranges.x zero-fits c.locate.ensures ∙ c.in
+    record { in_order = (-At.is in
+    (c.requires.in_order, located-small _ there c.x_of.ensures)).0; x_le_stored_limit = (-At.is in
+    (c.requires.in_order, located-small _ there c.x_of.ensures)).1 }
 
 pub returns-in-OutOfRange : goal.returns-in-OutOfRange
 returns-in-OutOfRange c = let out = read-located _ _ _ c.ranges.x zero-fits c.locate.ensures ∙ c.in-OutOfRange.is in
-    out-column _ _ (arranged-placed _ c.requires.in_order_lem.arranged) _ (out-located _ out)
+    out-column _ _ (arranged-placed _ c.requires.in_order.arranged) _ (out-located _ out)
 
 pub returns-in-At : goal.returns-in-At
 returns-in-At c = let there = read-located _ _ _ c.ranges.x zero-fits c.locate.ensures ∙ c.in-At.is in
     let x : coordinate c.x_of.result ≡ c.args.x = ap coordinate c.x_of.ensures ∙ ap (λ (p : Point). p.x) (located_is _ _ there).0 in
     c.choice_of.ensures
-    ∙ column_found _ _ (arranged-placed _ c.requires.in_order_lem.arranged) _ c.greatest.ensures.value
+    ∙ column_found _ _ (arranged-placed _ c.requires.in_order.arranged) _ c.greatest.ensures.value
     ∙ ap (λ (z : ℤ). choice_of (column_answer c.args.tail (points (work.state_of c.args.w)) z)) x

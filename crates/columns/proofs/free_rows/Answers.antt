@@ -15,7 +15,7 @@ loop-row-preserved c = let inv = c.loop-row.invariant in
     let most = inv.most in
     let same = inv.same in
     each-first_more _ _ _ _ _ _ inv c.loop-row-test.true c.requires.1 (omega (arith, c.requires.2)) c.put_free-kept.ensures.pasted
-    c.put_free-kept.ensures.upper_bound c.put_free-kept.auto.1.1.1.1.0
+    c.put_free-kept.ensures.upper_bound c.put_free-kept.auto.free
 
 pub returns : goal.returns
 returns c = let a = c.args in

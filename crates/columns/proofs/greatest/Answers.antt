@@ -10,7 +10,7 @@ use borrow.Author.Rules.{rules}
 use Rattle.columns.proofs.greatest.Goals as goal
 
 pub lines-count-requires : goal.lines-count-requires
-lines-count-requires c = let few = c.requires.in_order_lem.few in
+lines-count-requires c = let few = c.requires.in_order.few in
     (omega (arith, (search rules)), omega arith)
 
 pub free_rows-kept-requires : goal.free_rows-kept-requires

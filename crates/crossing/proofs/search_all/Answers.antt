@@ -14,7 +14,7 @@ rows c = lines-written (start (columns-stand c)).args.ys.now (start (columns-sta
 
 pub prepare-requires : goal.prepare-requires
 prepare-requires c = let p = c.requires in
-    ((p.0, p.1, lines-rise (rows c) (omega (arith, p.0.few))), (c.blank-table.ensures, c.blank-gaps.ensures, omega (arith, p.0.few)))
+    record { tree_given = (p.0, p.1, lines-rise (rows c) (omega (arith, p.0.few))); table_len = (c.blank-table.ensures, c.blank-gaps.ensures, omega (arith, p.0.few)) }
 
 pub all_columns-requires : goal.all_columns-requires
 all_columns-requires c = let p = c.prepare.ensures in

@@ -42,7 +42,7 @@ decode_points-found-requires c = let b = (c.args.file.now) in
     let h = (passed c.is_headed.ensures c.if-not-is_headed.false) in
     let l = (passed c.is_laid_out.ensures c.if-not-is_laid_out.false) in
     let w = (passed c.is_whole.ensures c.if-not-is_whole.false) in
-    (sections_of_lem b h l w, few-pins b h l w _ c.size.ensures.0 c.if-size-gt-MAX_PINS.false)
+    record { sections = sections_of_lem b h l w; few_pins = few-pins b h l w _ c.size.ensures.0 c.if-size-gt-MAX_PINS.false }
 
 pub returns-then-not-found : goal.returns-then-not-found
 returns-then-not-found c = let other = failed c.decode_points-found.ensures.ok c.if-not-found.true in
@@ -56,7 +56,7 @@ working_of_file-requires c = let b = (c.args.file.now) in
     let w = (passed c.is_whole.ensures c.if-not-is_whole.false) in
     let few = few-pins b h l w _ c.size.ensures.0 c.if-size-gt-MAX_PINS.false in
     let found = c.decode_points-found.ensures in
-    (sections_of_lem b h l w, (few, (found, of_true (passed found.ok c.if-not-found.false))))
+    record { sections = sections_of_lem b h l w; few_pins = few; decodes = found; t = of_true (passed found.ok c.if-not-found.false) }
 
 pub returns : goal.returns
 returns c = let points = passed c.decode_points-found.ensures.ok c.if-not-found.false in

@@ -15,12 +15,12 @@ pub separate-requires : goal.separate-requires
 separate-requires c = refl
 
 pub loop-i-init : goal.loop-i-init
-loop-i-init c = pass_none (labels_none c.separate.auto.0 c.separate.ensures)
+loop-i-init c = pass_none (labels_none c.separate.auto.labels c.separate.ensures)
 
 pub loop-i-preserved-then-a-b : goal.loop-i-preserved-then-a-b
 loop-i-preserved-then-a-b c = let pre = c.requires in
     pass_keep c.loop-i.invariant pre.0 (omega arith) _ refl c.low-lo.ensures c.high-hi.ensures pre.1 c.if-a-b.true
-    c.relabel.auto.0 c.relabel.ensures
+    c.relabel.auto.labels c.relabel.ensures
 
 pub loop-i-preserved : goal.loop-i-preserved
 loop-i-preserved c = pass_skip c.loop-i.invariant c.requires.0 (omega arith) _ refl c.low-lo.ensures

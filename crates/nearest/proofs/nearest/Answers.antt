@@ -10,6 +10,7 @@ use Rattle.keys.specs.Keys.{key, least_key, octant_keys}
 use Rattle.arrays.specs.Tab.{tab}
 use Rattle.nearest.proofs.OctantKeys.{point_in-octant, point_in_none}
 use Rattle.nearest.proofs.nearest.Goals as goal
+use Rattle.nearest.proofs.nearest.Goals.{then-o-lt-OCTANTS, else-o-lt-OCTANTS}
 
 pub loop-j-init : goal.loop-j-init
 unfolding tab least_key
@@ -20,15 +21,17 @@ loop-j-preserved c = let a = c.args in
     let h = held a.xs.now a.ys.now in
     let o = c.octant_between-o in (
       search rules,
-      ⊎_elim
-          (λ w. point_in-octant h (point_at a.x a.y) a.n c.loop-j.j o.result o.ensures.0 c.loop-j.best c.if-o-lt-OCTANTS.best
-          c.loop-j.invariant.1
-          c.key-k.result w.1.result (search rules)
-          (c.key-k.ensures ∙ ap (λ (d : ℕ). key d c.loop-j.j a.n) c.distance.ensures.value) w.1.ensures w.2)
-          (λ w. point_in_none h (point_at a.x a.y) a.n c.loop-j.j o.result o.ensures.0 c.loop-j.best c.if-o-lt-OCTANTS.best
-          c.loop-j.invariant.1
-          (search rules) w.1)
-          c.if-o-lt-OCTANTS.branch,
+      elim c.if-o-lt-OCTANTS.branch [
+        then-o-lt-OCTANTS w ↦
+            point_in-octant h (point_at a.x a.y) a.n c.loop-j.j o.result o.ensures.value c.loop-j.best c.if-o-lt-OCTANTS.best
+            c.loop-j.invariant.1
+            c.key-k.result w.smaller.result (search rules)
+            (c.key-k.ensures ∙ ap (λ (d : ℕ). key d c.loop-j.j a.n) c.distance.ensures.value) w.smaller.ensures w.best-is
+      | else-o-lt-OCTANTS w ↦
+            point_in_none h (point_at a.x a.y) a.n c.loop-j.j o.result o.ensures.value c.loop-j.best c.if-o-lt-OCTANTS.best
+            c.loop-j.invariant.1
+            (search rules) w.best-is
+      ],
     )
 
 pub returns : goal.returns

@@ -5,7 +5,7 @@ use Rattle.packing.proofs.Steps.{line_passed, line_error, line_pin, line-number}
 use Rattle.packing.proofs.next_line.Goals as goal
 
 pub add_pin-requires : goal.add_pin-requires
-add_pin-requires c = (c.requires.in_order, c.requires.valid)
+add_pin-requires c = record { in_order = c.requires.in_order; valid_contents = c.requires.valid }
 
 pub returns-in-Passed : goal.returns-in-Passed
 returns-in-Passed c = let d = c.args.p.deck in

@@ -5,7 +5,7 @@ use borrow.Author.Rules.{rules}
 use Rattle.plain_file.proofs.put_parts.Goals as goal
 
 pub put_file_header-first-requires : goal.put_file_header-first-requires
-put_file_header-first-requires c = (header-fits c.requires c.args.bare, (c.requires.few, omega arith, omega arith))
+put_file_header-first-requires c = record { bare_in_bounds = header-fits c.requires c.args.bare; n_le_max_pins = (c.requires.few, omega arith, omega arith) }
 
 pub put_points-second-requires : goal.put_points-second-requires
 put_points-second-requires c = let entry = (c) in
@@ -15,7 +15,7 @@ pub put_kinds-requires : goal.put_kinds-requires
 put_kinds-requires c = let at-header = (c) in
     let entry = (let at-header-arg = at-header.before in at-header-arg.before.before.before.before) in
     let fit = kinds_fit entry.pre entry.args.bare at-header.put-file-header.ensures c.put_points-second.ensures in
-    (entry.pre.in_kinds, omega (arith, fit))
+    record { n_in_bounds = entry.pre.in_kinds; kinds_in_bounds = omega (arith, fit) }
 
 pub returns : goal.returns
 returns c = let at-header = (c) in

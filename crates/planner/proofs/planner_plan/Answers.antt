@@ -17,7 +17,7 @@ run_to_end-e-requires c = let taken = read_taken (read_file _) (read_possible _)
 
 pub write_working-requires : goal.write_working-requires
 write_working-requires c = let taken = read_taken (read_file _) (read_possible _) c.read_working-c.ensures c.refusal_number-refused.ensures c.if-refused-ne0.false in
-    changed_valid taken.2 c.run_to_end-e.ensures
+    record { in_order = (changed_valid taken.2 c.run_to_end-e.ensures).0; valid_contents = (changed_valid taken.2 c.run_to_end-e.ensures).1 }
 
 pub returns : goal.returns
 unfolding contents_after

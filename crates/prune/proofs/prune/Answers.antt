@@ -24,7 +24,7 @@ bounds-steiner-j c = let l = c.loop-j in
 
 pub without_steiner-requires : goal.without_steiner-requires
 without_steiner-requires c = let l = c.loop-j in
-    (l.invariant.in_order.arranged, sweeping_code _ _ _ l.invariant _ c.loop-j-test.true refl)
+    record { arranged = l.invariant.in_order.arranged; t = sweeping_code _ _ _ l.invariant _ c.loop-j-test.true refl }
 
 pub arrange-w-requires-in-loop-j : goal.arrange-w-requires-in-loop-j
 arrange-w-requires-in-loop-j c = c.without_steiner.ensures.0

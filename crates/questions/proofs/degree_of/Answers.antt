@@ -9,7 +9,7 @@ use borrow.Author.Rules.{rules}
 use Rattle.questions.proofs.degree_of.Goals as goal
 
 pub has-requires : goal.has-requires
-has-requires c = omega (arith, c.requires.in_order_lem.few, (search rules))
+has-requires c = omega (arith, c.requires.in_order.few, (search rules))
 
 pub returns-then-not-has : goal.returns-then-not-has
 returns-then-not-has c = let given = (c).requires in
@@ -21,7 +21,7 @@ index_of-requires c = let entry = (c) in
 
 pub degree_of-requires : goal.degree_of-requires
 degree_of-requires c = let entry = (c) in
-    omega (arith, entry.pre.0.keys_few, (search rules))
+    record { in_order = (omega (arith, entry.pre.0.keys_few, (search rules))).0; t = (omega (arith, entry.pre.0.keys_few, (search rules))).1 }
 
 pub returns : goal.returns
 returns c = let held = of_true (sym c.has.ensures ∙ not-false _ c.if-not-has.false) in

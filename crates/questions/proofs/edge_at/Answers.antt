@@ -5,10 +5,10 @@ use borrow.Author.Rules.{rules}
 use Rattle.questions.proofs.edge_at.Goals as goal
 
 pub returns-then-d-i : goal.returns-then-d-i
-returns-then-d-i c = no_edge _ _ c.requires.in_order_lem _ c.if-d-i.true
+returns-then-d-i c = no_edge _ _ c.requires.in_order _ c.if-d-i.true
 
 pub edge_at-requires : goal.edge_at-requires
-edge_at-requires c = (c.requires.in_order_lem, (c.edge_numbers-ends.ensures, (c.if-d-i.false, c.requires.valid_contents.tailed)))
+edge_at-requires c = record { in_order = c.requires.in_order; valid_contents = (c.edge_numbers-ends.ensures, (c.if-d-i.false, c.requires.valid_contents.tailed)) }
 
 pub returns : goal.returns
 returns c = c.answer_of.ensures ∙ edge-there _ _ _ _ c.edge_at.ensures

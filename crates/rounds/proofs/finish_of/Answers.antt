@@ -9,10 +9,10 @@ use Rattle.rounds.proofs.Run.{Running, running_start, running_less, running_fits
 use Rattle.rounds.proofs.finish_of.Goals as goal
 
 pub round_of-last-requires : goal.round_of-last-requires
-round_of-last-requires c = (c.requires.in_order_lem, (c.requires.valid, c.requires.tail_le_longest_tail))
+round_of-last-requires c = record { in_order = c.requires.in_order; valid = c.requires.valid; tail_le_longest_tail = c.requires.tail_le_longest_tail }
 
 pub loop-more-init : goal.loop-more-init
-loop-more-init c = (running_start _ _ _ c.requires.in_order_lem c.requires.valid c.requires.tail_le_longest_tail c.round_of-last.ensures, refl)
+loop-more-init c = (running_start _ _ _ c.requires.in_order c.requires.valid c.requires.tail_le_longest_tail c.round_of-last.ensures, refl)
 
 pub overflow_add-count : goal.overflow_add-count
 overflow_add-count c = let h = running_fits _ _ _ _ _ c.loop-more.invariant.0 (sym c.loop-more.invariant.1 ∙ c.loop-more-test.true) in
@@ -20,7 +20,7 @@ overflow_add-count c = let h = running_fits _ _ _ _ _ c.loop-more.invariant.0 (s
 
 pub round_of-last-requires-in-loop-more : goal.round_of-last-requires-in-loop-more
 round_of-last-requires-in-loop-more c = let h = running_next _ _ _ _ _ c.loop-more.invariant.0 (sym c.loop-more.invariant.1 ∙ c.loop-more-test.true) in
-    (h.0, (h.1, c.requires.tail_le_longest_tail))
+    record { in_order = h.0; valid = h.1; tail_le_longest_tail = c.requires.tail_le_longest_tail }
 
 pub loop-more-smaller : goal.loop-more-smaller
 loop-more-smaller c = omega (arith, running_less _ _ _ _ _ c.loop-more.invariant.0 (sym c.loop-more.invariant.1 ∙ c.loop-more-test.true))

@@ -31,7 +31,7 @@ overflow_sub-fall c = let entry = (c) in
 
 pub returns-in-Nothing : goal.returns-in-Nothing
 returns-in-Nothing c = let e = sym c.best_of.ensures ∙ c.in-Nothing.is in
-    record { in_order = c.requires.in_order_lem; next = next-stays _ _ e; added = added-stays _ _ e; step = step_stays _ _ e }
+    record { in_order = c.requires.in_order; next = next-stays _ _ e; added = added-stays _ _ e; step = step_stays _ _ e }
 
 pub returns-in-At : goal.returns-in-At
 returns-in-At c = let j = joined c in

@@ -12,7 +12,7 @@ loop-i-init c = first_none (tap_text c.args.codes.now) 18 _ _ _ (tap_none c.args
 pub loop-i-preserved : goal.loop-i-preserved
 loop-i-preserved c = first_more (tap_text c.args.codes.now) 18 _ _ _ _ _ _ _ _ _ c.loop-i.invariant c.loop-i-test.true
     (tap_more c.args.codes.now c.loop-i.i (omega (arith, c.requires.n_in_bounds_2, c.loop-i-test.true))) (omega arith)
-    c.tap_line-next.ensures.pasted c.tap_line-next.ensures.upper_bound c.tap_line-next.auto.0
+    c.tap_line-next.ensures.pasted c.tap_line-next.ensures.upper_bound c.tap_line-next.auto.out
 
 pub shape_of-out : goal.shape_of-out
 shape_of-out c = c.loop-i.invariant.same

@@ -11,10 +11,10 @@ loop-i-init c = fill_none _ _ _ _
 
 pub put_item-p-requires : goal.put_item-p-requires
 put_item-p-requires c = let inv = c.loop-i.invariant in
-    (omega (arith, c.requires, inv.room, inv.same), inv.known)
+    record { number_room_in_bounds = omega (arith, c.requires, inv.room, inv.same); used_in_bounds = inv.known }
 
 pub loop-i-preserved : goal.loop-i-preserved
-loop-i-preserved c = fill_more _ _ _ _ _ c.loop-i.invariant c.loop-i-test.true c.requires c.put_item-p.ensures c.put_item-p.auto.0
+loop-i-preserved c = fill_more _ _ _ _ _ c.loop-i.invariant c.loop-i-test.true c.requires c.put_item-p.ensures c.put_item-p.auto.out
 
 pub shape_of-out : goal.shape_of-out
 shape_of-out c = c.loop-i.invariant.same

@@ -13,7 +13,7 @@ loop-i-init c = each-first_none hex_pair 2 _ _ _ _
 
 pub loop-i-preserved : goal.loop-i-preserved
 loop-i-preserved c = each-first_more hex_pair 2 _ _ _ _ c.loop-i.invariant c.loop-i-test.true (omega arith) (omega arith)
-    c.pair-next.ensures.pasted c.pair-next.ensures.upper_bound c.pair-next.auto.0
+    c.pair-next.ensures.pasted c.pair-next.ensures.upper_bound c.pair-next.auto.out
 
 pub shape_of-out : goal.shape_of-out
 shape_of-out c = c.loop-i.invariant.same

@@ -11,7 +11,7 @@ loop-i-init c = each-first_none spread 3 _ _ _ _
 
 pub loop-i-preserved : goal.loop-i-preserved
 loop-i-preserved c = each-first_more spread 3 _ _ _ _ c.loop-i.invariant c.loop-i-test.true c.requires.n_in_bounds (omega arith)
-    c.spread-next.ensures.pasted c.spread-next.ensures.upper_bound c.spread-next.auto.0
+    c.spread-next.ensures.pasted c.spread-next.ensures.upper_bound c.spread-next.auto.out
 
 pub shape_of-out : goal.shape_of-out
 shape_of-out c = c.loop-i.invariant.same

@@ -8,7 +8,7 @@ use Rattle.buffer.proofs.file.put_parts.Goals as goal
 pub put_kinds-requires : goal.put_kinds-requires
 put_kinds-requires c = let entry = (c) in
     let fit = kinds_fit entry.pre.0 entry.args.kinds.now entry.pre.1 c.put_tree-fourth.ensures in
-    (entry.pre.1, omega (arith, fit, c.put_tree-fourth.auto.1.1.1.1.1.1.0))
+    record { n_in_bounds = entry.pre.1; kinds_in_bounds = omega (arith, fit, c.put_tree-fourth.auto.out) }
 
 pub returns : goal.returns
 returns c = let entry = (c) in

@@ -14,7 +14,7 @@ returns-then-size-gt-STEINER_ROOM c = read_as (last_many c.args.b.now c.requires
     c.refuse.ensures
 
 pub points_working-c-requires : goal.points_working-c-requires
-points_working-c-requires c = (c.requires.sections, (c.requires.decodes, (c.requires.t, omega (arith, c.size.ensures.0))))
+points_working-c-requires c = record { sections = c.requires.sections; decodes = c.requires.decodes; t = c.requires.t; b_bound = omega (arith, c.size.ensures.0) }
 
 pub returns-then-not-c : goal.returns-then-not-c
 returns-then-not-c c = let entry = (c) in
@@ -23,7 +23,8 @@ returns-then-not-c c = let entry = (c) in
     invalid) c.refuse-then-not-c.ensures
 
 pub with_kinds-requires : goal.with_kinds-requires
-with_kinds-requires c = let r = (let entry = (c) in let b = entry.args.b.now in let for = c.points_working-c.ensures in let ok = not-false _ c.if-not-c.false in ( entry.pre.0, (found_valid b entry.pre.0 entry.pre.1.1.1 entry.pre.1.0 _ for ok).0, found_state b entry.pre.0 entry.pre.1.1.1 entry.pre.1.0 _ for ok, )) in (r.0, (r.1, r.2))
+with_kinds-requires c = let r = (let entry = (c) in let b = entry.args.b.now in let for = c.points_working-c.ensures in let ok = not-false _ c.if-not-c.false in ( entry.pre.0, (found_valid b entry.pre.0 entry.pre.1.1.1 entry.pre.1.0 _ for ok).0, found_state b entry.pre.0 entry.pre.1.1.1 entry.pre.1.0 _ for ok, )) in
+    record { sections = r.0; in_order = r.1; w_value = r.2 }
 
 pub returns-then-is_plain : goal.returns-then-is_plain
 returns-then-is_plain c = let entry = (c) in
@@ -33,11 +34,20 @@ returns-then-is_plain c = let entry = (c) in
 
 pub has_edges-requires : goal.has_edges-requires
 has_edges-requires c = let entry = (c) in
-    let b = entry.args.b.now in (
+    let b = entry.args.b.now in
+    record { sections = ((
       entry.pre.0,
       found_valid b entry.pre.0 entry.pre.1.1.1 entry.pre.1.0 _ c.points_working-c.ensures
           (not-false _ c.if-not-c.false),
-    )
+    )).0; in_order = ((
+      entry.pre.0,
+      found_valid b entry.pre.0 entry.pre.1.1.1 entry.pre.1.0 _ c.points_working-c.ensures
+          (not-false _ c.if-not-c.false),
+    )).1.0; valid = ((
+      entry.pre.0,
+      found_valid b entry.pre.0 entry.pre.1.1.1 entry.pre.1.0 _ c.points_working-c.ensures
+          (not-false _ c.if-not-c.false),
+    )).1.1 }
 
 pub returns-then-not-has_edges : goal.returns-then-not-has_edges
 returns-then-not-has_edges c = let entry = (c) in
@@ -48,7 +58,8 @@ returns-then-not-has_edges c = let entry = (c) in
     c.refuse-then-not-has_edges.ensures
 
 pub with_kinds-requires-2 : goal.with_kinds-requires-2
-with_kinds-requires-2 c = let r = (let entry = (c) in let b = entry.args.b.now in let for = c.points_working-c.ensures in let ok = not-false _ c.if-not-c.false in ( entry.pre.0, (found_valid b entry.pre.0 entry.pre.1.1.1 entry.pre.1.0 _ for ok).0, found_state b entry.pre.0 entry.pre.1.1.1 entry.pre.1.0 _ for ok, )) in (r.0, (r.1, r.2))
+with_kinds-requires-2 c = let r = (let entry = (c) in let b = entry.args.b.now in let for = c.points_working-c.ensures in let ok = not-false _ c.if-not-c.false in ( entry.pre.0, (found_valid b entry.pre.0 entry.pre.1.1.1 entry.pre.1.0 _ for ok).0, found_state b entry.pre.0 entry.pre.1.1.1 entry.pre.1.0 _ for ok, )) in
+    record { sections = r.0; in_order = r.1; w_value = r.2 }
 
 pub returns : goal.returns
 returns c = let entry = (c) in

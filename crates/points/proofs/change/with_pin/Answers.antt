@@ -4,5 +4,5 @@ use borrow.Author.Rules.{rules}
 use Rattle.points.proofs.change.with_pin.Goals as goal
 
 pub returns : goal.returns
-returns c = with_pin_lem _ c.requires.arranged _ c.requires.t _ _ _ _ c.requires.npins_lt_max_pins c.put-npins.ensures c.put-npins.auto.0 c.out-nsteiner.ensures
-    c.out-nsteiner.auto.0
+returns c = with_pin_lem _ c.requires.arranged _ c.requires.t _ _ _ _ c.requires.npins_lt_max_pins c.put-npins.ensures c.put-npins.auto.a c.out-nsteiner.ensures
+    c.out-nsteiner.auto.a

@@ -4,4 +4,4 @@ use borrow.Author.Rules.{rules}
 use Rattle.points.proofs.change.with_steiner.Goals as goal
 
 pub returns : goal.returns
-returns c = with_steiner_lem _ c.requires.arranged _ c.requires.t _ _ c.requires.nsteiner_bound c.requires.fact c.put-nsteiner.ensures c.put-nsteiner.auto.0
+returns c = with_steiner_lem _ c.requires.arranged _ c.requires.t _ _ c.requires.nsteiner_bound c.requires.fact c.put-nsteiner.ensures c.put-nsteiner.auto.a

@@ -4,4 +4,4 @@ use borrow.Author.Rules.{rules}
 use Rattle.points.proofs.change.without_pin.Goals as goal
 
 pub returns : goal.returns
-returns c = without_pin_lem _ c.requires.arranged _ c.requires.t _ _ c.out-npins.ensures c.out-npins.auto.0
+returns c = without_pin_lem _ c.requires.arranged _ c.requires.t _ _ c.out-npins.ensures c.out-npins.auto.a

@@ -4,4 +4,4 @@ use borrow.Author.Rules.{rules}
 use Rattle.points.proofs.change.without_steiner.Goals as goal
 
 pub returns : goal.returns
-returns c = without-steiner _ c.requires.arranged _ c.requires.t _ _ c.out-nsteiner.ensures c.out-nsteiner.auto.0
+returns c = without-steiner _ c.requires.arranged _ c.requires.t _ _ c.out-nsteiner.ensures c.out-nsteiner.auto.a

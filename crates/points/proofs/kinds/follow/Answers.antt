@@ -29,10 +29,10 @@ pub loop-i-preserved : goal.loop-i-preserved
 loop-i-preserved c = let a = c.args in
     let text = one (kind_of a.pins.now a.kinds.now a.n a.other) in
     let put = pasted_same (ap (λ (z : ℕ). z ∷ []) c.kind_or.ensures) c.put_byte-i.ensures in
-    subst⁻¹ (λ (z : ℕ). PutFirst (each_to text a.next.now) 1 a.m a.out.now c.put_byte-i.new.0 0 c.put_byte-i.result z)
+    subst⁻¹ (λ (z : ℕ). PutFirst (each_to text a.next.now) 1 a.m a.out.now c.put_byte-i.new.out 0 c.put_byte-i.result z)
     c.put_byte-i.ensures.next
     (each-first_more text 1 _ _ _ _ c.loop-i.invariant c.loop-i-test.true c.requires.2
-    (omega (arith, c.loop-i.invariant.same, c.loop-i-test.true, c.requires.3)) put (omega (arith, c.put_byte-i.ensures.next)) c.put_byte-i.auto.0)
+    (omega (arith, c.loop-i.invariant.same, c.loop-i-test.true, c.requires.3)) put (omega (arith, c.put_byte-i.ensures.next)) c.put_byte-i.auto.out)
 
 pub shape_of-out : goal.shape_of-out
 shape_of-out c = c.loop-i.invariant.same

@@ -4,7 +4,7 @@ use Rattle.model.specs.State.{insert, remove, prune}
 use Rattle.prune.proofs.change.insert.Goals as goal
 
 pub with_pin-requires : goal.with_pin-requires
-with_pin-requires c = (c.requires.in_order_lem.arranged, (c.requires.t, c.requires.npins_lt_max_pins))
+with_pin-requires c = record { arranged = c.requires.in_order.arranged; t = c.requires.t; npins_lt_max_pins = c.requires.npins_lt_max_pins }
 
 pub prune-requires : goal.prune-requires
 prune-requires c = c.with_pin.ensures.0

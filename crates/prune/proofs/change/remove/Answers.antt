@@ -4,7 +4,7 @@ use Rattle.model.specs.State.{insert, remove, prune}
 use Rattle.prune.proofs.change.remove.Goals as goal
 
 pub without_pin-requires : goal.without_pin-requires
-without_pin-requires c = (c.requires.in_order_lem.arranged, c.requires.t)
+without_pin-requires c = record { arranged = c.requires.in_order.arranged; t = c.requires.t }
 
 pub prune-requires : goal.prune-requires
 prune-requires c = c.without_pin.ensures.0

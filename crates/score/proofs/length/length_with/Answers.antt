@@ -15,7 +15,7 @@ use Rattle.score.proofs.length.length_with.Goals as goal
 -- What was worked out of the points and the row.
 prepared : (c : tie.After-locate)
     → let a = (start c).args in
-    let last = c.locate.new.1.1.1.1 in
+    let last = c.locate.new.gaps in
     Prepared a.xs.now a.ys.now a.n a.table.now last.0 last.1.0 (a.y ∷ []) 1
 prepared c =
     let at-locate-arg2 = c.before in
@@ -23,7 +23,7 @@ prepared c =
     let at-ys = at-ranks.before.before.before in
     let entry = at-ys.before.before in
     let p = entry.requires in
-    let kept = c.locate.auto.1.1.1.1 in
+    let kept = c.locate.auto.gaps in
     point_prepared p.0 (λ i. (at-ys.before.shared-slice-known.given i).fits) (λ i. (at-ys.shared-slice-known2.given i).fits) p.1.0 (omega arith)
     (kept.0 ∙ p.1.1) (omega (arith, kept.1.0)) c.locate.ensures
 

@@ -9,14 +9,14 @@ use borrow.Author.Rules.{rules}
 use Rattle.sections.proofs.codes.decode_points.Goals as goal
 
 pub decode_section-pins_ok-requires : goal.decode_section-pins_ok-requires
-decode_section-pins_ok-requires c = (pins-section _ c.requires.sections, omega (arith, c.requires.few_pins))
+decode_section-pins_ok-requires c = record { point_section = pins-section _ c.requires.sections; k_in_bounds = omega (arith, c.requires.few_pins) }
 
 pub decode_section-steiner_ok-requires : goal.decode_section-steiner_ok-requires
-decode_section-steiner_ok-requires c = (steiner-section _ c.requires.sections, steiner-room _ c.requires.sections)
+decode_section-steiner_ok-requires c = record { point_section = steiner-section _ c.requires.sections; k_in_bounds = steiner-room _ c.requires.sections }
 
 pub are_placed-requires : goal.are_placed-requires
-are_placed-requires c = let pins : length c.decode_section-pins_ok.new.1.1.0 ≡ max_pins = search rules in
-    let steiner : length c.decode_section-steiner_ok.new.1.1.0 ≡ file_places = search rules in (
+are_placed-requires c = let pins : length c.decode_section-pins_ok.new.out ≡ max_pins = search rules in
+    let steiner : length c.decode_section-steiner_ok.new.out ≡ file_places = search rules in (
       omega (arith, pins, c.size-n.ensures.0, c.requires.few_pins),
       omega (arith, steiner, c.size-m.ensures.0, steiner-room _ c.requires.sections),
     )

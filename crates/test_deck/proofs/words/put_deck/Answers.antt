@@ -20,16 +20,16 @@ pub put_numbers-requires-2 : goal.put_numbers-requires-2
 put_numbers-requires-2 c = omega (
       arith,
       (record { pins = search rules; steiner = search rules; ends = search rules }).steiner,
-      length-set c.put_numbers.new.0 pin_count_word c.args.d.points.npins,
-      c.put_numbers.auto.0,
+      length-set c.put_numbers.new.out pin_count_word c.args.d.points.npins,
+      c.put_numbers.auto.out,
     )
 
 pub put_numbers-requires-3 : goal.put_numbers-requires-3
 put_numbers-requires-3 c = omega (
       arith,
       (record { pins = search rules; steiner = search rules; ends = search rules }).ends,
-      set_twice c.put_numbers-2.new.0 steiner_count_word c.args.d.points.nsteiner tail_word c.args.d.tail,
-      c.put_numbers-2.auto.0,
+      set_twice c.put_numbers-2.new.out steiner_count_word c.args.d.points.nsteiner tail_word c.args.d.tail,
+      c.put_numbers-2.auto.out,
     )
 
 pub returns : goal.returns
