@@ -8,10 +8,10 @@ use Rattle.deckfile.proofs.write.Goals as goal
 
 pub returns-then-not-c : goal.returns-then-not-c
 returns-then-not-c c = let k = c.check-c.ensures in
-    record { value = (write_unsound _ _ (sym k.ok ∙ c.if-not-c.true).0; out_after = (write_unsound _ _ (sym k.ok ∙ c.if-not-c.true).1 }
+    record { value = (write_unsound _ _ (sym k.ok ∙ c.if-not-c.true)).0; out_after = (write_unsound _ _ (sym k.ok ∙ c.if-not-c.true)).1 }
 
 pub write_working-requires : goal.write_working-requires
-write_working-requires c = record { in_order = (checked_valid _ _ c.check-c.ensures c.if-not-c.false).0; valid_contents = (checked_valid _ _ c.check-c.ensures c.if-not-c.false).1 }
+write_working-requires c = record { in_order = (checked_valid _ _ c.check-c.ensures (c.if-not-c.false)).0; valid_contents = (checked_valid _ _ c.check-c.ensures (c.if-not-c.false)).1 }
 
 pub returns : goal.returns
 returns c = let k = c.check-c.ensures in

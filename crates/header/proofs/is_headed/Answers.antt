@@ -18,8 +18,8 @@ slice_bounds-same_bytes-end c = let entry = c.?before in
     sym (length-take-le 4 entry.args.b.now (omega arith))
 
 pub returns-then-not-same_bytes : goal.returns-then-not-same_bytes
-returns-then-not-same_bytes c = head_other c.args.b.now (omega arith) (omega arith) (sym c.same_bytes.ensures ∙ c.if-not-same_bytes.true
+returns-then-not-same_bytes c = head_other c.args.b.now (omega arith) (omega arith) (sym c.same_bytes.ensures ∙ c.if-not-same_bytes.true)
 
 pub returns : goal.returns
 returns c = head_count c.args.b.now (omega arith) (omega arith)
-    (sym c.same_bytes.ensures ∙ c.if-not-same_bytes.false _ c.number2-n.ensures.0
+    (sym c.same_bytes.ensures ∙ c.if-not-same_bytes.false) _ c.number2-n.ensures.0

@@ -6,12 +6,12 @@ use borrow.Author.Rules.{rules}
 use Rattle.points.proofs.check.is_ordered.Goals as goal
 
 pub returns-then-not-are_codes : goal.returns-then-not-are_codes
-returns-then-not-are_codes c = and_no _ _ (sym c.are_codes.ensures ∙ c.if-not-are_codes.true
+returns-then-not-are_codes c = and_no _ _ (sym c.are_codes.ensures ∙ c.if-not-are_codes.true)
 
 pub returns-then-not-rises : goal.returns-then-not-rises
-returns-then-not-rises c = and_yes _ _ _ (sym c.are_codes.ensures ∙ c.if-not-are_codes.false
-    (and_no _ _ (sym c.rises.ensures ∙ c.if-not-rises.true)
+returns-then-not-rises c = and_yes _ _ _ (sym c.are_codes.ensures ∙ c.if-not-are_codes.false)
+    (and_no _ _ (sym c.rises.ensures ∙ c.if-not-rises.true))
 
 pub returns : goal.returns
-returns c = and_yes _ _ _ (sym c.are_codes.ensures ∙ c.if-not-are_codes.false
-    (and_yes _ _ _ (sym c.rises.ensures ∙ c.if-not-rises.false c.zeros_from.ensures)
+returns c = and_yes _ _ _ (sym c.are_codes.ensures ∙ c.if-not-are_codes.false)
+    (and_yes _ _ _ (sym c.rises.ensures ∙ c.if-not-rises.false) c.zeros_from.ensures)

@@ -10,10 +10,8 @@ use borrow.Author.Tests.{le-leb, lt-leb}
 use borrow.Author.Rules.{rules}
 use Rattle.arrays.specs.Set.{all}
 use Rattle.sorted.proofs.Scan.{Passed, passed_none, passed_more, passed_fail, passed_end}
+use Rattle.points.proofs.kinds.all_within.Invariants.{within}
 use Rattle.points.proofs.kinds.all_within.Goals as goal
-
-abbrev within : ℕ → ℕ → Bool
-within most k = leb k most
 
 pub loop-i-init : goal.loop-i-init
 loop-i-init c = passed_none _ _ _

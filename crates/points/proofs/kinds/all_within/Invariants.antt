@@ -12,6 +12,9 @@ use Rattle.arrays.specs.Set.{all}
 use Rattle.sorted.proofs.Scan.{Passed, passed_none, passed_more, passed_fail, passed_end}
 use Rattle.points.proofs.kinds.all_within.Given as goal
 
+abbrev pub within : ℕ → ℕ → Bool
+within most k = leb k most
+
 abbrev pub invariant-loop-i : goal.invariant-loop-i
 invariant-loop-i l = Passed (within l.most) l.kinds (length l.kinds) l.i
 

@@ -10,11 +10,8 @@ use Rattle.arrays.proofs.paste.Lines.{PutFirst, each_to, each-first_none, each-f
 use Rattle.arrays.proofs.paste.Parts.{pasted_same}
 use Rattle.points.proofs.kinds.Front.{one, each_one}
 use borrow.Author.Rules.{rules}
+use Rattle.points.proofs.kinds.follow.Invariants.{kind_of}
 use Rattle.points.proofs.kinds.follow.Goals as goal
-
--- The kind of the next pin k.
-abbrev kind_of : List ℕ → List ℕ → ℕ → ℕ → ℕ → ℕ
-kind_of pins kinds n other k = beside ltb other k (take n pins) (take n kinds)
 
 pub loop-i-init : goal.loop-i-init
 loop-i-init c = each-first_none (one _) 1 _ _ _ _

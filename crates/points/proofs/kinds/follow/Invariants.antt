@@ -12,6 +12,10 @@ use Rattle.points.proofs.kinds.Front.{one, each_one}
 use borrow.Author.Rules.{rules}
 use Rattle.points.proofs.kinds.follow.Given as goal
 
+-- The kind of the next pin k.
+abbrev pub kind_of : List ℕ → List ℕ → ℕ → ℕ → ℕ → ℕ
+kind_of pins kinds n other k = beside ltb other k (take n pins) (take n kinds)
+
 abbrev pub invariant-loop-i : goal.invariant-loop-i
 invariant-loop-i l = PutFirst (each_to (one (kind_of l.pins l.kinds l.n l.other)) l.next) 1 l.m l.initial.out l.out 0 l.i l.i
 
