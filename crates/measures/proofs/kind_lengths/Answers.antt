@@ -23,12 +23,12 @@ pub loop-i-init : goal.loop-i-init
 loop-i-init c = sums_none _
 
 pub edge_at-e-requires : goal.edge_at-e-requires
-edge_at-e-requires c = ((c).requires.0, (c.edge_numbers-ends.ensures, (c.loop-i-test.true, (c).requires.1.tailed)))
+edge_at-e-requires c = (c.requires.in_order, (c.edge_numbers-ends.ensures, (c.loop-i-test.true, c.requires.valid_contents.tailed)))
 
 pub edge_kind-k-requires : goal.edge_kind-k-requires
-edge_kind-k-requires c = let entry = (c) in
-    let codes = entry.pre.0.arranged.pin_codes in
-    (omega (arith, codes.few, codes.size), omega (arith, codes.few, (search rules)))
+edge_kind-k-requires c = let codes = c.requires.in_order.arranged.pin_codes in
+    let kinds-sized : length c.args.d.kinds ≡ 64 = search rules in
+    (omega (arith, codes.few, codes.size), omega (arith, codes.few, kinds-sized))
 
 pub offset_bounds-sums-k : goal.offset_bounds-sums-k
 offset_bounds-sums-k c = omega (arith, (known c).1)
@@ -38,15 +38,15 @@ bounds-sums-k c = omega (arith, (known c).1)
 
 pub overflow_add-sums : goal.overflow_add-sums
 overflow_add-sums c = let k = known c in
-    let fits = sum_fits _ _ _ _ _ c.loop-i.inv c.edge_at-e.ensures k.0 k.1 (c).pre.1.tailed in
-    omega (arith, fits, c.loop-i-test.taken, (c).pre.0.keys_few)
+    let fits = sum_fits _ _ _ _ _ c.loop-i.inv c.edge_at-e.ensures k.0 k.1 c.requires.valid_contents.tailed in
+    omega (arith, fits, c.loop-i-test.taken, c.requires.in_order.keys_few)
 
 pub bounds-sums-k-in-loop-i : goal.bounds-sums-k-in-loop-i
 bounds-sums-k-in-loop-i c = omega (arith, (known c).1)
 
 pub loop-i-preserved : goal.loop-i-preserved
 loop-i-preserved c = let k = known c in
-    sums_more _ _ _ _ _ c.loop-i.inv c.edge_at-e.ensures k.0 k.1 (c).pre.1.tailed
+    sums_more _ _ _ _ _ c.loop-i.inv c.edge_at-e.ensures k.0 k.1 c.requires.valid_contents.tailed
 
 pub returns : goal.returns
-returns c = sums_all _ (c).requires.0 c.loop-i.invariant c.loop-i-test.false
+returns c = sums_all _ c.requires.in_order c.loop-i.invariant c.loop-i-test.false

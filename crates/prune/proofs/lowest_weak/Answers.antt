@@ -7,4 +7,6 @@ use Rattle.prune.proofs.lowest_weak.Goals as goal
 
 pub first_weak-requires : goal.first_weak-requires
 first_weak-requires c = let row = c.requires.arranged.steiner_codes in
-    (omega (arith, c.requires.few, (search rules)), omega (arith, c.requires.keys_few, (search rules)), omega (arith, row.few, row.size))
+    let codes-sized : length c.args.w.codes ≡ 128 = search rules in
+    let keys-sized : length c.args.w.keys ≡ 136 = search rules in
+    (omega (arith, c.requires.few, codes-sized), omega (arith, c.requires.keys_few, keys-sized), omega (arith, row.few, row.size))

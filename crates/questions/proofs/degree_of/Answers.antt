@@ -9,20 +9,20 @@ use borrow.Author.Rules.{rules}
 use Rattle.questions.proofs.degree_of.Goals as goal
 
 pub has-requires : goal.has-requires
-has-requires c = omega (arith, c.requires.in_order.few, (search rules))
+has-requires c = let codes-sized : length c.args.w.codes ≡ 128 = search rules in
+    omega (arith, c.requires.in_order.few, codes-sized)
 
 pub returns-then-not-has : goal.returns-then-not-has
-returns-then-not-has c = let given = (c).requires in
-    degree_none _ given.0 _ given.1 (sym c.has.ensures ∙ not-true _ c.if-not-has.true)
+returns-then-not-has c = degree_none _ c.requires.in_order _ c.requires.t (sym c.has.ensures ∙ c.if-not-has.true)
 
 pub index_of-requires : goal.index_of-requires
-index_of-requires c = let entry = (c) in
-    omega (arith, entry.pre.0.few, (search rules))
+index_of-requires c = let codes-sized : length c.args.w.codes ≡ 128 = search rules in
+    omega (arith, c.requires.in_order.few, codes-sized)
 
 pub degree_of-requires : goal.degree_of-requires
-degree_of-requires c = let entry = (c) in
-    record { in_order = (omega (arith, entry.pre.0.keys_few, (search rules))).0; t = (omega (arith, entry.pre.0.keys_few, (search rules))).1 }
+degree_of-requires c = let keys-sized : length c.args.w.keys ≡ 136 = search rules in
+    record { in_order = (omega (arith, c.requires.in_order.keys_few, keys-sized)).0; t = (omega (arith, c.requires.in_order.keys_few, keys-sized)).1 }
 
 pub returns : goal.returns
-returns c = let held = of_true (sym c.has.ensures ∙ not-false _ c.if-not-has.false) in
-    degree-there _ (c).requires.0 _ _ _ held c.index_of.ensures c.degree_of.ensures
+returns c = let held = of_true (sym c.has.ensures ∙ c.if-not-has.false) in
+    degree-there _ c.requires.in_order _ _ _ held c.index_of.ensures c.degree_of.ensures

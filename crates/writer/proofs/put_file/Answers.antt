@@ -11,22 +11,17 @@ use borrow.Author.Rules.{rules}
 use Rattle.writer.proofs.put_file.Goals as goal
 
 pub put_parts-requires : goal.put_parts-requires
-put_parts-requires c = let at-edges = (c) in
-    let at_bare = at-edges.before in
-    let entry = at_bare.before.before in
-    let w = entry.args.w in
-    let long : length at-edges.edge-numbers.result ≡ 128 = search rules in
-    let fits = parts-kept w entry.pre.0 entry.pre.1.0 at_bare.is-bare.ensures at-edges.edge-numbers.ensures long _ entry.pre.1.1 in
-    (fits, omega (arith, (search rules), (few w entry.pre.0 entry.pre.1.0).0))
+put_parts-requires c = let w = c.args.w in
+    let long : length c.edge_numbers-ends.result ≡ 128 = search rules in
+    let fits = parts-kept w c.requires.in_order c.requires.valid_contents c.is_bare-bare.ensures c.edge_numbers-ends.ensures long _ c.requires.w_in_bounds in
+    let sized : length c.args.w.kinds ≡ 64 = search rules in
+    (fits, omega (arith, sized, (few w c.requires.in_order c.requires.valid_contents).0))
 
 pub returns : goal.returns
-returns c = let at-edges = (c) in
-    let at_bare = at-edges.before in
-    let entry = at_bare.before.before in
-    let w = entry.args.w in
+returns c = let w = c.args.w in
     let q = w.form.points in
-    let bare = at_bare.is-bare.result in
+    let bare = c.is_bare-bare.result in
     pasted_same
-    (ap (λ (row : List ℕ). file_parts q.pins q.npins q.steiner q.nsteiner row w.kinds bare) at-edges.edge-numbers.ensures
-    ∙ file_parts_lem w entry.pre.0 entry.pre.1.0 at_bare.is-bare.ensures)
+    (ap (λ (row : List ℕ). file_parts q.pins q.npins q.steiner q.nsteiner row w.kinds bare) c.edge_numbers-ends.ensures
+    ∙ file_parts_lem w c.requires.in_order c.requires.valid_contents c.is_bare-bare.ensures)
     c.put_parts.ensures

@@ -21,9 +21,9 @@ slice_bounds-kinds-end c = let h = (kinds-within _ c.requires.sections c.require
 
 pub returns-then-not-all_within : goal.returns-then-not-all_within
 returns-then-not-all_within c = no_kind_lem _ c.requires.sections c.requires.b_value c.offset-at.ensures.0 c.size.ensures.0 c.if-size-n.false
-    (slice_long c.offset-at.result c.args.n) c.all_within.ensures (not-true _ c.if-not-all_within.true)
+    (slice_long c.offset-at.result c.args.n) c.all_within.ensures (c.if-not-all_within.true)
 
 pub returns : goal.returns
 returns c = kinds_tested _ c.requires.sections c.requires.b_value c.offset-at.ensures.0 c.size.ensures.0 c.if-size-n.false
-    (slice_long c.offset-at.result c.args.n) c.all_within.ensures (not-false _ c.if-not-all_within.false)
+    (slice_long c.offset-at.result c.args.n) c.all_within.ensures (c.if-not-all_within.false)
     c.all_within-2.ensures

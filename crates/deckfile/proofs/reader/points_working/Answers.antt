@@ -13,17 +13,17 @@ slice_bounds-all-end c = let full : length c.args.found.steiner ≡ file_places 
 
 pub slice_bounds-put_numbers-end-2 : goal.slice_bounds-put_numbers-end-2
 slice_bounds-put_numbers-end-2 c = let full : length c.args.found.steiner ≡ file_places = search rules in
-    found_length c.args.b.now c.pre.0 c.pre.1.1.0 c.args.found _ c.size-m.ensures.0
-    c.pre.1.1.1 full
+    found_length c.args.b.now c.requires.sections c.requires.t c.args.found _ c.size-m.ensures.0
+    c.requires.b_bound full
 
 pub put_numbers-requires : goal.put_numbers-requires
 put_numbers-requires c = let full : length c.args.found.steiner ≡ file_places = search rules in
-    found_fits c.args.b.now c.pre.0 c.pre.1.1.0 c.args.found _ c.size-m.ensures.0
-    c.pre.1.1.1 full
+    found_fits c.args.b.now c.requires.sections c.requires.t c.args.found _ c.size-m.ensures.0
+    c.requires.b_bound full
 
 pub returns : goal.returns
 returns c = let b = c.args.b.now in
-    let p = c.pre.1.1.0 in
-    let row = steiner-put b c.pre.0 p _ c.pre.1.0 _ c.size-m.ensures.0 c.put_numbers.ensures in
-    working_for b c.pre.0 p _ c.pre.1.0 _ _ c.size-n.ensures.0 c.size-m.ensures.0 _ row
+    let p = c.requires.t in
+    let row = steiner-put b c.requires.sections p _ c.requires.decodes _ c.size-m.ensures.0 c.put_numbers.ensures in
+    working_for b c.requires.sections p _ c.requires.decodes _ _ c.size-n.ensures.0 c.size-m.ensures.0 _ row
     _ c.form_of.ensures

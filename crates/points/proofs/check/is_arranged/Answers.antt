@@ -24,24 +24,28 @@ pub returns-then-npins-nsteiner : goal.returns-then-npins-nsteiner
 returns-then-npins-nsteiner c = and_yes _ _ _ (le-leb _ _ c.if-npins-gt-MAX_PINS.false) (and_no _ _ (no_room c.if-npins-gt-MAX_PINS.false c.if-npins-nsteiner.true))
 
 pub is_ordered-requires : goal.is_ordered-requires
-is_ordered-requires c = omega (arith, c.if-npins-gt-MAX_PINS.false, (search rules))
+is_ordered-requires c = let pins-sized : length c.args.q.pins ≡ 64 = search rules in
+    omega (arith, c.if-npins-gt-MAX_PINS.false, pins-sized)
 
 pub returns-then-not-is_ordered : goal.returns-then-not-is_ordered
 returns-then-not-is_ordered c = and_yes _ _ _ (le-leb _ _ c.if-npins-gt-MAX_PINS.false) (and_yes _ _ _ (room c.if-npins-gt-MAX_PINS.false c.if-npins-nsteiner.false)
-    (and_no _ _ (sym c.is_ordered.ensures ∙ not-true _ c.if-not-is_ordered.true)))
+    (and_no _ _ (sym c.is_ordered.ensures ∙ c.if-not-is_ordered.true)))
 
 pub is_ordered-requires-2 : goal.is_ordered-requires-2
-is_ordered-requires-2 c = omega (arith, c.if-npins-nsteiner.false, (search rules))
+is_ordered-requires-2 c = let steiner-sized : length c.args.q.steiner ≡ 128 = search rules in
+    omega (arith, c.if-npins-nsteiner.false, steiner-sized)
 
 pub returns-then-not-is_ordered-2 : goal.returns-then-not-is_ordered-2
 returns-then-not-is_ordered-2 c = and_yes _ _ _ (le-leb _ _ c.if-npins-gt-MAX_PINS.false) (and_yes _ _ _ (room c.if-npins-gt-MAX_PINS.false c.if-npins-nsteiner.false)
-    (and_yes _ _ _ (sym c.is_ordered.ensures ∙ not-false _ c.if-not-is_ordered.false)
-    (and_no _ _ (sym c.is_ordered-2.ensures ∙ not-true _ c.if-not-is_ordered-2.true))))
+    (and_yes _ _ _ (sym c.is_ordered.ensures ∙ c.if-not-is_ordered.false)
+    (and_no _ _ (sym c.is_ordered-2.ensures ∙ c.if-not-is_ordered-2.true))))
 
 pub none_in-requires : goal.none_in-requires
-none_in-requires c = (omega (arith, c.if-npins-gt-MAX_PINS.false, (search rules)), omega (arith, c.if-npins-nsteiner.false, (search rules)))
+none_in-requires c = let pins-sized : length c.args.q.pins ≡ 64 = search rules in
+    let steiner-sized : length c.args.q.steiner ≡ 128 = search rules in
+    (omega (arith, c.if-npins-gt-MAX_PINS.false, pins-sized), omega (arith, c.if-npins-nsteiner.false, steiner-sized))
 
 pub returns : goal.returns
 returns c = and_yes _ _ _ (le-leb _ _ c.if-npins-gt-MAX_PINS.false) (and_yes _ _ _ (room c.if-npins-gt-MAX_PINS.false c.if-npins-nsteiner.false)
-    (and_yes _ _ _ (sym c.is_ordered.ensures ∙ not-false _ c.if-not-is_ordered.false)
-    (and_yes _ _ _ (sym c.is_ordered-2.ensures ∙ not-false _ c.if-not-is_ordered-2.false) c.none_in.ensures)))
+    (and_yes _ _ _ (sym c.is_ordered.ensures ∙ c.if-not-is_ordered.false)
+    (and_yes _ _ _ (sym c.is_ordered-2.ensures ∙ c.if-not-is_ordered-2.false) c.none_in.ensures)))

@@ -9,7 +9,8 @@ use Rattle.working.proofs.deck.follow.Goals as goal
 pub follow-requires : goal.follow-requires
 follow-requires c = let pins = c.requires.in_order.arranged.pin_codes in
     let next = c.requires.in_order_2.arranged.pin_codes in
-    record { in_order = ((omega (arith, pins.few, pins.size), omega (arith, pins.few, (search rules)), omega (arith, next.few, next.size), next.few)).0; in_order_2 = ((omega (arith, pins.few, pins.size), omega (arith, pins.few, (search rules)), omega (arith, next.few, next.size), next.few)).1 }
+    let kinds-sized : length c.args.d.kinds ≡ 64 = search rules in
+    record { in_order = ((omega (arith, pins.few, pins.size), omega (arith, pins.few, kinds-sized), omega (arith, next.few, next.size), next.few)).0; in_order_2 = ((omega (arith, pins.few, pins.size), omega (arith, pins.few, kinds-sized), omega (arith, next.few, next.size), next.few)).1 }
 
 pub returns : goal.returns
 returns c = (refl, followed _ c.requires.in_order _ c.requires.in_order_2 _ c.follow.ensures)
