@@ -12,20 +12,16 @@ use Rattle.calls.proofs.PointCalls.{in_range_lem, refused_is, done_is, add-no_ki
 use borrow.Author.Rules.{rules}
 use Rattle.calls.proofs.add_at.Goals as goal
 
-there : (c : tie.After-has) {b : Bool} → c.has.result ≡ b → let entry = entry_of c in
-    holds_pin (point_of entry.args.k) (state_of entry.args.d.form) ≡ b
-there c e = let entry = entry_of c in sym (pin_there_lem _ entry.pre.0 _ entry.pre.1.0) ∙ sym c.has.ensures ∙ e
-
 pub returns-then-unknown : goal.returns-then-unknown
 returns-then-unknown c = refused_is _ c.requires.in_order _ 15 (add-no_kind _ _ _ (in_range_lem _ c.requires.t) (ltb-true _ _ c.if-unknown.true)) _ c.refuse.ensures
 
 pub returns-then-there : goal.returns-then-there
 returns-then-there c = refused_is _ c.requires.in_order _ 8
-    (add-there _ _ _ (in_range_lem _ c.requires.t) (ltb-false _ _ c.if-unknown.false) (there c c.if-there.true)) _ c.refuse-then-there.ensures
+    (add-there _ _ _ (in_range_lem _ c.requires.t) (ltb-false _ _ c.if-unknown.false) (sym (pin_there_lem _ c.requires.in_order _ c.requires.t) ∙ sym c.has.ensures ∙ c.if-there.true)) _ c.refuse-then-there.ensures
 
 pub returns-then-full : goal.returns-then-full
 returns-then-full c = refused_is _ c.requires.in_order _ 10
-    (add_full _ _ _ (in_range_lem _ c.requires.t) (ltb-false _ _ c.if-unknown.false) (there c c.if-there.false)
+    (add_full _ _ _ (in_range_lem _ c.requires.t) (ltb-false _ _ c.if-unknown.false) (sym (pin_there_lem _ c.requires.in_order _ c.requires.t) ∙ sym c.has.ensures ∙ c.if-there.false)
     (subst (λ (z : ℕ). 64 ≤ z) (pin_count_lem _ c.requires.in_order) (leb-true _ _ c.if-full.true))) _ c.refuse-then-full.ensures
 
 -- The kind fits in a byte.
@@ -33,9 +29,13 @@ pub overflow_cast-given : goal.overflow_cast-given
 overflow_cast-given c = record { fits = omega (arith, (ltb-false _ _ c.if-unknown.false)) }
 
 pub insert-next-requires : goal.insert-next-requires
-insert-next-requires c = (c.requires.in_order, (c.requires.t, (leb-false _ _ c.if-full.false, point_room_lem _ c.requires.in_order c.requires.valid_contents.state)))
+insert-next-requires c = record {
+  in_order = c.requires.in_order;
+  t = c.requires.t;
+  npins_lt_max_pins = (leb-false _ _ c.if-full.false, point_room_lem _ c.requires.in_order c.requires.valid_contents.state);
+}
 
 pub returns : goal.returns
 returns c = done_is _ _ _ _ _ c.insert-next.ensures _ c.follow.ensures
-    (add_done _ _ _ (in_range_lem _ c.requires.t) (ltb-false _ _ c.if-unknown.false) (there c c.if-there.false)
+    (add_done _ _ _ (in_range_lem _ c.requires.t) (ltb-false _ _ c.if-unknown.false) (sym (pin_there_lem _ c.requires.in_order _ c.requires.t) ∙ sym c.has.ensures ∙ c.if-there.false)
     (subst (λ (z : ℕ). z < 64) (pin_count_lem _ c.requires.in_order) (leb-false _ _ c.if-full.false)))

@@ -10,20 +10,16 @@ use Rattle.edges.specs.Edges.{edge_of}
 use Rattle.measures.proofs.Sums.{SumsTo, sums_none, kind_is, sum_fits, sums_more, sums_all}
 use Rattle.measures.proofs.kind_lengths.Goals as goal
 
--- The kind of the edge.
-known : (at : tie.After-edge-kind invariant-loop decreases-loop)
-    → let at-loop = (test_of (edge_of_lem at)).before.before in
-    (at.edge-kind.result ≡ run_kind (contents_of (entry_of at-loop).args.d) (edge_of (edge_of_lem at).edge_at.result)) × (at.edge-kind.result ≤ 2)
-known at =
-    let at-loop = (test_of (edge_of_lem at)).before.before in
-    let pre = (entry_of at-loop).pre in
-    kind_is _ pre.0 pre.1 (edge_of_lem at).edge_at.ensures at.edge-kind.ensures
-
 pub loop-i-init : goal.loop-i-init
 loop-i-init c = sums_none _
 
 pub edge_at-e-requires : goal.edge_at-e-requires
-edge_at-e-requires c = (c.requires.in_order, (c.edge_numbers-ends.ensures, (c.loop-i-test.true, c.requires.valid_contents.tailed)))
+edge_at-e-requires c = record {
+  in_order = c.requires.in_order;
+  ends_value = c.edge_numbers-ends.ensures;
+  i_lt_nkeys = c.loop-i-test.true;
+  tail_le_longest_tail = c.requires.valid_contents.tailed;
+}
 
 pub edge_kind-k-requires : goal.edge_kind-k-requires
 edge_kind-k-requires c = let codes = c.requires.in_order.arranged.pin_codes in
@@ -31,22 +27,22 @@ edge_kind-k-requires c = let codes = c.requires.in_order.arranged.pin_codes in
     (omega (arith, codes.few, codes.size), omega (arith, codes.few, kinds-sized))
 
 pub offset_bounds-sums-k : goal.offset_bounds-sums-k
-offset_bounds-sums-k c = omega (arith, (known c).1)
+offset_bounds-sums-k c = omega (arith, (kind_is _ c.requires.in_order c.requires.valid_contents c.edge_at-e.ensures c.edge_kind-k.ensures).1)
 
 pub bounds-sums-k : goal.bounds-sums-k
-bounds-sums-k c = omega (arith, (known c).1)
+bounds-sums-k c = omega (arith, (kind_is _ c.requires.in_order c.requires.valid_contents c.edge_at-e.ensures c.edge_kind-k.ensures).1)
 
 pub overflow_add-sums : goal.overflow_add-sums
-overflow_add-sums c = let k = known c in
-    let fits = sum_fits _ _ _ _ _ c.loop-i.inv c.edge_at-e.ensures k.0 k.1 c.requires.valid_contents.tailed in
-    omega (arith, fits, c.loop-i-test.taken, c.requires.in_order.keys_few)
+overflow_add-sums c = let k = kind_is _ c.requires.in_order c.requires.valid_contents c.edge_at-e.ensures c.edge_kind-k.ensures in
+    let fits = sum_fits _ _ _ _ _ c.loop-i.invariant c.edge_at-e.ensures k.0 k.1 c.requires.valid_contents.tailed in
+    omega (arith, fits, c.loop-i-test.true, c.requires.in_order.keys_few)
 
 pub bounds-sums-k-in-loop-i : goal.bounds-sums-k-in-loop-i
-bounds-sums-k-in-loop-i c = omega (arith, (known c).1)
+bounds-sums-k-in-loop-i c = omega (arith, (kind_is _ c.requires.in_order c.requires.valid_contents c.edge_at-e.ensures c.edge_kind-k.ensures).1)
 
 pub loop-i-preserved : goal.loop-i-preserved
-loop-i-preserved c = let k = known c in
-    sums_more _ _ _ _ _ c.loop-i.inv c.edge_at-e.ensures k.0 k.1 c.requires.valid_contents.tailed
+loop-i-preserved c = let k = kind_is _ c.requires.in_order c.requires.valid_contents c.edge_at-e.ensures c.edge_kind-k.ensures in
+    sums_more _ _ _ _ _ c.loop-i.invariant c.edge_at-e.ensures k.0 k.1 c.requires.valid_contents.tailed
 
 pub returns : goal.returns
 returns c = sums_all _ c.requires.in_order c.loop-i.invariant c.loop-i-test.false

@@ -20,7 +20,7 @@ loop-i-init c = let s = state_of c.args.w in
     first_none (runs_to c.args.tail b s) run_room _ _ _ (each_none (edge_text c.args.tail b) (listed s))
 
 pub edge_at-e-requires : goal.edge_at-e-requires
-edge_at-e-requires c = (c.requires.in_order, (c.edge_numbers-ends.ensures, (c.loop-i-test.true, c.requires.tail_le_longest_tail)))
+edge_at-e-requires c = record { in_order = c.requires.in_order; ends_value = c.edge_numbers-ends.ensures; i_lt_nkeys = c.loop-i-test.true; tail_le_longest_tail = c.requires.tail_le_longest_tail }
 
 pub put_run-next-requires : goal.put_run-next-requires
 put_run-next-requires c = let few = edges_few _ c.requires.valid in

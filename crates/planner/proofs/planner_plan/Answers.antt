@@ -13,7 +13,7 @@ returns-then-refused-ne0 c = record { value = (read-refused (read_file _) to_end
 
 pub run_to_end-e-requires : goal.run_to_end-e-requires
 run_to_end-e-requires c = let taken = read_taken (read_file _) (read_possible _) c.read_working-c.ensures c.refusal_number-refused.ensures c.if-refused-ne0.false in
-    (taken.1, taken.2)
+    record { in_order = taken.1; valid_contents = taken.2 }
 
 pub write_working-requires : goal.write_working-requires
 write_working-requires c = let taken = read_taken (read_file _) (read_possible _) c.read_working-c.ensures c.refusal_number-refused.ensures c.if-refused-ne0.false in

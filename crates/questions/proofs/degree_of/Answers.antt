@@ -21,7 +21,7 @@ index_of-requires c = let codes-sized : length c.args.w.codes ≡ 128 = search r
 
 pub degree_of-requires : goal.degree_of-requires
 degree_of-requires c = let keys-sized : length c.args.w.keys ≡ 136 = search rules in
-    record { in_order = (omega (arith, c.requires.in_order.keys_few, keys-sized)).0; t = (omega (arith, c.requires.in_order.keys_few, keys-sized)).1 }
+    omega (arith, c.requires.in_order.keys_few, keys-sized)
 
 pub returns : goal.returns
 returns c = let held = of_true (sym c.has.ensures ∙ c.if-not-has.false) in

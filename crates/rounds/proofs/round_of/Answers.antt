@@ -22,7 +22,7 @@ pub with_steiner-next-requires : goal.with_steiner-next-requires
 with_steiner-next-requires c = let w = (c).args.w in
     let q = (c).requires in
     let j = joined c in
-    (q.0, (j.is_point, (point_room_lem w q.0 q.1.0, λ i. joins-free _ _ _ _ _ j ((map_in point_of _ _).1 (_, i, refl)))))
+    record { in_order = q.0; t = j.is_point; nsteiner_bound = point_room_lem w q.0 q.1.0; fact = λ i. joins-free _ _ _ _ _ j ((map_in point_of _ _).1 (_, i, refl)) }
 
 pub overflow_sub-fall : goal.overflow_sub-fall
 overflow_sub-fall c = let entry = (c) in

@@ -16,7 +16,7 @@ loop-i-init c = let l = listed (state_of c.args.w) in
     first_none (run_text c.args.tail l) 53 _ _ _ (run_none _ l)
 
 pub edge_at-requires : goal.edge_at-requires
-edge_at-requires c = (c.requires.in_order, (c.edge_numbers-ends.ensures, (c.loop-i-test.true, c.requires.tail_le_longest_tail)))
+edge_at-requires c = record { in_order = c.requires.in_order; ends_value = c.edge_numbers-ends.ensures; i_lt_nkeys = c.loop-i-test.true; tail_le_longest_tail = c.requires.tail_le_longest_tail }
 
 pub run_line-next-requires : goal.run_line-next-requires
 run_line-next-requires c = let few = edges_few _ c.requires.valid in

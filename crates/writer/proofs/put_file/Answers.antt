@@ -15,7 +15,7 @@ put_parts-requires c = let w = c.args.w in
     let long : length c.edge_numbers-ends.result ≡ 128 = search rules in
     let fits = parts-kept w c.requires.in_order c.requires.valid_contents c.is_bare-bare.ensures c.edge_numbers-ends.ensures long _ c.requires.w_in_bounds in
     let sized : length c.args.w.kinds ≡ 64 = search rules in
-    (fits, omega (arith, sized, (few w c.requires.in_order c.requires.valid_contents).0))
+    record { parts_fit = fits; n_in_bounds = omega (arith, sized, (few w c.requires.in_order c.requires.valid_contents).0) }
 
 pub returns : goal.returns
 returns c = let w = c.args.w in

@@ -9,7 +9,7 @@ pub returns-then-not-c : goal.returns-then-not-c
 returns-then-not-c c = refused-answer _ c.check-c.ensures _ c.if-not-c.true
 
 pub kind_lengths-requires : goal.kind_lengths-requires
-kind_lengths-requires c = ready _ c.check-c.ensures c.if-not-c.false
+kind_lengths-requires c = record { in_order = (ready _ c.check-c.ensures c.if-not-c.false).0; valid_contents = (ready _ c.check-c.ensures c.if-not-c.false).1 }
 
 pub returns : goal.returns
 returns c = asked_by _ c.check-c.ensures of_kinds c.if-not-c.false c.kind_lengths.ensures

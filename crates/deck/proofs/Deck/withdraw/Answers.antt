@@ -8,7 +8,7 @@ pub returns-then-not-c : goal.returns-then-not-c
 returns-then-not-c c = refused_by _ c.check-c.ensures _ c.if-not-c.true c.refuse.ensures
 
 pub withdraw-requires : goal.withdraw-requires
-withdraw-requires c = ready _ c.check-c.ensures c.if-not-c.false
+withdraw-requires c = record { in_order = (ready _ c.check-c.ensures c.if-not-c.false).0; valid_contents = (ready _ c.check-c.ensures c.if-not-c.false).1 }
 
 pub returns : goal.returns
 returns c = let fits = c.ranges in

@@ -10,7 +10,7 @@ pub follow-requires : goal.follow-requires
 follow-requires c = let pins = c.requires.in_order.arranged.pin_codes in
     let next = c.requires.in_order_2.arranged.pin_codes in
     let kinds-sized : length c.args.d.kinds ≡ 64 = search rules in
-    record { in_order = ((omega (arith, pins.few, pins.size), omega (arith, pins.few, kinds-sized), omega (arith, next.few, next.size), next.few)).0; in_order_2 = ((omega (arith, pins.few, pins.size), omega (arith, pins.few, kinds-sized), omega (arith, next.few, next.size), next.few)).1 }
+    (omega (arith, pins.few, pins.size), omega (arith, pins.few, kinds-sized), omega (arith, next.few, next.size), next.few)
 
 pub returns : goal.returns
 returns c = (refl, followed _ c.requires.in_order _ c.requires.in_order_2 _ c.follow.ensures)
