@@ -1,6 +1,5 @@
 -- `lines::push` meets its contract: one byte too many, or one that is kept.
 use native.Mathlib.Omega.{arith}
-use borrow.Author.Rules.{rules}
 use Rattle.lines.proofs.Bytes.{push_past, push_more}
 use Rattle.lines.proofs.push.Goals as goal
 

@@ -1,12 +1,7 @@
 -- `numbers::magnitude` meets its contract. The invariant: the answer is the one for the digits left, after digits of the
 -- value v, which is at most `most`. The measure: how many digits are left.
-use mathlib.Core.Path.{◌≡◌}
-use Prim.Native.Nat.{◌-◌, ◌≤◌}
 use native.Mathlib.Omega.{arith}
-use borrow.Author.Rules.{rules}
-use lib.ListN.{length, drop}
-use Rattle.numbers.specs.Numbers.{magnitude_of}
-use Rattle.numbers.proofs.Digits.{read, read_all, read_none, read_low, read-high, read_large, read_on, read_end}
+use Rattle.numbers.proofs.Digits.{read_all, read_none, read_low, read-high, read_large, read_on, read_end}
 use Rattle.numbers.proofs.magnitude.Goals as goal
 
 pub returns-then-digits-eq0 : goal.returns-then-digits-eq0
@@ -27,10 +22,10 @@ returns-then-most-v c = read_large _ _ c.loop-i.v c.loop-i.i c.loop-i.invariant.
 
 pub loop-i-preserved : goal.loop-i-preserved
 loop-i-preserved c = (
-      c.if-most-v.false,
-      read_on _ _ c.loop-i.v c.loop-i.i c.loop-i.invariant.1 c.loop-i-test.true
-          c.if-b-lt48.false c.if-b-gt57.false c.if-most-v.false,
-    )
+  c.if-most-v.false,
+  read_on _ _ c.loop-i.v c.loop-i.i c.loop-i.invariant.1 c.loop-i-test.true
+      c.if-b-lt48.false c.if-b-gt57.false c.if-most-v.false,
+)
 
 pub returns : goal.returns
 returns c = read_end _ _ c.loop-i.v c.loop-i.i c.loop-i.invariant.1 c.loop-i-test.false

@@ -2,11 +2,9 @@
 -- value v, which is at most `most`. The measure: how many digits are left.
 use mathlib.Core.Path.{◌≡◌}
 use Prim.Native.Nat.{◌-◌, ◌≤◌}
-use native.Mathlib.Omega.{arith}
-use borrow.Author.Rules.{rules}
 use lib.ListN.{length, drop}
 use Rattle.numbers.specs.Numbers.{magnitude_of}
-use Rattle.numbers.proofs.Digits.{read, read_all, read_none, read_low, read-high, read_large, read_on, read_end}
+use Rattle.numbers.proofs.Digits.{read}
 use Rattle.numbers.proofs.magnitude.Given as goal
 
 abbrev pub invariant-loop-i : goal.invariant-loop-i

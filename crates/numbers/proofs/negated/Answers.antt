@@ -1,10 +1,9 @@
 -- `numbers::negated` meets its contract: 64 bits hold the value and its negative, and 32 bits hold the negative.
-use mathlib.Core.Path.{◌≡◌, sym, ap, ◌∙◌, subst}
+use mathlib.Core.Path.{sym, ap, ◌∙◌, subst}
 use native.Mathlib.Omega.{arith}
-use borrow.Author.Rules.{rules}
-use lib.IntN.{ℤ, pos, neg_ℤ, ◌-ℤ◌}
+use lib.IntN.{ℤ, pos, ◌-ℤ◌}
 use mir.Syntax.{w32, w64}
-use mir.Val.{SFits, to_z, of_z}
+use mir.Val.{SFits}
 use mir.ValLaws.{to_z_pos, to_z-of_z}
 use Rattle.numbers.proofs.Digits.{minus_is, minus_fits}
 use Rattle.numbers.proofs.negated.Goals as goal

@@ -1,6 +1,5 @@
 -- `numbers::number_of` meets its contract: by the first byte, and by the magnitude of what follows or of the whole word.
 use mathlib.Core.Path.{ap, ◌∙◌}
-use borrow.Author.Rules.{rules}
 use Rattle.arrays.proofs.Signed.{read_is}
 use Rattle.numbers.specs.declared.Number.TheVariants.{Is}
 use Rattle.numbers.proofs.Digits.{number-empty, minus_none, minus_some, plus_none, plus_some}

@@ -1,6 +1,5 @@
 -- `numbers::positive` meets its contract: 32 bits hold the value, so it is read back as it is.
 use native.Mathlib.Omega.{arith}
-use borrow.Author.Rules.{rules}
 use mir.Syntax.{w32}
 use mir.ValLaws.{to_z_pos}
 use Rattle.numbers.proofs.positive.Goals as goal

@@ -1,7 +1,6 @@
 -- `plane::apart` meets its contract: in each arm the difference is the distance along the axis, by the law of that order.
 use mathlib.Core.Path.{sym}
 use native.Mathlib.Omega.{arith}
-use borrow.Author.Rules.{rules}
 use Rattle.plane.proofs.Stored.{gap-rising, gap_falling}
 use Rattle.plane.proofs.apart.Goals as goal
 

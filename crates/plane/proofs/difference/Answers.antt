@@ -1,10 +1,9 @@
 -- `plane::difference` meets its contract: 32 bits hold both numbers and their difference, so all three are read back as they are.
-use mathlib.Core.Path.{◌≡◌, sym, ap₂, ◌∙◌, subst}
+use mathlib.Core.Path.{sym, ap₂, ◌∙◌, subst}
 use native.Mathlib.Omega.{arith}
-use borrow.Author.Rules.{rules}
-use lib.IntN.{sub_ℕ, ◌-ℤ◌}
+use lib.IntN.{◌-ℤ◌}
 use mir.Syntax.{w32}
-use mir.Val.{SFits, to_z}
+use mir.Val.{SFits}
 use mir.ValLaws.{to_z_pos}
 use Rattle.arrays.proofs.Signed.{read_is}
 use Rattle.plane.proofs.Signed.{lowered, lowered_fits}

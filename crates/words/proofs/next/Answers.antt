@@ -1,5 +1,4 @@
 -- `words::next` meets its contract: past white space, and then past a word.
-use borrow.Author.Rules.{rules}
 use Rattle.words.proofs.Words.{next_word}
 use Rattle.words.proofs.next.Goals as goal
 

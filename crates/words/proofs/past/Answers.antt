@@ -1,11 +1,7 @@
 -- `words::past` meets its contract. The invariant: the place asked for is the one that is found from i on.
 -- The measure: how many bytes are left.
-use mathlib.Core.Path.{◌≡◌, refl, sym, ◌∙◌}
-use Prim.Native.Nat.{◌+◌, ◌-◌, ◌≤◌}
+use mathlib.Core.Path.{refl, sym, ◌∙◌}
 use native.Mathlib.Omega.{arith}
-use borrow.Author.Rules.{rules}
-use lib.ListN.{length, drop}
-use Rattle.words.specs.Words.{letters}
 use Rattle.words.proofs.Words.{letters_on, letters-stop, letters_end}
 use Rattle.words.proofs.past.Goals as goal
 

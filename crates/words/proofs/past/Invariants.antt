@@ -1,12 +1,9 @@
 -- `words::past` meets its contract. The invariant: the place asked for is the one that is found from i on.
 -- The measure: how many bytes are left.
-use mathlib.Core.Path.{◌≡◌, refl, sym, ◌∙◌}
+use mathlib.Core.Path.{◌≡◌}
 use Prim.Native.Nat.{◌+◌, ◌-◌, ◌≤◌}
-use native.Mathlib.Omega.{arith}
-use borrow.Author.Rules.{rules}
 use lib.ListN.{length, drop}
 use Rattle.words.specs.Words.{letters}
-use Rattle.words.proofs.Words.{letters_on, letters-stop, letters_end}
 use Rattle.words.proofs.past.Given as goal
 
 abbrev pub invariant-loop-i : goal.invariant-loop-i

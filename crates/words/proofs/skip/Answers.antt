@@ -1,12 +1,7 @@
 -- `words::skip` meets its contract. The invariant: the place asked for is the one that is found from i on.
 -- The measure: how many bytes are left.
-use mathlib.Core.Path.{◌≡◌, refl, sym, ◌∙◌}
-use Prim.Native.Nat.{◌+◌, ◌-◌, ◌≤◌}
+use mathlib.Core.Path.{refl, sym, ◌∙◌}
 use native.Mathlib.Omega.{arith}
-use borrow.Author.Rules.{rules}
-use borrow.Author.Tests.{not-true, not-false}
-use lib.ListN.{length, drop}
-use Rattle.words.specs.Words.{spaces}
 use Rattle.words.proofs.Words.{spaces_on, spaces-stop, spaces_end}
 use Rattle.words.proofs.skip.Goals as goal
 

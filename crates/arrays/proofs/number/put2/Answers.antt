@@ -1,7 +1,6 @@
 -- `arrays::number::put2` meets its contract: two stores.
 use lib.ListN.{length-set}
 use Rattle.arrays.proofs.paste.Parts.{pasted_two}
-use borrow.Author.Rules.{rules}
 use native.Mathlib.Omega.{arith}
 use Rattle.arrays.proofs.number.put2.Goals as goal
 

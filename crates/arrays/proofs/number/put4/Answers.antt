@@ -1,7 +1,6 @@
 -- `arrays::number::put4` meets its contract: four stores.
 use lib.ListN.{length-set}
 use Rattle.arrays.proofs.paste.Parts.{pasted_four}
-use borrow.Author.Rules.{rules}
 use native.Mathlib.Omega.{arith}
 use Rattle.arrays.proofs.number.put4.Goals as goal
 

@@ -1,6 +1,5 @@
 -- `arrays::paste::put_byte` meets its contract: one byte set is a list of one byte pasted.
 use native.Mathlib.Omega.{arith}
-use borrow.Author.Rules.{rules}
 use Rattle.arrays.proofs.paste.Parts.{pasted_one}
 use Rattle.arrays.proofs.paste.put_byte.Goals as goal
 

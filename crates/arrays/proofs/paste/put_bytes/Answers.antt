@@ -1,8 +1,5 @@
 -- `arrays::paste::put_bytes` meets its contract. The invariant: the bytes passed are written.
-use Prim.Native.Nat.{◌-◌}
-use lib.ListN.{length}
-use borrow.Author.Rules.{rules}
-use Rattle.arrays.proofs.paste.Copy.{Copied, copied_none, copied_more, copied_end}
+use Rattle.arrays.proofs.paste.Copy.{copied_none, copied_more, copied_end}
 use Rattle.arrays.proofs.paste.put_bytes.Goals as goal
 
 pub loop-i-init : goal.loop-i-init

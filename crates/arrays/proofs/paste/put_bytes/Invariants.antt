@@ -1,8 +1,7 @@
 -- `arrays::paste::put_bytes` meets its contract. The invariant: the bytes passed are written.
 use Prim.Native.Nat.{◌-◌}
 use lib.ListN.{length}
-use borrow.Author.Rules.{rules}
-use Rattle.arrays.proofs.paste.Copy.{Copied, copied_none, copied_more, copied_end}
+use Rattle.arrays.proofs.paste.Copy.{Copied}
 use Rattle.arrays.proofs.paste.put_bytes.Given as goal
 
 abbrev pub invariant-loop-i : goal.invariant-loop-i

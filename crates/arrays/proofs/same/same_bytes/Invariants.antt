@@ -1,10 +1,7 @@
 -- `arrays::same::same_bytes` meets its contract. The invariant: the bytes passed are the same.
-use mathlib.Core.Path.{ap}
 use Prim.Native.Nat.{◌-◌}
-use native.Mathlib.Omega.{arith}
-use borrow.Author.Rules.{rules}
 use lib.ListN.{length}
-use Rattle.arrays.proofs.same.Alike.{Alike, same_not, alike_none, alike_more, alike_fail, alike_end}
+use Rattle.arrays.proofs.same.Alike.{Alike}
 use Rattle.arrays.proofs.same.same_bytes.Given as goal
 
 abbrev pub invariant-loop-i : goal.invariant-loop-i

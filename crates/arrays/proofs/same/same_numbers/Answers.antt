@@ -1,10 +1,8 @@
 -- `arrays::same::same_numbers` meets its contract. The invariant: the numbers passed are the same.
 use mathlib.Core.Path.{ap}
-use Prim.Native.Nat.{◌-◌}
 use native.Mathlib.Omega.{arith}
-use borrow.Author.Rules.{rules}
 use lib.ListN.{length}
-use Rattle.arrays.proofs.same.Alike.{Alike, same_not, alike_none, alike_more, alike_fail, alike_end}
+use Rattle.arrays.proofs.same.Alike.{same_not, alike_none, alike_more, alike_fail, alike_end}
 use Rattle.arrays.proofs.same.same_numbers.Goals as goal
 
 pub returns-then-a-b : goal.returns-then-a-b

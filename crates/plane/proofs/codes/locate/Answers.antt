@@ -1,9 +1,8 @@
 -- `plane::codes::locate` meets its contract: the test is that of the range, and in range the stored coordinates make the code.
-use mathlib.Core.Path.{◌≡◌, sym, ap, ap₂, ◌∙◌, subst}
+use mathlib.Core.Path.{sym, ap, ap₂, ◌∙◌, subst}
 use mathlib.Core.Bool.{◌&&◌}
-use borrow.Author.Rules.{rules}
 use lib.Dec.{T}
-use Rattle.plane.specs.Point.{Point, coordinate_in_range, in_range}
+use Rattle.plane.specs.Point.{coordinate_in_range}
 use Rattle.plane.specs.Coordinate.{stored_of}
 use Rattle.plane.specs.Code.{packed, code}
 use Rattle.plane.specs.declared.codes.Located.TheVariants.{At}

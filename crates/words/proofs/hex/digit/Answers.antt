@@ -1,6 +1,5 @@
 -- `words::hex::digit` meets its contract: each answer is the digit's value in the row that its byte is in.
 use native.Mathlib.Omega.{arith}
-use borrow.Author.Rules.{rules}
 use Rattle.words.proofs.hex.Pairs.{digit_decimal, digit_upper, digit_lower, digit_none}
 use Rattle.words.proofs.hex.digit.Goals as goal
 

@@ -1,11 +1,7 @@
 -- `words::hex::is_hex` meets its contract. The invariant: the word is pairs of digits where what is left of it is.
 -- The measure: how many bytes are left.
-use mathlib.Core.Path.{◌≡◌, refl, sym, ◌∙◌}
-use Prim.Native.Nat.{◌-◌, ◌≤◌}
+use mathlib.Core.Path.{refl, sym, ◌∙◌}
 use native.Mathlib.Omega.{arith}
-use borrow.Author.Rules.{rules}
-use lib.ListN.{length, drop}
-use Rattle.words.specs.Hex.{is_hex}
 use Rattle.words.proofs.hex.Pairs.{below16, hex_odd, hex_first, hex_second, hex_on, hex_end}
 use Rattle.words.proofs.hex.is_hex.Goals as goal
 
