@@ -3,7 +3,6 @@ use mathlib.Core.Path.{refl}
 use native.Mathlib.Omega.{arith}
 use Rattle.answer.specs.Play.{changes}
 use Rattle.answer.proofs.Texts.{plays}
-use borrow.Author.Rules.{rules}
 use Rattle.answer.proofs.changed.Goals as goal
 
 pub returns : goal.returns

@@ -3,7 +3,6 @@ use mathlib.Core.Path.{refl}
 use native.Mathlib.Omega.{arith}
 use Rattle.answer.specs.Play.{stays}
 use Rattle.answer.proofs.Texts.{plays}
-use borrow.Author.Rules.{rules}
 use Rattle.answer.proofs.failed.Goals as goal
 
 pub returns : goal.returns

@@ -3,7 +3,6 @@ use mathlib.Core.Path.{refl, sym, ◌∙◌}
 use Rattle.answer.specs.Play.{line_of}
 use Rattle.answer.proofs.Commands.{obeys}
 use Rattle.answer.proofs.Texts.{plays_nothing}
-use borrow.Author.Rules.{rules}
 use Rattle.answer.proofs.obey.Goals as goal
 
 pub read-requires : goal.read-requires

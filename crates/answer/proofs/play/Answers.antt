@@ -2,7 +2,6 @@
 use mathlib.Core.Path.{ap}
 use Rattle.answer.specs.Play.{line_of}
 use Rattle.answer.proofs.Texts.{plays_same}
-use borrow.Author.Rules.{rules}
 use Rattle.answer.proofs.play.Goals as goal
 
 pub returns : goal.returns

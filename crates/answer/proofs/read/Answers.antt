@@ -5,7 +5,6 @@ use Rattle.deckfile.specs.Reading.{reading}
 use Rattle.answer.specs.Play.{changes}
 use Rattle.arrays.proofs.paste.Parts.{front-within}
 use Rattle.answer.proofs.Texts.{plays_same, filled-file}
-use borrow.Author.Rules.{rules}
 use Rattle.answer.proofs.read.Goals as goal
 
 pub slice_bounds-file-end : goal.slice_bounds-file-end

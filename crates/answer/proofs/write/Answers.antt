@@ -4,7 +4,6 @@ use lib.Seq.{length-take-le}
 use Rattle.answer.specs.Play.{stays, write_text}
 use Rattle.answer.proofs.Texts.{plays, plays_same}
 use Rattle.answer.proofs.Written.{part_length, refused-text, stored-within, stored-room, stored_answer_lem}
-use borrow.Author.Rules.{rules}
 use Rattle.answer.proofs.write.Goals as goal
 
 pub slice_bounds-file-end : goal.slice_bounds-file-end

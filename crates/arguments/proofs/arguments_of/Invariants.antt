@@ -1,13 +1,10 @@
 -- `arguments::arguments_of` meets its contract. The invariant: the numbers asked for are those so far and those of the words from `at`
 -- on. The measure: how many bytes are left.
-use mathlib.Core.Path.{◌≡◌, sym}
+use mathlib.Core.Path.{◌≡◌}
 use Prim.Native.Nat.{◌-◌}
-use native.Mathlib.Omega.{arith}
-use borrow.Author.Rules.{rules}
 use lib.ListN.{length, drop}
 use Rattle.words.specs.Words.{words_of}
 use Rattle.arguments.specs.Arguments.{arguments_from, arguments_of}
-use Rattle.arguments.proofs.Numbers.{arguments_are, numbers_none, numbers_more, numbers_end}
 use Rattle.arguments.proofs.arguments_of.Given as goal
 
 abbrev pub invariant-loop-at : goal.invariant-loop-at

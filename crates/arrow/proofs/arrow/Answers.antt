@@ -1,14 +1,12 @@
 -- `arrow::arrow` meets its contract: the tests on the way to each return are those of the definition, on the same numbers, which are read back
 -- from their bits.
-use mathlib.Core.Path.{◌≡◌, sym, ap, ap₂, subst, ◌∙◌}
+use mathlib.Core.Path.{sym, ap, ap₂, subst, ◌∙◌}
 use mathlib.Core.Bool.{true, ◌&&◌}
 use lib.Dec.{T}
 use lib.IntN.{ℤ}
-use borrow.Author.Rules.{rules}
-use borrow.Author.Tests.{not-true, not-false}
 use Rattle.arrays.proofs.Signed.{read, read_is, read_one}
 use Rattle.arrays.proofs.Test.{and_parts, of_true}
-use Rattle.plane.specs.Point.{Point, point}
+use Rattle.plane.specs.Point.{point}
 use Rattle.arrow.specs.declared.Indication.TheVariants as indication
 use Rattle.table.specs.Table.{in_table, entry}
 use Rattle.arrow.specs.Arrow.{is_pitch}

@@ -1,6 +1,5 @@
 -- `arrow::entry` meets its contract: the constant is the table, and each difference has its place in a row of it.
 use mathlib.Core.Path.{◌∙◌}
-use borrow.Author.Rules.{rules}
 use Rattle.arrays.proofs.Signed.{read_one}
 use Rattle.table.specs.Table.{offset}
 use Rattle.table.proofs.Entries.{entry_is}

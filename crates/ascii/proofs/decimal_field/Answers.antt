@@ -1,6 +1,5 @@
 -- `ascii::decimal_field` meets its contract: a blank, then the digits behind it.
 use native.Mathlib.Omega.{arith}
-use borrow.Author.Rules.{rules}
 use Rattle.arrays.proofs.paste.Parts.{pasted_then}
 use Rattle.ascii.proofs.decimal_field.Goals as goal
 

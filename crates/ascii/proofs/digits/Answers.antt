@@ -2,8 +2,7 @@
 -- digits that stand behind.
 use mathlib.Core.Path.{sym, ◌∙◌}
 use native.Mathlib.Omega.{arith}
-use borrow.Author.Rules.{rules}
-use Rattle.ascii.proofs.Decimals.{Filled, filled_none, filled_end, filled-size, filled_more, filled_full}
+use Rattle.ascii.proofs.Decimals.{filled_none, filled_end, filled-size, filled_more, filled_full}
 use Rattle.ascii.proofs.digits.Goals as goal
 
 pub loop-i-init : goal.loop-i-init

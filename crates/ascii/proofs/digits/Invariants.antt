@@ -1,9 +1,6 @@
 -- `ascii::digits` meets its contract. The invariant: what is left of the number is still to be written in front of the
 -- digits that stand behind.
-use mathlib.Core.Path.{sym, ◌∙◌}
-use native.Mathlib.Omega.{arith}
-use borrow.Author.Rules.{rules}
-use Rattle.ascii.proofs.Decimals.{Filled, filled_none, filled_end, filled-size, filled_more, filled_full}
+use Rattle.ascii.proofs.Decimals.{Filled}
 use Rattle.ascii.proofs.digits.Given as goal
 
 abbrev pub invariant-loop-i : goal.invariant-loop-i

@@ -2,7 +2,6 @@
 use mathlib.Core.Path.{◌∙◌}
 use native.Mathlib.Omega.{arith}
 use lib.IntN.{nat_abs}
-use borrow.Author.Rules.{rules}
 use Rattle.arrays.proofs.Signed.{read_fits, read_one}
 use Rattle.ascii.proofs.Signs.{flip_fits, flip_cast, flip_value, keep_cast, magnitude_small}
 use Rattle.ascii.proofs.magnitude.Goals as goal

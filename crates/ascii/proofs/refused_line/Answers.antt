@@ -1,6 +1,5 @@
 -- `ascii::refused_line` meets its contract: the word, the number and the line feed, each behind the one before.
 use native.Mathlib.Omega.{arith}
-use borrow.Author.Rules.{rules}
 use Rattle.arrays.proofs.paste.Parts.{pasted_then}
 use Rattle.ascii.proofs.refused_line.Goals as goal
 

@@ -1,6 +1,5 @@
 -- `ascii::signed_field` meets its contract: a blank, then the sign and the digits behind it.
 use native.Mathlib.Omega.{arith}
-use borrow.Author.Rules.{rules}
 use Rattle.arrays.proofs.paste.Parts.{pasted_same, pasted_then}
 use Rattle.model.specs.Listing.{signed_decimal}
 use Rattle.arrays.proofs.Signed.{read_one}

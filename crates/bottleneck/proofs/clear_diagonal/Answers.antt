@@ -1,9 +1,8 @@
 -- `bottleneck::clear_diagonal` meets its contract. The invariant: the entries of the numbers below i with themselves are 0.
 use mathlib.Core.Path.{refl}
-use Prim.Native.Nat.{◌+◌, ◌*◌, ◌-◌}
+use Prim.Native.Nat.{◌-◌}
 use native.Mathlib.Omega.{arith}
-use Rattle.keys.specs.Keys.{places}
-use Rattle.kruskal.proofs.Fill.{Filled, fill_none, fill_more}
+use Rattle.kruskal.proofs.Fill.{fill_none, fill_more}
 use Rattle.bottleneck.proofs.clear_diagonal.Goals as goal
 
 pub loop-i-init : goal.loop-i-init

@@ -1,9 +1,7 @@
 -- `bottleneck::clear_diagonal` meets its contract. The invariant: the entries of the numbers below i with themselves are 0.
-use mathlib.Core.Path.{refl}
 use Prim.Native.Nat.{◌+◌, ◌*◌, ◌-◌}
-use native.Mathlib.Omega.{arith}
 use Rattle.keys.specs.Keys.{places}
-use Rattle.kruskal.proofs.Fill.{Filled, fill_none, fill_more}
+use Rattle.kruskal.proofs.Fill.{Filled}
 use Rattle.bottleneck.proofs.clear_diagonal.Given as goal
 
 abbrev pub invariant-loop-i : goal.invariant-loop-i

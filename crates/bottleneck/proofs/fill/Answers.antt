@@ -3,9 +3,8 @@
 use mathlib.Core.Path.{refl}
 use Prim.Native.Nat.{◌-◌}
 use native.Mathlib.Omega.{arith}
-use borrow.Author.Rules.{rules}
 use Rattle.kruskal.proofs.Labels.{labels_none}
-use Rattle.bottleneck.proofs.TablePass.{TablePass, pass_none, pass_skip, pass_merge, pass_end, next-short}
+use Rattle.bottleneck.proofs.TablePass.{pass_none, pass_skip, pass_merge, pass_end, next-short}
 use Rattle.bottleneck.proofs.fill.Goals as goal
 
 pub clear_diagonal-requires : goal.clear_diagonal-requires

@@ -3,7 +3,7 @@ use mathlib.Core.Path.{ap, ◌∙◌}
 use Prim.Native.Nat.{◌+◌, ◌-◌}
 use native.Mathlib.Omega.{arith}
 use lib.ListN.{get_or}
-use Rattle.kruskal.proofs.Fill.{Filled, fill_none, fill_more}
+use Rattle.kruskal.proofs.Fill.{fill_none, fill_more}
 use Rattle.bottleneck.specs.Table.{chosen}
 use Rattle.bottleneck.proofs.fill_row.Goals as goal
 

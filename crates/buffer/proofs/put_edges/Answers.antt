@@ -1,8 +1,7 @@
 -- `buffer::put_edges` meets its contract. The invariant: those passed are put.
 use Prim.Native.Nat.{◌-◌}
 use native.Mathlib.Omega.{arith}
-use borrow.Author.Rules.{rules}
-use Rattle.arrays.proofs.paste.Lines.{PutFirst, each_to, each-first_none, each-first_more, each-first_end}
+use Rattle.arrays.proofs.paste.Lines.{each-first_none, each-first_more, each-first_end}
 use Rattle.sections.specs.Bytes.{ends_bytes}
 use Rattle.buffer.proofs.put_edges.Goals as goal
 

@@ -4,7 +4,6 @@ use Prim.Native.Nat.{ℕ}
 use native.Mathlib.Omega.{arith}
 use Rattle.arrays.proofs.paste.Parts.{pasted_same, pasted_then}
 use Rattle.model.specs.Sections.{pairs_from, header}
-use borrow.Author.Rules.{rules}
 use Rattle.buffer.proofs.put_header.Goals as goal
 
 pub returns : goal.returns

@@ -1,7 +1,6 @@
 -- `buffer::put_pair` meets its contract: one number behind the other.
 use native.Mathlib.Omega.{arith}
 use Rattle.arrays.proofs.paste.Parts.{pasted_then}
-use borrow.Author.Rules.{rules}
 use Rattle.buffer.proofs.put_pair.Goals as goal
 
 pub returns : goal.returns

@@ -1,9 +1,7 @@
 -- `buffer::put_pairs` meets its contract. The invariant: the pairs passed are put, and the next section starts where the last one ends.
 use Prim.Native.Nat.{◌-◌}
-use native.Mathlib.Omega.{arith}
 use lib.ListN.{length}
-use Rattle.buffer.proofs.Pairs.{PairsPut, none_put, pair_put, next-within, all_put}
-use borrow.Author.Rules.{rules}
+use Rattle.buffer.proofs.Pairs.{PairsPut}
 use Rattle.buffer.proofs.put_pairs.Given as goal
 
 abbrev pub invariant-loop-k : goal.invariant-loop-k

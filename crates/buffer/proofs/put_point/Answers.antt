@@ -6,7 +6,6 @@ use native.Mathlib.Omega.{arith}
 use Rattle.arrays.specs.Number.{bytes2}
 use Rattle.arrays.proofs.paste.Parts.{pasted_same, pasted_then}
 use Rattle.plane.specs.Coordinate.{coordinate, word16}
-use borrow.Author.Rules.{rules}
 use Rattle.buffer.proofs.put_point.Goals as goal
 
 pub returns : goal.returns

@@ -1,8 +1,6 @@
 -- `buffer::put_points` meets its contract. The invariant: those passed are put.
 use Prim.Native.Nat.{◌-◌}
-use native.Mathlib.Omega.{arith}
-use borrow.Author.Rules.{rules}
-use Rattle.arrays.proofs.paste.Lines.{PutFirst, each_to, each-first_none, each-first_more, each-first_end}
+use Rattle.arrays.proofs.paste.Lines.{PutFirst, each_to}
 use Rattle.sections.specs.Bytes.{code_bytes}
 use Rattle.buffer.proofs.put_points.Given as goal
 

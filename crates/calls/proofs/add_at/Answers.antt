@@ -1,15 +1,10 @@
 -- `calls::add_at` meets its contract: the tests for 15, 8 and 10 in turn, else the pin joins, and its kind with it.
-use mathlib.Core.Path.{◌≡◌, sym, ◌∙◌, subst}
-use mathlib.Core.Bool.{Bool}
+use mathlib.Core.Path.{sym, ◌∙◌, subst}
 use Prim.Native.Nat.{ℕ, ◌≤◌, ◌<◌}
 use native.Mathlib.Omega.{arith}
 use borrow.Author.Tests.{leb-true, leb-false, ltb-true, ltb-false}
-use Rattle.plane.specs.Code.{point_of}
-use Rattle.model.specs.Call.{holds_pin}
-use Rattle.working.specs.InOrder.{state_of}
 use Rattle.rounds.proofs.Round.{point_room_lem}
 use Rattle.calls.proofs.PointCalls.{in_range_lem, refused_is, done_is, add-no_kind, add-there, add_full, add_done, pin_there_lem, pin_count_lem}
-use borrow.Author.Rules.{rules}
 use Rattle.calls.proofs.add_at.Goals as goal
 
 pub returns-then-unknown : goal.returns-then-unknown

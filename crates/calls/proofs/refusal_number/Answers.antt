@@ -1,7 +1,6 @@
 -- `calls::refusal_number` meets its contract, case by case.
 use mathlib.Core.Path.{sym, ap}
 use Rattle.calls.specs.Changes.{refusal_number}
-use borrow.Author.Rules.{rules}
 use Rattle.calls.proofs.refusal_number.Goals as goal
 
 pub returns-in-Done : goal.returns-in-Done

@@ -1,6 +1,5 @@
 -- `calls::round` meets its contract, by that of `rounds::round_of`.
 use Rattle.calls.proofs.RoundCalls.{round_is}
-use borrow.Author.Rules.{rules}
 use Rattle.calls.proofs.round.Goals as goal
 
 pub round_of-t-requires : goal.round_of-t-requires

@@ -1,7 +1,6 @@
 -- `calls::set_tail` meets its contract: the test for 16, else the tail is another and all else is kept.
 use Rattle.calls.proofs.PointCalls.{refused_is}
 use Rattle.calls.proofs.RoundCalls.{tail-refused, tail-set}
-use borrow.Author.Rules.{rules}
 use Rattle.calls.proofs.set_tail.Goals as goal
 
 pub returns-then-given-gt-LONGEST_TAIL : goal.returns-then-given-gt-LONGEST_TAIL

@@ -3,7 +3,6 @@ use mathlib.Core.Path.{◌∙◌}
 use Rattle.model.specs.Call as call
 use Rattle.plane.proofs.codes.Points.{read-located, out-located, located_is}
 use Rattle.calls.proofs.PointCalls.{refused_is, by_point, withdraw_none, none_outside}
-use borrow.Author.Rules.{rules}
 use Rattle.calls.proofs.withdraw.Goals as goal
 
 pub withdraw_at-requires : goal.withdraw_at-requires

@@ -1,8 +1,6 @@
 -- `calls::withdraw_at` meets its contract: the test for 9, else the pin leaves, and its kind with it.
 use mathlib.Core.Path.{sym, ◌∙◌}
-use borrow.Author.Tests.{not-true, not-false}
 use Rattle.calls.proofs.PointCalls.{refused_is, done_is, withdraw_none, withdraw-done, pin_there_lem}
-use borrow.Author.Rules.{rules}
 use Rattle.calls.proofs.withdraw_at.Goals as goal
 
 pub returns-then-not-has : goal.returns-then-not-has

@@ -4,7 +4,6 @@ use mir.Syntax.{w32}
 use mir.ValLaws.{to_z-of_z}
 use Rattle.columns.specs.declared.Choice.TheVariants.{Candidate}
 use Rattle.columns.specs.Found.{choice_with}
-use borrow.Author.Rules.{rules}
 use Rattle.columns.proofs.choice_of.Goals as goal
 
 pub returns-in-At : goal.returns-in-At

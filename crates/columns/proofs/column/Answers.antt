@@ -13,7 +13,6 @@ use Rattle.working.proofs.InOrder.{arranged-placed}
 use Rattle.columns.specs.Column.{column_answer}
 use Rattle.columns.specs.Found.{choice_of}
 use Rattle.columns.proofs.Found.{located-small, column_found, out-column}
-use borrow.Author.Rules.{rules}
 use Rattle.columns.proofs.column.Goals as goal
 
 zero-fits : SFits w32 (pos 0)

@@ -2,9 +2,8 @@
 use Prim.Native.Nat.{◌-◌}
 use native.Mathlib.Omega.{arith}
 use lib.ListN.{take}
-use Rattle.arrays.proofs.paste.Lines.{PutFirst, each_to, each-first_none, each-first_more, each-first_end}
-use Rattle.columns.proofs.Rows.{free_row, rows-put}
-use borrow.Author.Rules.{rules}
+use Rattle.arrays.proofs.paste.Lines.{each-first_none, each-first_more, each-first_end}
+use Rattle.columns.proofs.Rows.{rows-put}
 use Rattle.columns.proofs.free_rows.Goals as goal
 
 pub loop-row-init : goal.loop-row-init

@@ -1,10 +1,8 @@
 -- `columns::free_rows` meets its contract. The invariant: of the rows seen, those that are free stand at the front of `free`.
 use Prim.Native.Nat.{◌-◌}
-use native.Mathlib.Omega.{arith}
 use lib.ListN.{take}
-use Rattle.arrays.proofs.paste.Lines.{PutFirst, each_to, each-first_none, each-first_more, each-first_end}
-use Rattle.columns.proofs.Rows.{free_row, rows-put}
-use borrow.Author.Rules.{rules}
+use Rattle.arrays.proofs.paste.Lines.{PutFirst, each_to}
+use Rattle.columns.proofs.Rows.{free_row}
 use Rattle.columns.proofs.free_rows.Given as goal
 
 abbrev pub invariant-loop-row : goal.invariant-loop-row

@@ -1,8 +1,5 @@
 -- `columns::greatest` meets its contract: no row of the column is held, and no point has its x; or the search is over its candidates.
-use mathlib.Core.Path.{◌≡◌}
 use native.Mathlib.Omega.{arith}
-use lib.ListN.{length}
-use Rattle.search.specs.Search.{Lines}
 use Rattle.crossing.proofs.prepare.Values.{lines-written}
 use Rattle.rounds.proofs.Search.{given}
 use Rattle.columns.proofs.OfWorking.{free-given, none_found, some_point, greatest_found}

@@ -1,7 +1,6 @@
 -- `columns::put_free` meets its contract, by the two outcomes of its test.
 use native.Mathlib.Omega.{arith}
 use Rattle.columns.proofs.Rows.{row-held, row-free}
-use borrow.Author.Rules.{rules}
 use Rattle.columns.proofs.put_free.Goals as goal
 
 pub returns-then-has : goal.returns-then-has

@@ -1,7 +1,6 @@
 -- `commands::are_short` meets its contract: each of the four tests is the definition's.
 use mathlib.Core.Path.{ap₂, ◌∙◌}
 use mathlib.Core.Bool.{◌&&◌}
-use borrow.Author.Rules.{rules}
 use Rattle.arrays.proofs.Signed.{read-four}
 use Rattle.commands.specs.Commands.{are_short}
 use Rattle.commands.proofs.are_short.Goals as goal

@@ -1,6 +1,5 @@
 -- `commands::by_name` meets its contract: the names are tried one after the other.
 use mathlib.Core.Path.{sym, ◌∙◌}
-use borrow.Author.Rules.{rules}
 use Rattle.commands.proofs.Names.{alone_write, alone_round, alone_finish, alone_list, alone_question}
 use Rattle.commands.proofs.by_name.Goals as goal
 

@@ -1,6 +1,5 @@
 -- `commands::question_word` meets its contract: the names of questions are tried one after the other.
 use mathlib.Core.Path.{sym, ◌∙◌}
-use borrow.Author.Rules.{rules}
 use Rattle.commands.proofs.Names.{question_length, question_counts, question_kinds, question_none}
 use Rattle.commands.proofs.question_word.Goals as goal
 

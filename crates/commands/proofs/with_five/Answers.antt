@@ -1,10 +1,8 @@
 -- `commands::with_five` meets its contract: the name and the four places are tested, and each number is read back from its bits.
-use mathlib.Core.Path.{◌≡◌, sym, ◌∙◌}
+use mathlib.Core.Path.{sym, ◌∙◌}
 use mathlib.Core.Bool.{true}
 use mir.Syntax.{w32}
 use mir.ValLaws.{to_z-of_z}
-use borrow.Author.Rules.{rules}
-use borrow.Author.Tests.{not-true, not-false}
 use Rattle.arrays.proofs.Signed.{read-four, cut_fits, cut_read}
 use Rattle.commands.specs.declared.Command.TheVariants.{Direct}
 use Rattle.commands.specs.declared.Direction.TheVariants.{Arrow}

@@ -7,7 +7,6 @@ use lib.Signed.{lt_z}
 use mir.Syntax.{w32}
 use mir.Val.{SFits}
 use native.Mathlib.Omega.{arith}
-use borrow.Author.Rules.{rules}
 use Rattle.arrays.proofs.Signed.{read, read_one, read_fits, not_negative}
 use Rattle.commands.specs.declared.Command.TheVariants.{Ask, Direct}
 use Rattle.commands.specs.declared.Query.TheVariants.{Column}

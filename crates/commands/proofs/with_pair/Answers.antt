@@ -1,7 +1,6 @@
 -- `commands::with_pair` meets its contract: the names are tried one after the other, and the numbers are read back from their bits.
 use mathlib.Core.Path.{sym, ◌∙◌}
 use lib.IntN.{ℤ}
-use borrow.Author.Rules.{rules}
 use Rattle.commands.specs.declared.Command.TheVariants.{Call, Ask, Direct}
 use Rattle.commands.specs.declared.Change.TheVariants.{Add, Withdraw}
 use Rattle.commands.specs.declared.Query.TheVariants.{Degree}

@@ -1,6 +1,5 @@
 -- `commands::with_size` meets its contract: the names are tried one after the other.
 use mathlib.Core.Path.{sym, ◌∙◌}
-use borrow.Author.Rules.{rules}
 use Rattle.commands.proofs.Names.{sized-write, sized-run, sized-tail, sized_none}
 use Rattle.commands.proofs.with_size.Goals as goal
 

@@ -3,7 +3,6 @@ use mathlib.Core.Path.{sym, ◌∙◌}
 use Rattle.arrays.proofs.Signed.{read-three}
 use Rattle.commands.specs.Commands.{with_kind}
 use Rattle.commands.proofs.Names.{three-add, three_none}
-use borrow.Author.Rules.{rules}
 use Rattle.commands.proofs.with_three.Goals as goal
 
 pub returns-then-same_bytes : goal.returns-then-same_bytes

@@ -1,5 +1,4 @@
 -- `crossing::best` meets its contract: with no point there is no crossing, and else the search finds the best.
-use borrow.Author.Rules.{rules}
 use Rattle.crossing.proofs.Candidates.{none_best}
 use Rattle.crossing.proofs.best.Goals as goal
 

@@ -1,5 +1,4 @@
 -- `crossing::greatest_in_column` meets its contract: from no gain, the search over the crossings of the column finds the greatest, and no gain is large.
-use borrow.Author.Rules.{rules}
 use Rattle.score.proofs.Geometry.{column-given}
 use Rattle.crossing.proofs.Candidates.{found_fits}
 use Rattle.crossing.proofs.greatest_in_column.Goals as goal

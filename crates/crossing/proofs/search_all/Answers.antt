@@ -1,7 +1,6 @@
 -- `crossing::search_all` meets its contract: from the tree itself, the search over the crossings of the columns and the rows finds the
 -- best candidate.
 use native.Mathlib.Omega.{arith}
-use borrow.Author.Rules.{rules}
 use Rattle.score.proofs.Geometry.{column-given}
 use Rattle.search.specs.Search.{Lines}
 use Rattle.crossing.proofs.prepare.Values.{lines-written, lines-rise}

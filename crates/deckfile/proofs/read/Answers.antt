@@ -1,7 +1,6 @@
 -- `deckfile::read` meets its contract: the deck of the working form.
 use mathlib.Core.Path.{◌∙◌}
 use Rattle.deckfile.proofs.reader.LastCheck.{read_outcome_lem}
-use borrow.Author.Rules.{rules}
 use Rattle.deckfile.proofs.read.Goals as goal
 
 pub returns : goal.returns

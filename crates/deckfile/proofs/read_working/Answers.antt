@@ -1,15 +1,11 @@
 -- `deckfile::read_working` meets its contract: one check after the other, each refused by its number or passed to the next.
-use mathlib.Core.Path.{◌≡◌}
 use mathlib.Core.Bool.{true}
-use mathlib.Core.List.{List}
-use Prim.Native.Nat.{ℕ}
 use Rattle.arrays.proofs.Test.{of_true}
 use Rattle.model.specs.Sections.{laid_out}
 use Rattle.model.specs.File.{headed, whole}
 use Rattle.deckfile.proofs.Checks.{passed, failed, long_enough, sections_of_lem, few-pins, refused_1, refused_2, refused_3, refused_4, refused_5, all_passed}
 use Rattle.deckfile.proofs.reader.LastCheck.{read_as}
 use native.Mathlib.Omega.{arith}
-use borrow.Author.Rules.{rules}
 use Rattle.deckfile.proofs.read_working.Goals as goal
 
 pub returns-then-not-is_headed : goal.returns-then-not-is_headed

@@ -1,9 +1,7 @@
 -- `deckfile::write` meets its contract: the check, then the file of the working form.
-use borrow.Author.Tests.{not-true, not-false}
 use mathlib.Core.Path.{sym, ◌∙◌}
 use Rattle.deck.proofs.Calls.{checked_sound, checked_valid}
 use Rattle.deckfile.proofs.Stored.{write_unsound, write-stored}
-use borrow.Author.Rules.{rules}
 use Rattle.deckfile.proofs.write.Goals as goal
 
 pub returns-then-not-c : goal.returns-then-not-c

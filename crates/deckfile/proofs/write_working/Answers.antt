@@ -1,6 +1,5 @@
 -- `deckfile::write_working` meets its contract: a buffer that is too short, or the file in it.
 use Rattle.deckfile.proofs.Stored.{stored_short, stored-done}
-use borrow.Author.Rules.{rules}
 use Rattle.deckfile.proofs.write_working.Goals as goal
 
 pub returns-then-out-n : goal.returns-then-out-n

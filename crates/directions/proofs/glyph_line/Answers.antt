@@ -1,6 +1,5 @@
 -- `directions::glyph_line` meets its contract: without room nothing is written, and with room the word and the glyph.
 use native.Mathlib.Omega.{arith}
-use borrow.Author.Rules.{rules}
 use Rattle.arrays.proofs.paste.Parts.{pasted_then}
 use Rattle.ascii.proofs.Room.{front_none, front-put}
 use Rattle.directions.proofs.glyph_line.Goals as goal

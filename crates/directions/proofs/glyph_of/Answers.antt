@@ -1,7 +1,6 @@
 -- `directions::glyph_of` meets its contract: by the number's sign, which is that of what is read back from its bits.
 use mathlib.Core.Path.{◌∙◌}
 use native.Mathlib.Omega.{arith}
-use borrow.Author.Rules.{rules}
 use Rattle.arrays.specs.Text.{byte}
 use Rattle.arrays.proofs.Signed.{read, read_one, read_fits, not_negative, if_negative, if_natural_lem}
 use Rattle.arrow.specs.Arrow.{glyph}

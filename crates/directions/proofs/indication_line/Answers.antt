@@ -1,6 +1,5 @@
 -- `directions::indication_line` meets its contract: without room nothing is written, and with room the line of a refusal or of an arrow.
 use mathlib.Core.Path.{sym, ap}
-use borrow.Author.Rules.{rules}
 use Rattle.arrays.proofs.paste.Parts.{pasted_same}
 use Rattle.ascii.proofs.Room.{front_none, front-put}
 use Rattle.directions.specs.Directions.{indication_text}

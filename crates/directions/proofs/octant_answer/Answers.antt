@@ -5,7 +5,6 @@ use Prim.Native.Nat.{ℕ}
 use Rattle.arrays.proofs.paste.Parts.{pasted_same}
 use Rattle.ascii.specs.Text.{fitting}
 use Rattle.directions.proofs.Octant.{octant_none, octant_some}
-use borrow.Author.Rules.{rules}
 use Rattle.directions.proofs.octant_answer.Goals as goal
 
 pub returns-then-k-eq-NO_OCTANT : goal.returns-then-k-eq-NO_OCTANT

@@ -1,6 +1,5 @@
 -- `directions::octant_line` meets its contract: without room nothing is written, and with room the word and the number.
 use Rattle.ascii.proofs.Room.{front_none, front-put}
-use borrow.Author.Rules.{rules}
 use Rattle.directions.proofs.octant_line.Goals as goal
 
 pub returns-then-out-lt-LINE_ROOM : goal.returns-then-out-lt-LINE_ROOM

@@ -1,6 +1,5 @@
 -- `drawing::put_foot` meets its contract: the legend's place, the legend, and the caption.
 use native.Mathlib.Omega.{arith}
-use borrow.Author.Rules.{rules}
 use Rattle.arrays.proofs.paste.Parts.{pasted_then}
 use Rattle.drawing.proofs.Parts.{foot_put}
 use Rattle.drawing.proofs.put_foot.Goals as goal

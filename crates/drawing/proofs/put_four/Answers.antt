@@ -1,6 +1,5 @@
 -- `drawing::put_four` meets its contract: each text stands behind the one before.
 use native.Mathlib.Omega.{arith}
-use borrow.Author.Rules.{rules}
 use Rattle.arrays.proofs.paste.Parts.{pasted_then}
 use Rattle.drawing.proofs.put_four.Goals as goal
 

@@ -1,6 +1,5 @@
 -- `drawing::put_head` meets its contract: the size, the symbols, and the ground.
 use native.Mathlib.Omega.{arith}
-use borrow.Author.Rules.{rules}
 use Rattle.arrays.proofs.paste.Parts.{pasted_then}
 use Rattle.drawing.proofs.Parts.{head_put}
 use Rattle.drawing.proofs.put_head.Goals as goal

@@ -1,6 +1,5 @@
 -- `drawing::put_numbered` meets its contract: by the number of the symbol.
 use native.Mathlib.Omega.{arith}
-use borrow.Author.Rules.{rules}
 use Rattle.drawing.proofs.Symbols.{kind_put, tap-put}
 use Rattle.drawing.proofs.put_numbered.Goals as goal
 

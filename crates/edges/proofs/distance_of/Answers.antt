@@ -2,7 +2,6 @@
 use mathlib.Core.Path.{◌∙◌}
 use Rattle.plane.specs.Point.{dist}
 use Rattle.plane.specs.Stored.{point_at}
-use borrow.Author.Rules.{rules}
 use Rattle.edges.proofs.distance_of.Goals as goal
 
 pub returns : goal.returns

@@ -1,7 +1,6 @@
 -- `frame::across` meets its contract: the middle of the picture, half the width to the left, and from there on.
 use mathlib.Core.Path.{ap₂}
 use Prim.Native.Nat.{ℕ, ◌+◌, ◌*◌, ◌-◌}
-use borrow.Author.Rules.{rules}
 use Rattle.frame.specs.Frame.{across_at}
 use Rattle.frame.proofs.across.Goals as goal
 

@@ -1,7 +1,6 @@
 -- `frame::down` meets its contract: the margin, and from the upper side of the box down.
 use mathlib.Core.Path.{ap₂}
 use Prim.Native.Nat.{ℕ, ◌+◌, ◌*◌}
-use borrow.Author.Rules.{rules}
 use Rattle.frame.specs.Frame.{down_at}
 use Rattle.frame.proofs.down.Goals as goal
 

@@ -1,5 +1,4 @@
 -- `frame::frame_of` meets its contract: what was found along each axis makes the box.
-use borrow.Author.Rules.{rules}
 use Rattle.frame.proofs.Box.{box_is}
 use Rattle.frame.proofs.frame_of.Goals as goal
 

@@ -1,6 +1,5 @@
 -- `frame::long_side` meets its contract: the larger of two, twice.
 use native.Mathlib.Omega.{arith}
-use borrow.Author.Rules.{rules}
 use Rattle.frame.specs.Frame.{long_side}
 use Rattle.frame.proofs.long_side.Goals as goal
 

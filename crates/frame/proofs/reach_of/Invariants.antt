@@ -1,7 +1,5 @@
 -- `frame::reach_of` meets its contract. The invariant: low and high are the least and the greatest from place i on. The measure: i.
-use native.Mathlib.Omega.{arith}
-use borrow.Author.Rules.{rules}
-use Rattle.frame.proofs.Extremes.{ReachFrom, reach_last, reach_more, reach_all, reach_none}
+use Rattle.frame.proofs.Extremes.{ReachFrom}
 use Rattle.frame.proofs.reach_of.Given as goal
 
 abbrev pub invariant-loop-i : goal.invariant-loop-i

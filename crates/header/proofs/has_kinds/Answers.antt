@@ -1,7 +1,6 @@
 -- `header::has_kinds` meets its contract: the count of sections says it.
 use mathlib.Core.Path.{ap}
 use lib.Dec.{ltb}
-use borrow.Author.Rules.{rules}
 use Rattle.header.proofs.has_kinds.Goals as goal
 
 pub returns : goal.returns

@@ -1,8 +1,6 @@
 -- `header::is_headed` meets its contract: one test after the other.
 use mathlib.Core.Path.{sym, ◌∙◌}
-use borrow.Author.Tests.{not-true, not-false}
 use Rattle.header.proofs.Checks.{head_short, head_long, head_other, head_count}
-use borrow.Author.Rules.{rules}
 use lib.Seq.{length-take-le}
 use native.Mathlib.Omega.{arith}
 use Rattle.header.proofs.is_headed.Goals as goal

@@ -1,9 +1,7 @@
 -- `header::is_laid_out` meets its contract. The invariant: the sections passed follow one another, and the others decide.
-use mathlib.Core.List.{List}
-use Prim.Native.Nat.{ℕ, ◌-◌}
+use Prim.Native.Nat.{◌-◌}
 use native.Mathlib.Omega.{arith}
-use Rattle.header.proofs.Checks.{Passed, pairs_missing, none_passed, next_passed, apart, all_passed}
-use borrow.Author.Rules.{rules}
+use Rattle.header.proofs.Checks.{pairs_missing, none_passed, next_passed, apart, all_passed}
 use Rattle.header.proofs.is_laid_out.Goals as goal
 
 pub returns-then-b-at : goal.returns-then-b-at

@@ -1,9 +1,6 @@
 -- `header::is_laid_out` meets its contract. The invariant: the sections passed follow one another, and the others decide.
-use mathlib.Core.List.{List}
-use Prim.Native.Nat.{ℕ, ◌-◌}
-use native.Mathlib.Omega.{arith}
-use Rattle.header.proofs.Checks.{Passed, pairs_missing, none_passed, next_passed, apart, all_passed}
-use borrow.Author.Rules.{rules}
+use Prim.Native.Nat.{◌-◌}
+use Rattle.header.proofs.Checks.{Passed}
 use Rattle.header.proofs.is_laid_out.Given as goal
 
 abbrev pub invariant-loop-k : goal.invariant-loop-k

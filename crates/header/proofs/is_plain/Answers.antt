@@ -1,6 +1,5 @@
 -- `header::is_plain` meets its contract: one test after the other.
 use Rattle.header.proofs.Checks.{plain-steiner, plain-edges}
-use borrow.Author.Rules.{rules}
 use native.Mathlib.Omega.{arith}
 use Rattle.header.proofs.is_plain.Goals as goal
 

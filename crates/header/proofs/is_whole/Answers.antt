@@ -1,6 +1,5 @@
 -- `header::is_whole` meets its contract: one test after the other.
 use Rattle.header.proofs.Checks.{whole-pins, whole-steiner, whole-edges}
-use borrow.Author.Rules.{rules}
 use native.Mathlib.Omega.{arith}
 use Rattle.header.proofs.is_whole.Goals as goal
 

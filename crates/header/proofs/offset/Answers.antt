@@ -1,7 +1,6 @@
 -- `header::offset` meets its contract: the pair of section k stands where a header of k sections ends.
 use mathlib.Core.Path.{ap, ◌∙◌}
 use Rattle.arrays.specs.Number.{number4}
-use borrow.Author.Rules.{rules}
 use Rattle.header.proofs.offset.Goals as goal
 
 pub returns : goal.returns

@@ -2,7 +2,6 @@
 use mathlib.Core.Path.{ap, ◌∙◌}
 use Prim.Native.Nat.{ℕ, ◌+◌}
 use Rattle.arrays.specs.Number.{number4}
-use borrow.Author.Rules.{rules}
 use Rattle.header.proofs.size.Goals as goal
 
 pub returns : goal.returns

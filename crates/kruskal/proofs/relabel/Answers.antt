@@ -2,9 +2,8 @@
 use mathlib.Core.Path.{ap, ◌∙◌}
 use Prim.Native.Nat.{◌-◌}
 use native.Mathlib.Omega.{arith}
-use lib.ListN.{get_or}
 use Rattle.kruskal.specs.Labels.{moved}
-use Rattle.kruskal.proofs.Fill.{Filled, fill_none, fill_more}
+use Rattle.kruskal.proofs.Fill.{fill_none, fill_more}
 use Rattle.kruskal.proofs.relabel.Goals as goal
 
 pub loop-i-init : goal.loop-i-init

@@ -1,10 +1,8 @@
 -- `kruskal::relabel` meets its contract. The invariant: the labels below i are moved, and the others are as they were.
-use mathlib.Core.Path.{ap, ◌∙◌}
 use Prim.Native.Nat.{◌-◌}
-use native.Mathlib.Omega.{arith}
 use lib.ListN.{get_or}
 use Rattle.kruskal.specs.Labels.{moved}
-use Rattle.kruskal.proofs.Fill.{Filled, fill_none, fill_more}
+use Rattle.kruskal.proofs.Fill.{Filled}
 use Rattle.kruskal.proofs.relabel.Given as goal
 
 abbrev pub invariant-loop-i : goal.invariant-loop-i

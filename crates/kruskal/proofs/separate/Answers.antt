@@ -1,8 +1,8 @@
 -- `kruskal::separate` meets its contract. The invariant: the labels below i are their own numbers.
-use mathlib.Core.Path.{◌≡◌, refl}
+use mathlib.Core.Path.{refl}
 use Prim.Native.Nat.{◌-◌}
 use native.Mathlib.Omega.{arith}
-use Rattle.kruskal.proofs.Fill.{Filled, fill_none, fill_more}
+use Rattle.kruskal.proofs.Fill.{fill_none, fill_more}
 use Rattle.kruskal.proofs.separate.Goals as goal
 
 pub loop-i-init : goal.loop-i-init

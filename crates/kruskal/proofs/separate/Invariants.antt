@@ -1,8 +1,7 @@
 -- `kruskal::separate` meets its contract. The invariant: the labels below i are their own numbers.
-use mathlib.Core.Path.{◌≡◌, refl}
+use mathlib.Core.Path.{◌≡◌}
 use Prim.Native.Nat.{◌-◌}
-use native.Mathlib.Omega.{arith}
-use Rattle.kruskal.proofs.Fill.{Filled, fill_none, fill_more}
+use Rattle.kruskal.proofs.Fill.{Filled}
 use Rattle.kruskal.proofs.separate.Given as goal
 
 abbrev pub invariant-loop-i : goal.invariant-loop-i

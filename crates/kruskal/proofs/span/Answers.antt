@@ -3,9 +3,8 @@
 use mathlib.Core.Path.{refl}
 use Prim.Native.Nat.{◌-◌}
 use native.Mathlib.Omega.{arith}
-use borrow.Author.Rules.{rules}
 use Rattle.kruskal.proofs.Labels.{labels_none}
-use Rattle.kruskal.proofs.Pass.{Pass, pass_none, pass_skip, pass_keep, pass_end}
+use Rattle.kruskal.proofs.Pass.{pass_none, pass_skip, pass_keep, pass_end}
 use Rattle.kruskal.proofs.span.Goals as goal
 
 pub slice_bounds-separate-end : goal.slice_bounds-separate-end

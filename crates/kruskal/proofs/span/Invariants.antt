@@ -1,11 +1,7 @@
 -- `kruskal::span` meets its contract. The invariant: the labels are those of the keys kept so far, and these, with what Kruskal's
 -- method keeps of the rest, are all that it keeps. A key between two labels is kept, and one within a label is skipped.
-use mathlib.Core.Path.{refl}
 use Prim.Native.Nat.{◌-◌}
-use native.Mathlib.Omega.{arith}
-use borrow.Author.Rules.{rules}
-use Rattle.kruskal.proofs.Labels.{labels_none}
-use Rattle.kruskal.proofs.Pass.{Pass, pass_none, pass_skip, pass_keep, pass_end}
+use Rattle.kruskal.proofs.Pass.{Pass}
 use Rattle.kruskal.proofs.span.Given as goal
 
 abbrev pub invariant-loop-i : goal.invariant-loop-i

@@ -2,14 +2,12 @@
 use mathlib.Core.Path.{sym, ap, ◌∙◌}
 use mathlib.Core.List.{List}
 use Prim.Native.Nat.{ℕ}
-use borrow.Author.Tests.{not-true, not-false}
 use Rattle.arrays.proofs.paste.Parts.{pasted_same}
 use Rattle.model.specs.Listing.{listing}
 use Rattle.deck.proofs.Calls.{checked_sound, checked_valid}
 use Rattle.ascii.specs.Text.{fitting}
 use Rattle.ascii.proofs.Room.{front_none, front-put}
 use Rattle.listing.proofs.Text.{text-sound, text_unsound}
-use borrow.Author.Rules.{rules}
 use Rattle.listing.proofs.list.Goals as goal
 
 pub returns-then-out-lt-LISTING_ROOM : goal.returns-then-out-lt-LISTING_ROOM

@@ -1,6 +1,5 @@
 -- `listing::list_refusal` meets its contract: without room nothing is written, and with room the line.
 use Rattle.ascii.proofs.Room.{front_none, front-put}
-use borrow.Author.Rules.{rules}
 use Rattle.listing.proofs.list_refusal.Goals as goal
 
 pub returns-then-out-lt-LINE_ROOM : goal.returns-then-out-lt-LINE_ROOM

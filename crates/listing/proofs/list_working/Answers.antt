@@ -3,7 +3,6 @@ use native.Mathlib.Omega.{arith}
 use Rattle.arrays.proofs.paste.Parts.{pasted_then}
 use Rattle.ascii.proofs.Room.{front_none, front-put}
 use Rattle.listing.proofs.Text.{listing-put}
-use borrow.Author.Rules.{rules}
 use Rattle.listing.proofs.list_working.Goals as goal
 
 pub returns-then-out-lt-LISTING_ROOM : goal.returns-then-out-lt-LISTING_ROOM

@@ -1,6 +1,5 @@
 -- `listing::write_taps` meets its contract: a valid state has few Steiner points.
 use native.Mathlib.Omega.{arith}
-use borrow.Author.Rules.{rules}
 use Rattle.model.proofs.FileSize.{steiner_few_lem}
 use Rattle.points.proofs.Coded.{steiner_count_lem}
 use Rattle.listing.proofs.write_taps.Goals as goal

@@ -1,7 +1,6 @@
 -- `measures::edge_kind` meets its contract: the larger of the two kinds looked up.
 use mathlib.Core.Path.{◌∙◌}
 use Prim.Native.Nat.{max}
-use borrow.Author.Rules.{rules}
 use Rattle.measures.proofs.edge_kind.Goals as goal
 
 pub returns : goal.returns

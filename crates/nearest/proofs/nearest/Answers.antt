@@ -1,7 +1,6 @@
 -- `nearest::nearest` meets its contract. The loop's invariant: the table holds the least keys to the points passed.
-use mathlib.Core.Path.{◌≡◌, ap, ◌∙◌}
-use mathlib.Core.Logic.{⊎_elim}
-use Prim.Native.Nat.{ℕ, ◌≤◌, ◌-◌}
+use mathlib.Core.Path.{ap, ◌∙◌}
+use Prim.Native.Nat.{ℕ, ◌-◌}
 use native.Mathlib.Omega.{arith}
 use borrow.Author.Rules.{rules}
 use Rattle.plane.specs.Stored.{point_at}
@@ -22,12 +21,12 @@ loop-j-preserved c = let a = c.args in
     let o = c.octant_between-o in (
       search rules,
       elim c.if-o-lt-OCTANTS.branch [
-        then-o-lt-OCTANTS w ↦
+        | then-o-lt-OCTANTS w ↦
             point_in-octant h (point_at a.x a.y) a.n c.loop-j.j o.result o.ensures.value c.loop-j.best c.if-o-lt-OCTANTS.best
             c.loop-j.invariant.1
             c.key-k.result w.smaller.result (search rules)
             (c.key-k.ensures ∙ ap (λ (d : ℕ). key d c.loop-j.j a.n) c.distance.ensures.value) w.smaller.ensures w.best-is
-      | else-o-lt-OCTANTS w ↦
+        | else-o-lt-OCTANTS w ↦
             point_in_none h (point_at a.x a.y) a.n c.loop-j.j o.result o.ensures.value c.loop-j.best c.if-o-lt-OCTANTS.best
             c.loop-j.invariant.1
             (search rules) w.best-is

@@ -1,14 +1,10 @@
 -- `nearest::nearest` meets its contract. The loop's invariant: the table holds the least keys to the points passed.
-use mathlib.Core.Path.{◌≡◌, ap, ◌∙◌}
-use mathlib.Core.Logic.{⊎_elim}
+use mathlib.Core.Path.{◌≡◌}
 use Prim.Native.Nat.{ℕ, ◌≤◌, ◌-◌}
-use native.Mathlib.Omega.{arith}
-use borrow.Author.Rules.{rules}
 use Rattle.plane.specs.Stored.{point_at}
 use Rattle.keys.specs.Held.{held}
-use Rattle.keys.specs.Keys.{key, least_key, octant_keys}
+use Rattle.keys.specs.Keys.{key, least_key}
 use Rattle.arrays.specs.Tab.{tab}
-use Rattle.nearest.proofs.OctantKeys.{point_in-octant, point_in_none}
 use Rattle.nearest.proofs.nearest.Given as goal
 
 abbrev pub invariant-loop-j : goal.invariant-loop-j

@@ -1,14 +1,11 @@
 -- `octants::octant` meets its contract: the tests on the way to each return say which sector the difference is in. A sum is
 -- taken only of numbers with unlike signs, so it fits and is read back as it is.
-use mathlib.Core.Path.{◌≡◌}
-use Prim.Native.Nat.{ℕ}
 use native.Mathlib.Omega.{arith}
 use lib.IntN.{ℤ, ◌+ℤ◌, +ℤ_comm}
 use mir.Syntax.{w32}
 use mir.ValLaws.{to_z-of_z}
 use Rattle.octants.specs.Octant.{octant}
 use Rattle.plane.proofs.Whole.{add_value}
-use Rattle.octants.proofs.Sector.{SectorOf}
 use Rattle.arrays.proofs.Signed.{read, read_fits}
 use Rattle.plane.proofs.Signed.{tests, sum_fits}
 use Rattle.octants.proofs.Read.{read-octant, read_none}

@@ -3,7 +3,6 @@
 use mathlib.Core.Path.{sym, ap, ◌∙◌}
 use Prim.Native.Nat.{ℕ, ◌+◌}
 use native.Mathlib.Omega.{arith}
-use borrow.Author.Rules.{rules}
 use Rattle.octants.proofs.Between.{between_upper, between_under, between_none}
 use Rattle.octants.proofs.octant_between.Goals as goal
 
@@ -16,10 +15,16 @@ returns-then-is_lower c = let s = c.args in
 
 pub returns-then-is_lower-2 : goal.returns-then-is_lower-2
 returns-then-is_lower-2 c = let s = c.args in
-    record { value = ap (λ (n : ℕ). n + 4) c.passes-below.ensures.value
-          ∙ between_under s.ax s.ay s.bx s.by (sym c.is_lower-else-is_lower.ensures ∙ c.if-is_lower-2.true); upper_bound = omega (arith, c.passes-below.ensures.upper_bound) }
+    record {
+      value = ap (λ (n : ℕ). n + 4) c.passes-below.ensures.value
+          ∙ between_under s.ax s.ay s.bx s.by (sym c.is_lower-else-is_lower.ensures ∙ c.if-is_lower-2.true);
+      upper_bound = omega (arith, c.passes-below.ensures.upper_bound);
+    }
 
 pub returns-else-is_lower-2 : goal.returns-else-is_lower-2
 returns-else-is_lower-2 c = let s = c.args in
-    record { value = between_none s.ax s.ay s.bx s.by (sym c.is_lower.ensures ∙ c.if-is_lower.false)
-          (sym c.is_lower-else-is_lower.ensures ∙ c.if-is_lower-2.false); upper_bound = omega arith }
+    record {
+      value = between_none s.ax s.ay s.bx s.by (sym c.is_lower.ensures ∙ c.if-is_lower.false)
+          (sym c.is_lower-else-is_lower.ensures ∙ c.if-is_lower-2.false);
+      upper_bound = omega arith;
+    }

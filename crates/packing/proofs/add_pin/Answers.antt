@@ -1,5 +1,4 @@
 -- `packing::add_pin` meets its contract: the call on the deck in working form, and the fault by its reply.
-use borrow.Author.Rules.{rules}
 use Rattle.packing.proofs.Steps.{pin_added}
 use Rattle.packing.proofs.add_pin.Goals as goal
 

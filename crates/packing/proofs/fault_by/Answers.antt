@@ -1,6 +1,5 @@
 -- `packing::fault_by` meets its contract, case by case.
 use mathlib.Core.Path.{sym, ap}
-use borrow.Author.Rules.{rules}
 use Rattle.packing.specs.Held.{fault_by}
 use Rattle.packing.proofs.fault_by.Goals as goal
 

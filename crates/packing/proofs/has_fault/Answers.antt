@@ -1,6 +1,5 @@
 -- `packing::has_fault` meets its contract, case by case.
 use mathlib.Core.Path.{sym, ap}
-use borrow.Author.Rules.{rules}
 use Rattle.packing.specs.Packing.{has_fault}
 use Rattle.packing.proofs.has_fault.Goals as goal
 

@@ -1,6 +1,5 @@
 -- `packing::line` meets its contract: the next line where there is no fault, and else nothing.
 use mathlib.Core.Path.{sym, ◌∙◌}
-use borrow.Author.Rules.{rules}
 use Rattle.packing.proofs.Steps.{line-next, line-after-fault}
 use Rattle.packing.proofs.line.Goals as goal
 

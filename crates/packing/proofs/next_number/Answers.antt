@@ -1,5 +1,4 @@
 -- `packing::next_number` meets its contract: one more, or the largest.
-use borrow.Author.Rules.{rules}
 use Rattle.packing.proofs.Steps.{number_more, number_stops}
 use Rattle.packing.proofs.next_number.Goals as goal
 

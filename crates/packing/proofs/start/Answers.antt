@@ -1,5 +1,4 @@
 -- `packing::start` meets its contract: the deck is empty.
-use borrow.Author.Rules.{rules}
 use Rattle.packing.proofs.Steps.{started}
 use Rattle.packing.proofs.start.Goals as goal
 

@@ -1,6 +1,5 @@
 -- `picture::draw_working` meets its contract: the parts of the picture in turn, each behind the one before.
 use native.Mathlib.Omega.{arith}
-use borrow.Author.Rules.{rules}
 use Rattle.arrays.proofs.paste.Parts.{pasted_then}
 use Rattle.ascii.proofs.Room.{front_none, front-put}
 use Rattle.picture.specs.Rooms.{picture_room}

@@ -27,5 +27,8 @@ returns c = let arranged = c.requires.in_order.arranged in
     let few = steiner_few_lem _ c.requires.valid_contents.state in
     let count = steiner_count_lem _ arranged in
     let steiner = arranged.steiner_codes in
-    record { pasted = points-put _ c.args.d (omega (arith, steiner.few, steiner.size)) (omega (arith, steiner.few))
-          (pasted_then c.put_symbols-next.ensures.pasted (omega (arith, c.put_symbols-next.ensures.upper_bound, c.requires.points_room_in_bounds, arranged.pin_codes.few)) c.put_symbols.ensures.pasted); upper_bound = omega (arith, c.put_symbols-next.ensures.upper_bound, c.put_symbols.ensures.upper_bound, arranged.pin_codes.few, few, count) }
+    record {
+      pasted = points-put _ c.args.d (omega (arith, steiner.few, steiner.size)) (omega (arith, steiner.few))
+          (pasted_then c.put_symbols-next.ensures.pasted (omega (arith, c.put_symbols-next.ensures.upper_bound, c.requires.points_room_in_bounds, arranged.pin_codes.few)) c.put_symbols.ensures.pasted);
+      upper_bound = omega (arith, c.put_symbols-next.ensures.upper_bound, c.put_symbols.ensures.upper_bound, arranged.pin_codes.few, few, count);
+    }

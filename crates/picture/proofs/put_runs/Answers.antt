@@ -1,8 +1,7 @@
 -- `picture::put_runs` meets its contract. The invariant: the paths of the runs passed are put. The measure: how many are left.
 use Prim.Native.Nat.{◌-◌}
 use native.Mathlib.Omega.{arith}
-use borrow.Author.Rules.{rules}
-use Rattle.arrays.proofs.paste.Lines.{PutFirst, first_none, first_more, first_end, each_none}
+use Rattle.arrays.proofs.paste.Lines.{first_none, first_more, first_end, each_none}
 use Rattle.arrays.proofs.paste.Parts.{pasted_same}
 use Rattle.model.specs.Question.{listed}
 use Rattle.model.proofs.FileSize.{edges_few}

@@ -1,8 +1,7 @@
 -- `picture::put_symbols` meets its contract. The invariant: the symbols of the points passed are put. The measure: how many are left.
 use Prim.Native.Nat.{◌-◌}
 use native.Mathlib.Omega.{arith}
-use borrow.Author.Rules.{rules}
-use Rattle.arrays.proofs.paste.Lines.{PutFirst, first_none, first_more, first_end}
+use Rattle.arrays.proofs.paste.Lines.{first_none, first_more, first_end}
 use Rattle.frame.specs.Stored.{box_in}
 use Rattle.drawing.specs.Rooms.{symbol_room}
 use Rattle.picture.proofs.Texts.{symbols_to, symbol_none, symbol_more}
@@ -33,6 +32,9 @@ pub shape_of-out : goal.shape_of-out
 shape_of-out c = c.loop-i.invariant.same
 
 pub returns : goal.returns
-returns c = record { pasted = (first_end (symbols_to (box_in c.args.f) c.args.symbols.now c.args.codes.now) symbol_room _ _ _ _ _ _ c.loop-i.invariant
-    c.loop-i-test.false).0; upper_bound = (first_end (symbols_to (box_in c.args.f) c.args.symbols.now c.args.codes.now) symbol_room _ _ _ _ _ _ c.loop-i.invariant
-    c.loop-i-test.false).1 }
+returns c = record {
+  pasted = (first_end (symbols_to (box_in c.args.f) c.args.symbols.now c.args.codes.now) symbol_room _ _ _ _ _ _ c.loop-i.invariant
+      c.loop-i-test.false).0;
+  upper_bound = (first_end (symbols_to (box_in c.args.f) c.args.symbols.now c.args.codes.now) symbol_room _ _ _ _ _ _ c.loop-i.invariant
+      c.loop-i-test.false).1;
+}

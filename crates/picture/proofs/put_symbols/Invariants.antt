@@ -1,11 +1,9 @@
 -- `picture::put_symbols` meets its contract. The invariant: the symbols of the points passed are put. The measure: how many are left.
 use Prim.Native.Nat.{◌-◌}
-use native.Mathlib.Omega.{arith}
-use borrow.Author.Rules.{rules}
-use Rattle.arrays.proofs.paste.Lines.{PutFirst, first_none, first_more, first_end}
+use Rattle.arrays.proofs.paste.Lines.{PutFirst}
 use Rattle.frame.specs.Stored.{box_in}
 use Rattle.drawing.specs.Rooms.{symbol_room}
-use Rattle.picture.proofs.Texts.{symbols_to, symbol_none, symbol_more}
+use Rattle.picture.proofs.Texts.{symbols_to}
 use Rattle.picture.proofs.put_symbols.Given as goal
 
 abbrev pub invariant-loop-i : goal.invariant-loop-i

@@ -4,10 +4,8 @@ use Prim.Native.Nat.{◌-◌}
 use native.Mathlib.Omega.{arith}
 use lib.ListN.{length}
 use lib.Seq.{take-length}
-use borrow.Author.Rules.{rules}
-use borrow.Author.Tests.{not-true, not-false}
 use Rattle.arrays.specs.Set.{all}
-use Rattle.sorted.proofs.Scan.{Passed, passed_none, passed_more, passed_fail, passed_end}
+use Rattle.sorted.proofs.Scan.{passed_none, passed_more, passed_fail, passed_end}
 use Rattle.pin_line.specs.PinLines.{is_plain}
 use Rattle.pin_line.proofs.all_plain.Goals as goal
 

@@ -1,13 +1,7 @@
 -- `pin_line::all_plain` meets its contract. The invariant: the bytes passed pass the test.
-use mathlib.Core.Path.{ap, ◌∙◌}
 use Prim.Native.Nat.{◌-◌}
-use native.Mathlib.Omega.{arith}
 use lib.ListN.{length}
-use lib.Seq.{take-length}
-use borrow.Author.Rules.{rules}
-use borrow.Author.Tests.{not-true, not-false}
-use Rattle.arrays.specs.Set.{all}
-use Rattle.sorted.proofs.Scan.{Passed, passed_none, passed_more, passed_fail, passed_end}
+use Rattle.sorted.proofs.Scan.{Passed}
 use Rattle.pin_line.specs.PinLines.{is_plain}
 use Rattle.pin_line.proofs.all_plain.Given as goal
 

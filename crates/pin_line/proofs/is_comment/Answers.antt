@@ -1,5 +1,4 @@
 -- `pin_line::is_comment` meets its contract: by whether there is a first byte.
-use borrow.Author.Rules.{rules}
 use Rattle.pin_line.proofs.PinLines.{comment_none, comment_first}
 use Rattle.pin_line.proofs.is_comment.Goals as goal
 

@@ -1,7 +1,5 @@
 -- `pin_line::of_text` meets its contract: a byte that is not white space here, or the numbers of the words.
 use mathlib.Core.Path.{sym, ◌∙◌}
-use borrow.Author.Rules.{rules}
-use borrow.Author.Tests.{not-true, not-false}
 use Rattle.pin_line.proofs.PinLines.{text_broken, text-plain}
 use Rattle.pin_line.proofs.of_text.Goals as goal
 

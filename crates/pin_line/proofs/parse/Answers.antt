@@ -1,7 +1,6 @@
 -- `pin_line::parse` meets its contract: a comment, a line that is too long, or the text of the line.
 use mathlib.Core.Path.{sym, ◌∙◌}
 use lib.Seq.{length-take-le}
-use borrow.Author.Rules.{rules}
 use Rattle.pin_line.proofs.PinLines.{line_comment, line-long, line-text}
 use Rattle.pin_line.proofs.parse.Goals as goal
 

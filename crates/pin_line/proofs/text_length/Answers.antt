@@ -1,5 +1,4 @@
 -- `pin_line::text_length` meets its contract: by whether there is a last byte, and whether it is a carriage return.
-use borrow.Author.Rules.{rules}
 use Rattle.pin_line.proofs.PinLines.{text_none, text_cut, text-whole}
 use Rattle.pin_line.proofs.text_length.Goals as goal
 

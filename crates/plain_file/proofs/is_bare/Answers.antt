@@ -1,6 +1,5 @@
 -- `plain_file::is_bare` meets its contract: there are places for the kinds.
 use mathlib.Core.Path.{◌≡◌, sym}
-use Prim.Native.Nat.{◌≤◌}
 use native.Mathlib.Omega.{arith}
 use lib.ListN.{length}
 use lib.Seq.{length-take-le}

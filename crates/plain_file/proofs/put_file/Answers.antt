@@ -1,7 +1,5 @@
 -- `plain_file::put_file` meets its contract: the parts are those of the plain file.
-use mathlib.Core.Path.{◌≡◌}
 use native.Mathlib.Omega.{arith}
-use lib.ListN.{length}
 use Rattle.arrays.proofs.paste.Parts.{pasted_same}
 use Rattle.plain_file.proofs.Parts.{plain_parts_lem}
 use borrow.Author.Rules.{rules}

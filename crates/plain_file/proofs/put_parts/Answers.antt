@@ -1,7 +1,6 @@
 -- `plain_file::put_parts` meets its contract: the header, the pins and the kinds, each behind the one before.
 use native.Mathlib.Omega.{arith}
 use Rattle.plain_file.proofs.Parts.{header-fits, pins_fit, kinds_fit, parts-put}
-use borrow.Author.Rules.{rules}
 use Rattle.plain_file.proofs.put_parts.Goals as goal
 
 pub put_file_header-first-requires : goal.put_file_header-first-requires

@@ -1,6 +1,5 @@
 -- `plain_file::write_plain` meets its contract: without room nothing is written, and with room the file.
 use Rattle.ascii.proofs.Room.{front_none, front-put}
-use borrow.Author.Rules.{rules}
 use Rattle.plain_file.proofs.write_plain.Goals as goal
 
 pub returns-then-out-lt-PLAIN_ROOM : goal.returns-then-out-lt-PLAIN_ROOM

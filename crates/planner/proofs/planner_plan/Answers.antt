@@ -5,7 +5,6 @@ use Rattle.model.specs.File.{read_file}
 use Rattle.model.proofs.FileAnswer.{read_possible}
 use Rattle.deckfile.proofs.answer.Entry.{read-refused, read_taken, changed_valid, answer-stored}
 use Rattle.planner.specs.Entry.{to_end}
-use borrow.Author.Rules.{rules}
 use Rattle.planner.proofs.planner_plan.Goals as goal
 
 pub returns-then-refused-ne0 : goal.returns-then-refused-ne0

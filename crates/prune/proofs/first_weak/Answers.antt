@@ -1,9 +1,7 @@
 -- `prune::first_weak` meets its contract. The invariant: the points passed have three edges or more.
 use Prim.Native.Nat.{◌-◌}
 use native.Mathlib.Omega.{arith}
-use borrow.Author.Rules.{rules}
-use lib.ListN.{take}
-use Rattle.prune.proofs.Weak.{Strong, strong_none, strong_more, strong_found, strong_end}
+use Rattle.prune.proofs.Weak.{strong_none, strong_more, strong_found, strong_end}
 use Rattle.prune.proofs.first_weak.Goals as goal
 
 pub loop-j-init : goal.loop-j-init

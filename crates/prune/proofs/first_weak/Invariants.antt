@@ -1,9 +1,7 @@
 -- `prune::first_weak` meets its contract. The invariant: the points passed have three edges or more.
 use Prim.Native.Nat.{◌-◌}
-use native.Mathlib.Omega.{arith}
-use borrow.Author.Rules.{rules}
 use lib.ListN.{take}
-use Rattle.prune.proofs.Weak.{Strong, strong_none, strong_more, strong_found, strong_end}
+use Rattle.prune.proofs.Weak.{Strong}
 use Rattle.prune.proofs.first_weak.Given as goal
 
 abbrev pub invariant-loop-j : goal.invariant-loop-j

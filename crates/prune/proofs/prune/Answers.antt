@@ -2,11 +2,10 @@
 -- the Steiner points that are left.
 use mathlib.Core.Path.{◌≡◌, refl, ap, ◌∙◌}
 use native.Mathlib.Omega.{arith}
-use borrow.Author.Rules.{rules}
 use Rattle.model.specs.State.{prune}
 use Rattle.points.specs.declared.Points.{Points}
 use Rattle.points.specs.Coded.{state_of}
-use Rattle.prune.proofs.Sweep.{Sweeping, sweeping_start, sweeping_code, sweeping_less, sweeping_more, sweeping_end}
+use Rattle.prune.proofs.Sweep.{sweeping_start, sweeping_code, sweeping_less, sweeping_more, sweeping_end}
 use Rattle.prune.proofs.prune.Goals as goal
 
 pub arrange-w-requires : goal.arrange-w-requires

@@ -4,7 +4,6 @@ use mir.Syntax.{w32}
 use mir.ValLaws.{to_z-of_z}
 use Rattle.plane.specs.Coordinate.{coordinate}
 use Rattle.questions.specs.declared.Answer.TheVariants.{Edge}
-use borrow.Author.Rules.{rules}
 use Rattle.questions.proofs.answer_of.Goals as goal
 
 pub returns : goal.returns

@@ -5,7 +5,6 @@ use Rattle.arrays.proofs.Signed.{read_one}
 use Rattle.working.specs.WorkingDeck.{contents_of}
 use Rattle.questions.specs.declared.Answer.TheVariants.{Column}
 use Rattle.questions.specs.Answers.{column_at}
-use borrow.Author.Rules.{rules}
 use Rattle.questions.proofs.column.Goals as goal
 
 pub returns : goal.returns

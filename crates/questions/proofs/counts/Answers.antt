@@ -2,7 +2,6 @@
 use mathlib.Core.Path.{ap}
 use Rattle.measures.specs.declared.Measures.{Measures}
 use Rattle.questions.specs.declared.Answer.TheVariants.{Counts}
-use borrow.Author.Rules.{rules}
 use Rattle.questions.proofs.counts.Goals as goal
 
 pub returns : goal.returns

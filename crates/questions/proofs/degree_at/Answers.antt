@@ -6,7 +6,6 @@ use Rattle.plane.proofs.codes.Points.{read-located, out-located, located_is}
 use Rattle.questions.specs.declared.Answer.TheVariants.{Degree}
 use Rattle.questions.specs.Answers.{degree_answer}
 use Rattle.questions.proofs.Answers.{none_beyond}
-use borrow.Author.Rules.{rules}
 use Rattle.questions.proofs.degree_at.Goals as goal
 
 pub degree_of-requires : goal.degree_of-requires

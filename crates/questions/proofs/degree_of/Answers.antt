@@ -2,7 +2,6 @@
 use mathlib.Core.Path.{◌≡◌, sym, ◌∙◌}
 use native.Mathlib.Omega.{arith}
 use lib.ListN.{length}
-use borrow.Author.Tests.{not-true, not-false}
 use Rattle.arrays.proofs.Test.{of_true}
 use Rattle.questions.proofs.Answers.{degree_none, degree-there}
 use borrow.Author.Rules.{rules}

@@ -1,7 +1,6 @@
 -- `questions::edge_at` meets its contract: the edge at the place, or none beyond the last.
 use mathlib.Core.Path.{◌∙◌}
 use Rattle.questions.proofs.Answers.{no_edge, edge-there}
-use borrow.Author.Rules.{rules}
 use Rattle.questions.proofs.edge_at.Goals as goal
 
 pub returns-then-d-i : goal.returns-then-d-i

@@ -4,7 +4,6 @@ use mathlib.Core.List.{List}
 use Prim.Native.Nat.{ℕ}
 use lib.ListN.{get_or}
 use Rattle.questions.specs.declared.Answer.TheVariants.{Kinds}
-use borrow.Author.Rules.{rules}
 use Rattle.questions.proofs.kind_lengths.Goals as goal
 
 pub returns : goal.returns

@@ -2,7 +2,6 @@
 use mathlib.Core.Path.{ap, ◌∙◌}
 use Rattle.deckfile.specs.Reading.{accepted_deck, read_outcome}
 use Rattle.replay.proofs.FirstDeck.{start_none, start-file}
-use borrow.Author.Rules.{rules}
 use Rattle.replay.proofs.start.Goals as goal
 
 pub returns-then-file-eq0 : goal.returns-then-file-eq0

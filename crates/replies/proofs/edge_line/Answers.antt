@@ -1,6 +1,5 @@
 -- `replies::edge_line` meets its contract: the word, the fields of the two ends, then the length, each behind the one before.
 use native.Mathlib.Omega.{arith}
-use borrow.Author.Rules.{rules}
 use Rattle.arrays.proofs.paste.Parts.{pasted_same, pasted_then}
 use Rattle.arrays.proofs.Signed.{read-four}
 use Rattle.replies.specs.Replies.{ends_text}

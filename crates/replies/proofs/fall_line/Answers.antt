@@ -1,7 +1,6 @@
 -- `replies::fall_line` meets its contract: what stands in front of the fall, then the fall.
 use lib.IntN.{ℤ}
 use native.Mathlib.Omega.{arith}
-use borrow.Author.Rules.{rules}
 use Rattle.arrays.proofs.Signed.{read_two}
 use Rattle.arrays.proofs.paste.Parts.{pasted_same, pasted_then}
 use Rattle.model.specs.Listing.{field, tap_word}

@@ -1,6 +1,5 @@
 -- `replies::numbers_line` meets its contract: the word, then the three fields behind it.
 use native.Mathlib.Omega.{arith}
-use borrow.Author.Rules.{rules}
 use Rattle.arrays.proofs.paste.Parts.{pasted_then}
 use Rattle.replies.proofs.numbers_line.Goals as goal
 

@@ -1,6 +1,5 @@
 -- `rounds::best_of` meets its contract: the search is over the points of the state.
-use mathlib.Core.Path.{◌≡◌, ◌∙◌}
-use lib.ListN.{length}
+use mathlib.Core.Path.{◌∙◌}
 use Rattle.rounds.proofs.Search.{given, best_is}
 use borrow.Author.Rules.{rules}
 use Rattle.rounds.proofs.best_of.Goals as goal

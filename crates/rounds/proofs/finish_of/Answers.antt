@@ -1,11 +1,10 @@
 -- `rounds::finish_of` meets its contract. The invariant: what the rounds to come lead to, the model's rounds lead to from the start.
-use mathlib.Core.Path.{◌≡◌, refl, sym, ◌∙◌}
+use mathlib.Core.Path.{refl, sym, ◌∙◌}
 use Prim.Native.Nat.{◌-◌}
 use native.Mathlib.Omega.{arith}
 use borrow.Author.Rules.{rules}
-use Rattle.model.specs.Question.{length_of_state}
 use Rattle.working.specs.InOrder as work
-use Rattle.rounds.proofs.Run.{Running, running_start, running_less, running_fits, running_next, running_more, running_end}
+use Rattle.rounds.proofs.Run.{running_start, running_less, running_fits, running_next, running_more, running_end}
 use Rattle.rounds.proofs.finish_of.Goals as goal
 
 pub round_of-last-requires : goal.round_of-last-requires

@@ -9,7 +9,6 @@ use Rattle.plane.specs.Code.{point_of}
 use Rattle.working.specs.InOrder.{state_of}
 use Rattle.rounds.proofs.Round.{Joins, point_room_lem, next-stays, added-stays, step_stays, found_at, next-joins, added-joins, step-joins}
 use Rattle.rounds.proofs.Round.{joins-free, joins-shorter}
-use borrow.Author.Rules.{rules}
 use Rattle.rounds.proofs.round_of.Goals as goal
 
 joined : (c : tie.After-pack)

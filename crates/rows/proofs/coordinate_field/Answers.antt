@@ -1,5 +1,4 @@
 -- `rows::coordinate_field` meets its contract: a coordinate has at most five digits.
-use borrow.Author.Rules.{rules}
 use Rattle.ascii.proofs.Signs.{coordinate-put}
 use Rattle.rows.proofs.coordinate_field.Goals as goal
 

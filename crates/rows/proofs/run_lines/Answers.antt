@@ -1,10 +1,9 @@
 -- `rows::run_lines` meets its contract. The invariant: the lines of the edges passed are written.
 use Prim.Native.Nat.{◌-◌}
 use native.Mathlib.Omega.{arith}
-use borrow.Author.Rules.{rules}
 use Rattle.model.specs.Question.{listed}
 use Rattle.model.proofs.FileSize.{edges_few}
-use Rattle.arrays.proofs.paste.Lines.{PutFirst, first_none, first_more, first_end}
+use Rattle.arrays.proofs.paste.Lines.{first_none, first_more, first_end}
 use Rattle.arrays.proofs.paste.Parts.{pasted_same}
 use Rattle.working.specs.InOrder.{state_of}
 use Rattle.edges.proofs.Numbers.{edge_count_lem, listed-length}

@@ -1,8 +1,7 @@
 -- `rows::tap_lines` meets its contract. The invariant: the lines of the Steiner points passed are written.
 use Prim.Native.Nat.{◌-◌}
 use native.Mathlib.Omega.{arith}
-use borrow.Author.Rules.{rules}
-use Rattle.arrays.proofs.paste.Lines.{PutFirst, first_none, first_more, first_end}
+use Rattle.arrays.proofs.paste.Lines.{first_none, first_more, first_end}
 use Rattle.rows.proofs.Lines.{tap_text, tap_none, tap_more}
 use Rattle.rows.proofs.tap_lines.Goals as goal
 

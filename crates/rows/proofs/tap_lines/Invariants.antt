@@ -1,9 +1,7 @@
 -- `rows::tap_lines` meets its contract. The invariant: the lines of the Steiner points passed are written.
 use Prim.Native.Nat.{◌-◌}
-use native.Mathlib.Omega.{arith}
-use borrow.Author.Rules.{rules}
-use Rattle.arrays.proofs.paste.Lines.{PutFirst, first_none, first_more, first_end}
-use Rattle.rows.proofs.Lines.{tap_text, tap_none, tap_more}
+use Rattle.arrays.proofs.paste.Lines.{PutFirst}
+use Rattle.rows.proofs.Lines.{tap_text}
 use Rattle.rows.proofs.tap_lines.Given as goal
 
 abbrev pub invariant-loop-i : goal.invariant-loop-i

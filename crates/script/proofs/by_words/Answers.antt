@@ -1,6 +1,5 @@
 -- `script::by_words` meets its contract: by the name, and by the words behind it.
 use mathlib.Core.Path.{sym, ◌∙◌}
-use borrow.Author.Rules.{rules}
 use Rattle.script.proofs.Lines.{words_none, words_read, words_named}
 use Rattle.script.proofs.by_words.Goals as goal
 

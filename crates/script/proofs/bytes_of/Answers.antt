@@ -1,7 +1,5 @@
 -- `script::bytes_of` meets its contract: the second word is tested, and decoded where it is pairs of digits.
 use mathlib.Core.Path.{sym, ◌∙◌}
-use borrow.Author.Rules.{rules}
-use borrow.Author.Tests.{not-true, not-false}
 use Rattle.script.proofs.Lines.{file_none, file_some}
 use Rattle.script.proofs.bytes_of.Goals as goal
 

@@ -1,6 +1,5 @@
 -- `script::of_file` meets its contract: by the two forms of a file.
 use mathlib.Core.Path.{sym, ◌∙◌}
-use borrow.Author.Rules.{rules}
 use Rattle.script.proofs.File.{file_dash, file_hex, file_other}
 use Rattle.script.proofs.of_file.Goals as goal
 

@@ -1,5 +1,4 @@
 -- `script::parse` meets its contract: a line by its length and its first byte, and any other by its words.
-use borrow.Author.Rules.{rules}
 use Rattle.script.proofs.Lines.{too_long_lem, blank_empty, blank_comment, by_words}
 use Rattle.script.proofs.parse.Goals as goal
 

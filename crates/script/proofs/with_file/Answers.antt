@@ -1,5 +1,4 @@
 -- `script::with_file` meets its contract: by how many words there are, up to the second.
-use borrow.Author.Rules.{rules}
 use Rattle.script.proofs.Lines.{word_missing, word_more, word_alone}
 use Rattle.script.proofs.with_file.Goals as goal
 

@@ -2,8 +2,7 @@
 use mathlib.Core.Path.{refl}
 use Prim.Native.Nat.{◌-◌}
 use native.Mathlib.Omega.{arith}
-use borrow.Author.Rules.{rules}
-use Rattle.search.proofs.Steps.{InColumns, columns_more, columns_end}
+use Rattle.search.proofs.Steps.{columns_more, columns_end}
 use Rattle.search.proofs.all_columns.Goals as goal
 
 pub loop-at-init : goal.loop-at-init

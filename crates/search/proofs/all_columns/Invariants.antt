@@ -1,9 +1,6 @@
 -- `search::all_columns` meets its contract. The invariant: from the best so far, the columns left give what all columns give.
-use mathlib.Core.Path.{refl}
 use Prim.Native.Nat.{◌-◌}
-use native.Mathlib.Omega.{arith}
-use borrow.Author.Rules.{rules}
-use Rattle.search.proofs.Steps.{InColumns, columns_more, columns_end}
+use Rattle.search.proofs.Steps.{InColumns}
 use Rattle.search.proofs.all_columns.Given as goal
 
 abbrev pub invariant-loop-at : goal.invariant-loop-at

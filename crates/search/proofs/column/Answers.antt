@@ -1,6 +1,5 @@
 -- `search::column` meets its contract: the least rays at each row, and the best by their gains.
 use native.Mathlib.Omega.{arith}
-use borrow.Author.Rules.{rules}
 use Rattle.score.proofs.Geometry.{spared_is}
 use Rattle.search.proofs.column.Goals as goal
 

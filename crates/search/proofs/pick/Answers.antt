@@ -2,8 +2,7 @@
 use mathlib.Core.Path.{refl}
 use Prim.Native.Nat.{◌-◌}
 use native.Mathlib.Omega.{arith}
-use borrow.Author.Rules.{rules}
-use Rattle.search.proofs.Steps.{InColumn, column_more, column_end}
+use Rattle.search.proofs.Steps.{column_more, column_end}
 use Rattle.search.proofs.pick.Goals as goal
 
 pub loop-row-init : goal.loop-row-init

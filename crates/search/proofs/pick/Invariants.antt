@@ -1,9 +1,6 @@
 -- `search::pick` meets its contract. The invariant: from the best so far, the rows left give what the whole column gives.
-use mathlib.Core.Path.{refl}
 use Prim.Native.Nat.{◌-◌}
-use native.Mathlib.Omega.{arith}
-use borrow.Author.Rules.{rules}
-use Rattle.search.proofs.Steps.{InColumn, column_more, column_end}
+use Rattle.search.proofs.Steps.{InColumn}
 use Rattle.search.proofs.pick.Given as goal
 
 abbrev pub invariant-loop-row : goal.invariant-loop-row

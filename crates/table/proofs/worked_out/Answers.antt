@@ -1,9 +1,8 @@
 -- `table::worked_out` meets its contract. The invariant: the first i places hold the first i entries of the table. The measure: how many
 -- places are left.
 use mathlib.Core.Path.{◌≡◌, refl, subst, ◌∙◌}
-use Prim.Native.Nat.{ℕ, ◌-◌, ◌/◌, ◌%◌, ◌≤◌}
+use Prim.Native.Nat.{ℕ, ◌-◌, ◌/◌, ◌%◌}
 use native.Mathlib.Omega.{arith}
-use borrow.Author.Rules.{rules}
 use lib.ListN.{length, take, length-set}
 use Rattle.arrays.specs.Tab.{tab}
 use Rattle.arrays.proofs.Tab.{tab_more, tab-whole}

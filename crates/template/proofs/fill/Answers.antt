@@ -1,9 +1,7 @@
 -- `template::fill` meets its contract. The invariant: the bytes passed are put, with their numbers. The measure: how many bytes are left.
 use Prim.Native.Nat.{◌-◌}
 use native.Mathlib.Omega.{arith}
-use lib.ListN.{length}
-use borrow.Author.Rules.{rules}
-use Rattle.template.proofs.Filling.{Filling, fill_none, fill_more, fill_end}
+use Rattle.template.proofs.Filling.{fill_none, fill_more, fill_end}
 use Rattle.template.proofs.fill.Goals as goal
 
 pub loop-i-init : goal.loop-i-init

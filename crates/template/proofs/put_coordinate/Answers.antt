@@ -1,6 +1,5 @@
 -- `template::put_coordinate` meets its contract: the coordinate is read back from its bits.
 use mathlib.Core.Path.{ap}
-use borrow.Author.Rules.{rules}
 use Rattle.arrays.proofs.Signed.{read_is}
 use Rattle.arrays.proofs.paste.Parts.{pasted_same}
 use Rattle.model.specs.Listing.{signed_decimal}

@@ -1,6 +1,5 @@
 -- `template::put_item` meets its contract, by how many numbers are left and which byte it is.
 use native.Mathlib.Omega.{arith}
-use borrow.Author.Rules.{rules}
 use Rattle.template.proofs.Items.{put_last, put-number, put_place, put_other}
 use Rattle.template.proofs.put_item.Goals as goal
 

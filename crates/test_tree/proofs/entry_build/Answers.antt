@@ -1,8 +1,6 @@
 -- `test_tree::entry_build` meets its contract: what is refused is not built; otherwise the tree's keys are the answer.
 use native.Mathlib.Omega.{arith}
-use borrow.Author.Tests.{not-true, not-false}
 use Rattle.test_tree.proofs.Answers.{answer-taken, answer-refused, build_given}
-use borrow.Author.Rules.{rules}
 use Rattle.test_tree.proofs.entry_build.Goals as goal
 
 pub returns-then-not-accepts : goal.returns-then-not-accepts

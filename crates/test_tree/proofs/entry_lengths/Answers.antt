@@ -1,8 +1,6 @@
 -- `test_tree::entry_lengths` meets its contract: what is refused is not measured; otherwise the row of lengths is the answer.
 use native.Mathlib.Omega.{arith}
-use borrow.Author.Tests.{not-true, not-false}
 use Rattle.test_tree.proofs.Answers.{answer-taken, answer-refused, row-front}
-use borrow.Author.Rules.{rules}
 use Rattle.test_tree.proofs.entry_lengths.Goals as goal
 
 pub returns-then-not-accepts : goal.returns-then-not-accepts

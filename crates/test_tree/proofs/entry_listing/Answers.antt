@@ -1,7 +1,6 @@
 -- `test_tree::entry_listing` meets its contract: what has no room is refused; otherwise all keys are listed.
 use native.Mathlib.Omega.{arith}
 use Rattle.test_tree.proofs.Answers.{answer-taken, answer-refused, list_all}
-use borrow.Author.Rules.{rules}
 use Rattle.test_tree.proofs.entry_listing.Goals as goal
 
 pub returns-then-out-keys : goal.returns-then-out-keys

@@ -3,7 +3,6 @@ use mathlib.Core.Path.{refl}
 use native.Mathlib.Omega.{arith}
 use Rattle.working.proofs.InOrder.{all_count, build_allowed, order_of}
 use Rattle.arrays.proofs.paste.Parts.{front-count}
-use borrow.Author.Rules.{rules}
 use Rattle.working.proofs.arrange.Goals as goal
 
 pub union-npoints-requires : goal.union-npoints-requires

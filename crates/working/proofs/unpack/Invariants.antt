@@ -1,8 +1,6 @@
 -- `working::unpack` meets its contract. The invariant: the points of the codes passed are held.
 use Prim.Native.Nat.{◌-◌}
-use native.Mathlib.Omega.{arith}
-use borrow.Author.Rules.{rules}
-use Rattle.working.proofs.Held.{Unpacked, unpacked_none, unpacked_more}
+use Rattle.working.proofs.Held.{Unpacked}
 use Rattle.working.proofs.unpack.Given as goal
 
 abbrev pub invariant-loop-i : goal.invariant-loop-i

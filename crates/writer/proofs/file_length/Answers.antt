@@ -1,7 +1,6 @@
 -- `writer::file_length` meets its contract: the length for the two counts is that of the file's parts.
 use mathlib.Core.Path.{◌∙◌}
 use Rattle.writer.proofs.Parts.{few, file-long}
-use borrow.Author.Rules.{rules}
 use Rattle.writer.proofs.file_length.Goals as goal
 
 pub length_for-requires : goal.length_for-requires

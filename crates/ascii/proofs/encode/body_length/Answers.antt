@@ -1,5 +1,4 @@
 -- `ascii::encode::body_length` meets its contract: by whether there is a last byte, and whether it is a line feed.
-use borrow.Author.Rules.{rules}
 use Rattle.ascii.proofs.encode.Text.{body_empty, body_feed, body_other}
 use Rattle.ascii.proofs.encode.body_length.Goals as goal
 

@@ -1,5 +1,4 @@
 -- `ascii::encode::digit` meets its contract: one case for the digits and one for the letters.
-use borrow.Author.Rules.{rules}
 use Rattle.ascii.proofs.encode.Text.{digit_low, digit_high}
 use Rattle.ascii.proofs.encode.digit.Goals as goal
 

@@ -2,7 +2,6 @@
 use native.Mathlib.Omega.{arith}
 use Rattle.ascii.proofs.encode.Text.{file-small, file-short, file-long}
 use Rattle.arrays.proofs.paste.Parts.{pasted_then}
-use borrow.Author.Rules.{rules}
 use Rattle.ascii.proofs.encode.file_line.Goals as goal
 
 pub returns-then-out-lt-HEAD_ROOM : goal.returns-then-out-lt-HEAD_ROOM

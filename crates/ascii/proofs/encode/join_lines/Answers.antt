@@ -3,7 +3,6 @@ use mathlib.Core.Path.{ap}
 use Prim.Native.Nat.{◌*◌}
 use native.Mathlib.Omega.{arith}
 use lib.ListN.{length}
-use borrow.Author.Rules.{rules}
 use Rattle.ascii.specs.Encoding.{spread, joined_lines}
 use Rattle.ascii.proofs.Room.{front_none, front-put}
 use Rattle.arrays.proofs.paste.Parts.{pasted_same}

@@ -1,10 +1,8 @@
 -- `ascii::encode::pairs` meets its contract. The invariant: the digits of the bytes passed are written.
 use Prim.Native.Nat.{◌-◌}
 use native.Mathlib.Omega.{arith}
-use lib.ListN.{length}
-use borrow.Author.Rules.{rules}
 use Rattle.ascii.specs.Encoding.{hex_pair}
-use Rattle.arrays.proofs.paste.Lines.{PutFirst, each_to, each-first_none, each-first_more, each-first_end, each_all}
+use Rattle.arrays.proofs.paste.Lines.{each-first_none, each-first_more, each-first_end, each_all}
 use Rattle.arrays.proofs.paste.Parts.{pasted_same}
 use Rattle.ascii.proofs.encode.pairs.Goals as goal
 

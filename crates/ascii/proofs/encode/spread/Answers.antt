@@ -1,6 +1,5 @@
 -- `ascii::encode::spread` meets its contract: a line feed becomes three bytes, and any other byte stays.
 use native.Mathlib.Omega.{arith}
-use borrow.Author.Rules.{rules}
 use Rattle.arrays.proofs.paste.Parts.{pasted_same}
 use Rattle.ascii.proofs.encode.Text.{spread_feed, spread_other}
 use Rattle.ascii.proofs.encode.spread.Goals as goal

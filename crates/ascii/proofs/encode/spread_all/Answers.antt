@@ -1,9 +1,8 @@
 -- `ascii::encode::spread_all` meets its contract. The invariant: what stands for the bytes passed is written.
 use Prim.Native.Nat.{◌-◌}
 use native.Mathlib.Omega.{arith}
-use borrow.Author.Rules.{rules}
 use Rattle.ascii.specs.Encoding.{spread}
-use Rattle.arrays.proofs.paste.Lines.{PutFirst, each_to, each-first_none, each-first_more, each-first_end}
+use Rattle.arrays.proofs.paste.Lines.{each-first_none, each-first_more, each-first_end}
 use Rattle.ascii.proofs.encode.spread_all.Goals as goal
 
 pub loop-i-init : goal.loop-i-init

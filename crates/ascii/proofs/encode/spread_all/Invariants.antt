@@ -1,9 +1,7 @@
 -- `ascii::encode::spread_all` meets its contract. The invariant: what stands for the bytes passed is written.
 use Prim.Native.Nat.{◌-◌}
-use native.Mathlib.Omega.{arith}
-use borrow.Author.Rules.{rules}
 use Rattle.ascii.specs.Encoding.{spread}
-use Rattle.arrays.proofs.paste.Lines.{PutFirst, each_to, each-first_none, each-first_more, each-first_end}
+use Rattle.arrays.proofs.paste.Lines.{PutFirst, each_to}
 use Rattle.ascii.proofs.encode.spread_all.Given as goal
 
 abbrev pub invariant-loop-i : goal.invariant-loop-i

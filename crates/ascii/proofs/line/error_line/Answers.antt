@@ -1,6 +1,5 @@
 -- `ascii::line::error_line` meets its contract: without room nothing is written, and with room the one word.
 use Rattle.ascii.proofs.Room.{front_none, front-put}
-use borrow.Author.Rules.{rules}
 use Rattle.ascii.proofs.line.error_line.Goals as goal
 
 pub returns-then-out-lt-LINE_ROOM : goal.returns-then-out-lt-LINE_ROOM

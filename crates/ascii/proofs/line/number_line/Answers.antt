@@ -1,6 +1,5 @@
 -- `ascii::line::number_line` meets its contract: the word, then the number's field behind it.
 use native.Mathlib.Omega.{arith}
-use borrow.Author.Rules.{rules}
 use Rattle.arrays.proofs.paste.Parts.{pasted_then}
 use Rattle.ascii.proofs.line.number_line.Goals as goal
 

@@ -1,6 +1,5 @@
 -- `buffer::file::length_for` meets its contract: without kinds, or with a pair and a byte a pin more.
 use Rattle.buffer.proofs.Parts.{bare_long, kinds_more}
-use borrow.Author.Rules.{rules}
 use Rattle.buffer.proofs.file.length_for.Goals as goal
 
 pub returns-then-bare : goal.returns-then-bare

@@ -6,7 +6,6 @@ use lib.ListN.{length}
 use Rattle.arrays.proofs.paste.Parts.{pasted_same}
 use Rattle.model.specs.Sections.{header_size, header}
 use Rattle.model.specs.File.{sizes_of}
-use borrow.Author.Rules.{rules}
 use Rattle.buffer.proofs.file.put_file_header.Goals as goal
 
 pub put_header-requires : goal.put_header-requires

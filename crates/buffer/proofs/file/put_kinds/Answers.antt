@@ -8,7 +8,6 @@ use lib.Seq.{length-take-le}
 use Rattle.arrays.specs.Paste.{Pasted}
 use Rattle.arrays.proofs.paste.Parts.{pasted_none, pasted_same}
 use Rattle.buffer.proofs.Parts.{bare_kinds, all_kinds_lem}
-use borrow.Author.Rules.{rules}
 use Rattle.buffer.proofs.file.put_kinds.Goals as goal
 
 pub returns-then-bare : goal.returns-then-bare

@@ -2,7 +2,6 @@
 use native.Mathlib.Omega.{arith}
 use Rattle.arrays.proofs.paste.Parts.{pasted_then}
 use Rattle.buffer.proofs.Parts.{kinds_fit}
-use borrow.Author.Rules.{rules}
 use Rattle.buffer.proofs.file.put_parts.Goals as goal
 
 pub put_kinds-requires : goal.put_kinds-requires

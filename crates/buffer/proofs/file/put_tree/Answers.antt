@@ -1,7 +1,6 @@
 -- `buffer::file::put_tree` meets its contract: one part behind the other.
 use native.Mathlib.Omega.{arith}
 use Rattle.buffer.proofs.Parts.{header_end, pins_end, steiner_end, tree-put}
-use borrow.Author.Rules.{rules}
 use Rattle.buffer.proofs.file.put_tree.Goals as goal
 
 pub put_points-second-requires : goal.put_points-second-requires

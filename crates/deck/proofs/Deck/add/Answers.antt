@@ -2,7 +2,6 @@
 use Rattle.plane.specs.Point.{Point}
 use Rattle.model.specs.Call as call
 use Rattle.deck.proofs.Calls.{ready, refused_by, called_at}
-use borrow.Author.Rules.{rules}
 use Rattle.deck.proofs.Deck.add.Goals as goal
 
 pub returns-then-not-c : goal.returns-then-not-c

@@ -2,7 +2,6 @@
 use Rattle.questions.specs.Answers.{of_column}
 use Rattle.deck.proofs.Calls.{ready}
 use Rattle.deck.proofs.Questions.{refused-answer, asked_of}
-use borrow.Author.Rules.{rules}
 use Rattle.deck.proofs.Deck.column.Goals as goal
 
 pub returns-then-not-c : goal.returns-then-not-c

@@ -1,6 +1,5 @@
 -- `deck::Deck::set_tail` meets its contract: the check, then the call on the deck in working form.
 use Rattle.deck.proofs.Calls.{ready, refused_by, called_by}
-use borrow.Author.Rules.{rules}
 use Rattle.deck.proofs.Deck.set_tail.Goals as goal
 
 pub returns-then-not-c : goal.returns-then-not-c

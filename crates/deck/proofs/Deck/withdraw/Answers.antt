@@ -1,7 +1,6 @@
 -- `deck::Deck::withdraw` meets its contract: the check, then the call on the deck in working form.
 use Rattle.model.specs.Call as call
 use Rattle.deck.proofs.Calls.{ready, refused_by, called_at}
-use borrow.Author.Rules.{rules}
 use Rattle.deck.proofs.Deck.withdraw.Goals as goal
 
 pub returns-then-not-c : goal.returns-then-not-c

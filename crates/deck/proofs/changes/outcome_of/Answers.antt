@@ -1,6 +1,5 @@
 -- `deck::changes::outcome_of` meets its contract: the deck is that of the deck in working form, the reply that of the call.
 use mathlib.Core.Path.{ap}
-use borrow.Author.Rules.{rules}
 use Rattle.deck.specs.declared.Deck.{Deck}
 use Rattle.deck.proofs.changes.outcome_of.Goals as goal
 

@@ -1,9 +1,7 @@
 -- `deck::check::check` meets its contract: the tail is not too long, the points are those of a valid state, the kinds are kinds, and the rest is that of
 -- the deck of all three.
-use mathlib.Core.Path.{◌≡◌, refl, sym, ap, ◌∙◌}
+use mathlib.Core.Path.{refl, sym, ap, ◌∙◌}
 use native.Mathlib.Omega.{arith}
-use lib.ListN.{length}
-use borrow.Author.Tests.{not-true, not-false}
 use Rattle.arrays.proofs.Test.{of_true}
 use Rattle.points.specs.declared.Points.{Points}
 use Rattle.deck.proofs.check.Parts.{refuted, refused, tail_fail, points_fail, points-order, kinds_fail, rest_fail, rest_pass}

@@ -1,6 +1,5 @@
 -- `deck::check::deck_of` meets its contract: arranged points are those of their state, and zeros stand behind the kinds.
 use mathlib.Core.Path.{◌≡◌, sym}
-use Prim.Native.Nat.{◌≤◌}
 use native.Mathlib.Omega.{arith}
 use lib.ListN.{length}
 use lib.Seq.{length-take-le}
@@ -22,8 +21,8 @@ in_front-kinds-requires c = let w = c.args.w in
 pub returns : goal.returns
 unfolding deck_of
 returns c = λ i. record {
-      points = arranged-coded _ c.requires.arranged i;
-      kinds = c.in_front-kinds.ensures i;
-      tail = c.args.w.tail;
-      ends = c.edge_numbers-ends.ensures i;
-    }
+  points = arranged-coded _ c.requires.arranged i;
+  kinds = c.in_front-kinds.ensures i;
+  tail = c.args.w.tail;
+  ends = c.edge_numbers-ends.ensures i;
+}

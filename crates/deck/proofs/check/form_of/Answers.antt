@@ -2,7 +2,6 @@
 -- together that they are.
 use mathlib.Core.Path.{◌≡◌, refl, sym, ◌∙◌}
 use lib.ListN.{length}
-use borrow.Author.Tests.{not-true, not-false}
 use Rattle.arrays.proofs.Test.{and_parts, of_true}
 use Rattle.model.specs.State.{valid}
 use Rattle.points.specs.Coded.{arranged, state_of}

@@ -4,7 +4,6 @@ use Rattle.model.specs.State.{empty}
 use Rattle.model.proofs.Session.{empty-valid}
 use Rattle.points.specs.Coded.{Arranged}
 use Rattle.points.proofs.Coded.{valid-arranged}
-use borrow.Author.Rules.{rules}
 use Rattle.deck.proofs.check.no_form.Goals as goal
 
 pub arrange-requires : goal.arrange-requires

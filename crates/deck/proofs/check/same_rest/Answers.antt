@@ -1,7 +1,6 @@
 -- `deck::check::same_rest` meets its contract: the two tests together.
 use mathlib.Core.Path.{ap₂}
 use mathlib.Core.Bool.{◌&&◌}
-use borrow.Author.Rules.{rules}
 use Rattle.deck.proofs.check.same_rest.Goals as goal
 
 pub returns : goal.returns

@@ -1,7 +1,6 @@
 -- `deckfile::answer::number_of` meets its contract: one case for each kind of answer.
 use mathlib.Core.Path.{sym, ap}
 use Rattle.deckfile.specs.Answer.{written_number}
-use borrow.Author.Rules.{rules}
 use Rattle.deckfile.proofs.answer.number_of.Goals as goal
 
 pub returns-in-Refused : goal.returns-in-Refused

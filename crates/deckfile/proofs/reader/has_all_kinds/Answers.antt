@@ -1,8 +1,6 @@
 -- `deckfile::reader::has_all_kinds` meets its contract: the length, then the two tests of the section.
 use mathlib.Core.Path.{sym, ◌∙◌}
-use Prim.Native.Nat.{◌+◌, ◌≤◌}
 use lib.ListN.{length}
-use borrow.Author.Tests.{not-true, not-false}
 use Rattle.deckfile.proofs.reader.KindsCheck.{pair-there, slice_long, kinds-within, other_length, no_kind_lem, kinds_tested}
 use borrow.Author.Rules.{rules}
 use Rattle.deckfile.proofs.reader.has_all_kinds.Goals as goal

@@ -1,7 +1,7 @@
 -- `deckfile::reader::kinds_of` meets its contract: the bytes of the section.
 use mathlib.Core.Path.{ap, ◌∙◌}
 use mathlib.Core.List.{List}
-use Prim.Native.Nat.{ℕ, ◌+◌, ◌≤◌}
+use Prim.Native.Nat.{ℕ}
 use lib.ListN.{length}
 use Rattle.model.specs.State.{max_pins}
 use Rattle.points.specs.Coded.{padded}

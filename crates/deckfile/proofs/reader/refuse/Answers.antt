@@ -1,6 +1,5 @@
 -- `deckfile::reader::refuse` meets its contract: an empty deck has a working form.
 use Rattle.deckfile.proofs.reader.LastCheck.{refused-read}
-use borrow.Author.Rules.{rules}
 use Rattle.deckfile.proofs.reader.refuse.Goals as goal
 
 pub returns : goal.returns

@@ -1,11 +1,9 @@
 -- `deckfile::reader::with_kinds` meets its contract: sensors, or the kinds of the section where they pass.
-use mathlib.Core.Path.{◌≡◌, sym, ◌∙◌}
+use mathlib.Core.Path.{sym, ◌∙◌}
 use mathlib.Core.Bool.{true}
-use borrow.Author.Tests.{not-true, not-false}
 use Rattle.model.specs.File.{has_kinds}
 use Rattle.deckfile.proofs.reader.LastCheck.{read_as}
 use Rattle.deckfile.proofs.reader.KindsCheck.{four, shows-sensors, refused-kinds, kinds-count, shows_kinds_lem}
-use borrow.Author.Rules.{rules}
 use Rattle.deckfile.proofs.reader.with_kinds.Goals as goal
 
 pub returns-then-not-has_kinds : goal.returns-then-not-has_kinds

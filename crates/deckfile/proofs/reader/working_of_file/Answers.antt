@@ -1,12 +1,7 @@
 -- `deckfile::reader::working_of_file` meets its contract: one test after the other.
-use mathlib.Core.Path.{◌≡◌, sym, ◌∙◌}
-use borrow.Author.Tests.{not-true, not-false}
+use mathlib.Core.Path.{sym, ◌∙◌}
 use native.Mathlib.Omega.{arith}
 use Rattle.deckfile.proofs.reader.LastCheck.{read_as, found_valid, found_state, last_many, last-invalid, last-plain, last_other, last_same}
-use Rattle.model.specs.File.{file_state}
-use Rattle.working.specs.InOrder.{InOrder, state_of}
-use Rattle.sections.specs.Layout.{Sections}
-use borrow.Author.Rules.{rules}
 use Rattle.deckfile.proofs.reader.working_of_file.Goals as goal
 
 pub returns-then-size-gt-STEINER_ROOM : goal.returns-then-size-gt-STEINER_ROOM
@@ -22,7 +17,7 @@ returns-then-not-c c = let invalid = c.if-not-c.true in
     invalid) c.refuse-then-not-c.ensures
 
 pub with_kinds-requires : goal.with_kinds-requires
-with_kinds-requires c = let r = (let b = c.args.b.now in let for = c.points_working-c.ensures in let ok = c.if-not-c.false in ( c.requires.sections, (found_valid b c.requires.sections c.requires.t c.requires.few_pins _ for ok).0, found_state b c.requires.sections c.requires.t c.requires.few_pins _ for ok, )) in
+with_kinds-requires c = let r = (let b = c.args.b.now in let for = c.points_working-c.ensures in let ok = c.if-not-c.false in (c.requires.sections, (found_valid b c.requires.sections c.requires.t c.requires.few_pins _ for ok).0, found_state b c.requires.sections c.requires.t c.requires.few_pins _ for ok)) in
     record { sections = r.0; in_order = r.1; w_value = r.2 }
 
 pub returns-then-is_plain : goal.returns-then-is_plain
@@ -32,19 +27,23 @@ returns-then-is_plain c = read_as
 
 pub has_edges-requires : goal.has_edges-requires
 has_edges-requires c = let b = c.args.b.now in
-    record { sections = ((
-      c.requires.sections,
-      found_valid b c.requires.sections c.requires.t c.requires.few_pins _ c.points_working-c.ensures
-          (c.if-not-c.false),
-    )).0; in_order = ((
-      c.requires.sections,
-      found_valid b c.requires.sections c.requires.t c.requires.few_pins _ c.points_working-c.ensures
-          (c.if-not-c.false),
-    )).1.0; valid = ((
-      c.requires.sections,
-      found_valid b c.requires.sections c.requires.t c.requires.few_pins _ c.points_working-c.ensures
-          (c.if-not-c.false),
-    )).1.1 }
+    record {
+      sections = ((
+        c.requires.sections,
+        found_valid b c.requires.sections c.requires.t c.requires.few_pins _ c.points_working-c.ensures
+            (c.if-not-c.false),
+      )).0;
+      in_order = ((
+        c.requires.sections,
+        found_valid b c.requires.sections c.requires.t c.requires.few_pins _ c.points_working-c.ensures
+            (c.if-not-c.false),
+      )).1.0;
+      valid = ((
+        c.requires.sections,
+        found_valid b c.requires.sections c.requires.t c.requires.few_pins _ c.points_working-c.ensures
+            (c.if-not-c.false),
+      )).1.1;
+    }
 
 pub returns-then-not-has_edges : goal.returns-then-not-has_edges
 returns-then-not-has_edges c = read_as
@@ -54,7 +53,7 @@ returns-then-not-has_edges c = read_as
     c.refuse-then-not-has_edges.ensures
 
 pub with_kinds-requires-2 : goal.with_kinds-requires-2
-with_kinds-requires-2 c = let r = (let b = c.args.b.now in let for = c.points_working-c.ensures in let ok = c.if-not-c.false in ( c.requires.sections, (found_valid b c.requires.sections c.requires.t c.requires.few_pins _ for ok).0, found_state b c.requires.sections c.requires.t c.requires.few_pins _ for ok, )) in
+with_kinds-requires-2 c = let r = (let b = c.args.b.now in let for = c.points_working-c.ensures in let ok = c.if-not-c.false in (c.requires.sections, (found_valid b c.requires.sections c.requires.t c.requires.few_pins _ for ok).0, found_state b c.requires.sections c.requires.t c.requires.few_pins _ for ok)) in
     record { sections = r.0; in_order = r.1; w_value = r.2 }
 
 pub returns : goal.returns

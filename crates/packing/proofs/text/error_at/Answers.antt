@@ -1,6 +1,5 @@
 -- `packing::text::error_at` meets its contract: the word behind the number.
 use native.Mathlib.Omega.{arith}
-use borrow.Author.Rules.{rules}
 use Rattle.arrays.proofs.paste.Parts.{pasted_then}
 use Rattle.packing.proofs.text.error_at.Goals as goal
 

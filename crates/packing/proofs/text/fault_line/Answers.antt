@@ -1,6 +1,5 @@
 -- `packing::text::fault_line` meets its contract: without room nothing is written, and with room the line of the fault.
 use Rattle.ascii.proofs.Room.{front_none, front-put}
-use borrow.Author.Rules.{rules}
 use Rattle.packing.proofs.text.Texts.{nothing_put, text_same, fault_same}
 use Rattle.packing.proofs.text.fault_line.Goals as goal
 

@@ -1,6 +1,5 @@
 -- `packing::text::line_head` meets its contract: the number behind the word, and the colon behind it.
 use native.Mathlib.Omega.{arith}
-use borrow.Author.Rules.{rules}
 use Rattle.arrays.proofs.paste.Parts.{pasted_then}
 use Rattle.packing.proofs.text.line_head.Goals as goal
 

@@ -1,6 +1,5 @@
 -- `packing::text::packed_file` meets its contract: the plain file where there is no fault, and else nothing.
 use mathlib.Core.Path.{sym, ◌∙◌}
-use borrow.Author.Rules.{rules}
 use Rattle.packing.proofs.text.Texts.{nothing_put, text_same, file_same}
 use Rattle.packing.proofs.text.packed_file.Goals as goal
 

@@ -1,6 +1,5 @@
 -- `packing::text::refused_at` meets its contract: the refusal behind the number.
 use native.Mathlib.Omega.{arith}
-use borrow.Author.Rules.{rules}
 use Rattle.arrays.proofs.paste.Parts.{pasted_then}
 use Rattle.packing.proofs.text.refused_at.Goals as goal
 

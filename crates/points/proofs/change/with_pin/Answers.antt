@@ -1,6 +1,5 @@
 -- `points::change::with_pin` meets its contract: the point joins the pins and leaves the Steiner points.
 use Rattle.points.proofs.change.Joins.{with_pin_lem}
-use borrow.Author.Rules.{rules}
 use Rattle.points.proofs.change.with_pin.Goals as goal
 
 pub returns : goal.returns

@@ -1,6 +1,5 @@
 -- `points::change::with_steiner` meets its contract: the point joins the Steiner points.
 use Rattle.points.proofs.change.Joins.{with_steiner_lem}
-use borrow.Author.Rules.{rules}
 use Rattle.points.proofs.change.with_steiner.Goals as goal
 
 pub returns : goal.returns

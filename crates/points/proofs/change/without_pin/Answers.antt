@@ -1,6 +1,5 @@
 -- `points::change::without_pin` meets its contract: the point leaves the pins.
 use Rattle.points.proofs.change.Joins.{without_pin_lem}
-use borrow.Author.Rules.{rules}
 use Rattle.points.proofs.change.without_pin.Goals as goal
 
 pub returns : goal.returns

@@ -1,6 +1,5 @@
 -- `points::change::without_steiner` meets its contract: the point leaves the Steiner points.
 use Rattle.points.proofs.change.Joins.{without-steiner}
-use borrow.Author.Rules.{rules}
 use Rattle.points.proofs.change.without_steiner.Goals as goal
 
 pub returns : goal.returns

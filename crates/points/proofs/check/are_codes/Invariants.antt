@@ -1,10 +1,7 @@
 -- `points::check::are_codes` meets its contract. The invariant: the numbers passed are codes.
 use Prim.Native.Nat.{◌-◌}
-use borrow.Author.Tests.{not-true, not-false}
-use native.Mathlib.Omega.{arith}
-use borrow.Author.Rules.{rules}
 use Rattle.plane.specs.Code.{is_code}
-use Rattle.sorted.proofs.Scan.{Passed, passed_none, passed_more, passed_fail, passed_end}
+use Rattle.sorted.proofs.Scan.{Passed}
 use Rattle.points.proofs.check.are_codes.Given as goal
 
 abbrev pub invariant-loop-i : goal.invariant-loop-i

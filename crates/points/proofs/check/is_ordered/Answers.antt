@@ -1,8 +1,6 @@
 -- `points::check::is_ordered` meets its contract: three tests in turn.
 use mathlib.Core.Path.{sym, ◌∙◌}
-use borrow.Author.Tests.{not-true, not-false}
 use Rattle.arrays.proofs.Test.{and_no, and_yes}
-use borrow.Author.Rules.{rules}
 use Rattle.points.proofs.check.is_ordered.Goals as goal
 
 pub returns-then-not-are_codes : goal.returns-then-not-are_codes

@@ -1,15 +1,9 @@
 -- `points::kinds::all_within` meets its contract. The invariant: the numbers passed are at most `most`.
-use mathlib.Core.Path.{refl, ap, ◌∙◌}
 use mathlib.Core.Bool.{Bool}
 use Prim.Native.Nat.{ℕ, ◌-◌}
-use native.Mathlib.Omega.{arith}
 use lib.Dec.{leb}
 use lib.ListN.{length}
-use lib.Seq.{take-length}
-use borrow.Author.Tests.{le-leb, lt-leb}
-use borrow.Author.Rules.{rules}
-use Rattle.arrays.specs.Set.{all}
-use Rattle.sorted.proofs.Scan.{Passed, passed_none, passed_more, passed_fail, passed_end}
+use Rattle.sorted.proofs.Scan.{Passed}
 use Rattle.points.proofs.kinds.all_within.Given as goal
 
 abbrev pub within : ℕ → ℕ → Bool

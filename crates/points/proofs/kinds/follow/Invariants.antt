@@ -1,15 +1,11 @@
 -- `points::kinds::follow` meets its contract. The invariant: the kinds of the pins passed are put, so that the place is their number.
-use mathlib.Core.Path.{◌≡◌, ap, subst⁻¹}
-use mathlib.Core.List.{List, [], ◌∷◌}
-use Prim.Native.Nat.{ℕ, ◌+◌, ◌-◌}
-use native.Mathlib.Omega.{arith}
+use mathlib.Core.List.{List}
+use Prim.Native.Nat.{ℕ, ◌-◌}
 use lib.Dec.{ltb}
 use lib.ListN.{take}
 use Rattle.arrays.specs.Beside.{beside}
-use Rattle.arrays.proofs.paste.Lines.{PutFirst, each_to, each-first_none, each-first_more, each-first_end}
-use Rattle.arrays.proofs.paste.Parts.{pasted_same}
-use Rattle.points.proofs.kinds.Front.{one, each_one}
-use borrow.Author.Rules.{rules}
+use Rattle.arrays.proofs.paste.Lines.{PutFirst, each_to}
+use Rattle.points.proofs.kinds.Front.{one}
 use Rattle.points.proofs.kinds.follow.Given as goal
 
 -- The kind of the next pin k.

@@ -1,6 +1,5 @@
 -- `points::kinds::in_front` meets its contract: the kinds put over zeros.
 use Rattle.points.proofs.kinds.Front.{zeros_behind}
-use borrow.Author.Rules.{rules}
 use Rattle.points.proofs.kinds.in_front.Goals as goal
 
 pub returns : goal.returns

@@ -1,6 +1,5 @@
 -- `points::kinds::kind_or` meets its contract: what stands at the index of the pin, or nothing there.
 use Rattle.points.proofs.kinds.Front.{found, not_found}
-use borrow.Author.Rules.{rules}
 use Rattle.points.proofs.kinds.kind_or.Goals as goal
 
 pub returns-then-i-n : goal.returns-then-i-n

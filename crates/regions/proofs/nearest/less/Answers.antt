@@ -1,7 +1,6 @@
 -- `regions::nearest::less` meets its contract: numbers below 2^31 are the same read as signed.
 use native.Mathlib.Omega.{arith}
 use borrow.Author.Tests.{lt-ltb}
-use borrow.Author.Rules.{rules}
 use Rattle.regions.proofs.nearest.less.Goals as goal
 
 pub returns : goal.returns

@@ -1,8 +1,6 @@
 -- `regions::nearest::nearest` meets its contract. The invariant: the array has the least rays of the points passed.
-use Prim.Native.Nat.{◌-◌, ◌≤◌}
+use Prim.Native.Nat.{◌-◌}
 use native.Mathlib.Omega.{arith}
-use borrow.Author.Rules.{rules}
-use Rattle.regions.specs.Nearest.{AtRows}
 use Rattle.regions.proofs.nearest.Sides.{rows_none, rows_end}
 use Rattle.regions.proofs.nearest.nearest.Goals as goal
 

@@ -8,6 +8,6 @@ use Rattle.regions.proofs.nearest.no_rays.Goals as goal
 
 pub returns : goal.returns
 returns c = record {
-      size = refl;
-      none = λ i. dite (dec_lt i 512) (λ h. get_or-replicate 512 i 0 0 h) (λ h. get_or-eq_default (replicate 512 0) 0 {n = i} (omega arith));
-    }
+  size = refl;
+  none = λ i. dite (dec_lt i 512) (λ h. get_or-replicate 512 i 0 0 h) (λ h. get_or-eq_default (replicate 512 0) 0 {n = i} (omega arith));
+}

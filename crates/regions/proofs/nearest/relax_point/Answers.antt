@@ -2,7 +2,6 @@
 use mathlib.Core.Path.{refl, ap}
 use Prim.Native.Nat.{ℕ, ◌+◌, ◌*◌}
 use native.Mathlib.Omega.{arith}
-use borrow.Author.Rules.{rules}
 use Rattle.regions.proofs.nearest.Sides.{relax_given, point_more}
 use Rattle.regions.proofs.nearest.relax_point.Goals as goal
 

@@ -1,10 +1,6 @@
 -- `regions::nearest::relax_rows` meets its contract. The invariant: the rows passed are relaxed.
 use Prim.Native.Nat.{◌-◌, ◌≤◌}
-use native.Mathlib.Omega.{arith}
-use borrow.Author.Rules.{rules}
-use lib.ListN.{length-set}
 use Rattle.regions.specs.Nearest.{Relaxed}
-use Rattle.regions.proofs.nearest.Relaxation.{complement_less, offered_steep, offered_flat, relax_none, relax_more, relax_end}
 use Rattle.regions.proofs.nearest.relax_rows.Given as goal
 
 abbrev pub invariant-loop-r : goal.invariant-loop-r

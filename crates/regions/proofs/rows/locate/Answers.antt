@@ -1,11 +1,9 @@
 -- `regions::rows::locate` meets its contract. The invariant: the points passed are located.
-use mathlib.Core.Path.{◌≡◌, refl}
-use Prim.Native.Nat.{◌-◌, ◌≤◌}
+use mathlib.Core.Path.{refl}
+use Prim.Native.Nat.{◌-◌}
 use native.Mathlib.Omega.{arith}
 use borrow.Author.Count.{below_none}
 use borrow.Author.Rules.{rules}
-use lib.ListN.{length}
-use Rattle.regions.specs.Rows.{Located}
 use Rattle.regions.proofs.rows.Location.{point_more}
 use Rattle.regions.proofs.rows.locate.Goals as goal
 
@@ -14,12 +12,12 @@ loop-j-init c = (omega arith, refl, refl, record { distances = below_none _; ran
 
 pub loop-j-preserved : goal.loop-j-preserved
 loop-j-preserved c = (
-      omega arith,
-      search rules,
-      search rules,
-      point_more c.loop-j.invariant.3 (omega arith) (omega arith) c.row_gaps.ensures
-          c.rank.ensures,
-    )
+  omega arith,
+  search rules,
+  search rules,
+  point_more c.loop-j.invariant.3 (omega arith) (omega arith) c.row_gaps.ensures
+      c.rank.ensures,
+)
 
 pub returns : goal.returns
 returns c = let q = c.loop-j.invariant.3 in

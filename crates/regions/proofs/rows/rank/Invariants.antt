@@ -1,9 +1,5 @@
 -- `regions::rows::rank` meets its contract. The invariant: the rows passed are below y.
-use mathlib.Core.Logic.{⊎_elim}
 use Prim.Native.Nat.{ℕ, ◌-◌, ◌≤◌, ◌<◌}
-use native.Mathlib.Nat.{eq-or-lt_of_le}
-use native.Mathlib.Omega.{arith}
-use borrow.Author.Count.{below_none, below_more}
 use lib.ListN.{get_or}
 use Rattle.regions.proofs.rows.rank.Given as goal
 

@@ -1,11 +1,9 @@
 -- `regions::rows::row_gaps` meets its contract. The invariant: the distances to the rows passed stand in their places.
-use mathlib.Core.Path.{◌≡◌, refl, ap}
-use Prim.Native.Nat.{ℕ, ◌*◌, ◌-◌, ◌≤◌}
+use mathlib.Core.Path.{refl, ap}
+use Prim.Native.Nat.{ℕ, ◌*◌, ◌-◌}
 use native.Mathlib.Omega.{arith}
 use borrow.Author.Count.{below_none}
 use borrow.Author.Rules.{rules}
-use lib.ListN.{length}
-use Rattle.regions.specs.Rows.{RowGaps}
 use Rattle.regions.proofs.rows.Location.{row_more}
 use Rattle.regions.proofs.rows.row_gaps.Goals as goal
 

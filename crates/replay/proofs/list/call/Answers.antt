@@ -5,7 +5,6 @@ use Rattle.plane.specs.Point.{Point}
 use Rattle.model.specs.Call.{add, withdraw}
 use Rattle.replay.specs.Calls.{call_of}
 use Rattle.replay.proofs.list.Calls.{one_call, point_call, no_call}
-use borrow.Author.Rules.{rules}
 use Rattle.replay.proofs.list.call.Goals as goal
 
 pub returns-in-0 : goal.returns-in-0

@@ -1,8 +1,7 @@
 -- `replay::list::call_all` meets its contract. The invariant: the deck is that after the first i calls.
-use mathlib.Core.Path.{◌≡◌, refl}
-use Prim.Native.Nat.{◌-◌, ◌≤◌}
+use mathlib.Core.Path.{refl}
+use Prim.Native.Nat.{◌-◌}
 use native.Mathlib.Omega.{arith}
-use borrow.Author.Rules.{rules}
 use Rattle.deck.specs.Session.{deck_after}
 use Rattle.replay.specs.Calls.{first_calls, calls_of}
 use Rattle.replay.proofs.list.Calls.{one_more, all_made}

@@ -1,11 +1,8 @@
 -- `replay::list::call_all` meets its contract. The invariant: the deck is that after the first i calls.
-use mathlib.Core.Path.{◌≡◌, refl}
+use mathlib.Core.Path.{◌≡◌}
 use Prim.Native.Nat.{◌-◌, ◌≤◌}
-use native.Mathlib.Omega.{arith}
-use borrow.Author.Rules.{rules}
 use Rattle.deck.specs.Session.{deck_after}
-use Rattle.replay.specs.Calls.{first_calls, calls_of}
-use Rattle.replay.proofs.list.Calls.{one_more, all_made}
+use Rattle.replay.specs.Calls.{first_calls}
 use Rattle.replay.proofs.list.call_all.Given as goal
 
 abbrev pub invariant-loop-i : goal.invariant-loop-i

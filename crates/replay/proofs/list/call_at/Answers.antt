@@ -1,7 +1,6 @@
 -- `replay::list::call_at` meets its contract: the call of the number and of the two numbers read.
 use mathlib.Core.Path.{◌∙◌}
 use Rattle.replay.proofs.list.Calls.{call_read}
-use borrow.Author.Rules.{rules}
 use Rattle.replay.proofs.list.call_at.Goals as goal
 
 pub returns : goal.returns

@@ -1,6 +1,5 @@
 -- `replay::list::signed32` meets its contract: the number itself, or the sum, which fits.
 use Rattle.replay.proofs.list.Signed.{low_is, high_fits, high_is}
-use borrow.Author.Rules.{rules}
 use Rattle.replay.proofs.list.signed32.Goals as goal
 
 pub returns-then-n-lt-HALF : goal.returns-then-n-lt-HALF

@@ -1,5 +1,4 @@
 -- `score::gain::gain` meets its contract: each bottleneck over the rays before, and the gains summed.
-use borrow.Author.Rules.{rules}
 use Rattle.score.proofs.gain.FourRays.{four}
 use Rattle.score.proofs.gain.gain.Goals as goal
 

@@ -1,5 +1,4 @@
 -- `score::gain::gain_at` meets its contract: the rays of the complements at the row.
-use borrow.Author.Rules.{rules}
 use Rattle.score.proofs.gain.gain_at.Goals as goal
 
 pub ray_of-requires : goal.ray_of-requires

@@ -1,7 +1,6 @@
 -- `score::gain::over` meets its contract: the definition opened, its parts are what the calls return.
 use Prim.Native.Nat.{◌+◌, ◌*◌, ◌%◌}
 use native.Mathlib.Omega.{arith}
-use borrow.Author.Rules.{rules}
 use Rattle.score.specs.Gain.{over}
 use Rattle.score.proofs.gain.over.Goals as goal
 

@@ -1,7 +1,6 @@
 -- `sections::codes::are_placed` meets its contract: three tests.
 use mathlib.Core.Path.{ap₂}
 use mathlib.Core.Bool.{◌&&◌}
-use borrow.Author.Rules.{rules}
 use Rattle.sections.proofs.codes.are_placed.Goals as goal
 
 pub returns : goal.returns

@@ -2,17 +2,19 @@
 use mathlib.Core.Path.{sym, ◌∙◌}
 use Prim.Native.Nat.{◌-◌}
 use native.Mathlib.Omega.{arith}
-use borrow.Author.Rules.{rules}
-use Rattle.sections.proofs.codes.InFront.{Decoded, decoded_none, decoded-stop, decoded_more, decoded_end}
+use Rattle.sections.proofs.codes.InFront.{decoded_none, decoded-stop, decoded_more, decoded_end}
 use Rattle.sections.proofs.codes.decode.Goals as goal
 
 pub loop-i-init : goal.loop-i-init
 loop-i-init c = decoded_none _ _ _ _ c.requires.0 c.requires.1
 
 pub returns-in-OutOfRange : goal.returns-in-OutOfRange
-returns-in-OutOfRange c = record { value = (decoded-stop _ _ _ _ c.requires.0 c.requires.1 _ _ c.loop-i.invariant (omega arith)
-    (sym c.locate_at.ensures ∙ c.in-OutOfRange.is)).0; out_after = (decoded-stop _ _ _ _ c.requires.0 c.requires.1 _ _ c.loop-i.invariant (omega arith)
-    (sym c.locate_at.ensures ∙ c.in-OutOfRange.is)).1 }
+returns-in-OutOfRange c = record {
+  value = (decoded-stop _ _ _ _ c.requires.0 c.requires.1 _ _ c.loop-i.invariant (omega arith)
+      (sym c.locate_at.ensures ∙ c.in-OutOfRange.is)).0;
+  out_after = (decoded-stop _ _ _ _ c.requires.0 c.requires.1 _ _ c.loop-i.invariant (omega arith)
+      (sym c.locate_at.ensures ∙ c.in-OutOfRange.is)).1;
+}
 
 pub loop-i-preserved : goal.loop-i-preserved
 loop-i-preserved c = decoded_more _ _ _ _ c.requires.0 c.requires.1 _ _ c.loop-i.invariant (omega arith) _

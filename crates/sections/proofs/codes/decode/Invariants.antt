@@ -1,9 +1,6 @@
 -- `sections::codes::decode` meets its contract. The invariant: the codes of the points passed stand at the front, and all are in range.
-use mathlib.Core.Path.{sym, ◌∙◌}
 use Prim.Native.Nat.{◌-◌}
-use native.Mathlib.Omega.{arith}
-use borrow.Author.Rules.{rules}
-use Rattle.sections.proofs.codes.InFront.{Decoded, decoded_none, decoded-stop, decoded_more, decoded_end}
+use Rattle.sections.proofs.codes.InFront.{Decoded}
 use Rattle.sections.proofs.codes.decode.Given as goal
 
 abbrev pub invariant-loop-i : goal.invariant-loop-i

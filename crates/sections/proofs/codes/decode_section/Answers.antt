@@ -6,7 +6,6 @@ use Rattle.plane.specs.Point.{Point, in_range}
 use Rattle.sections.specs.Codes.{decoded}
 use Rattle.sections.proofs.codes.Placed.{section-read, section-fits}
 use native.Mathlib.Omega.{arith}
-use borrow.Author.Rules.{rules}
 use Rattle.sections.proofs.codes.decode_section.Goals as goal
 
 pub decode-requires : goal.decode-requires

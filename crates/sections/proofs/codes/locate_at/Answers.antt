@@ -4,7 +4,6 @@ use lib.IntN.{ℤ}
 use Rattle.plane.specs.Point.{point}
 use Rattle.plane.specs.Code.{located}
 use Rattle.plane.proofs.codes.Points.{read-located}
-use borrow.Author.Rules.{rules}
 use Rattle.sections.proofs.codes.locate_at.Goals as goal
 
 pub returns : goal.returns

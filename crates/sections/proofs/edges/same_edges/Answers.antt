@@ -1,12 +1,7 @@
 -- `sections::edges::same_edges` meets its contract. The invariant: the bytes of the edges passed are the same.
-use denote.Slice.{shr_slice_at}
 use mathlib.Core.Path.{◌∙◌}
-use Prim.Native.Nat.{◌-◌, ◌*◌}
-use lib.ListN.{take, drop}
-use Rattle.arrays.proofs.same.Alike.{Alike}
-use Rattle.sections.specs.Bytes.{edge_bytes}
+use Prim.Native.Nat.{◌-◌}
 use Rattle.sections.proofs.edges.Bytes.{edges_none, edges_more, edges_fail_first, edges_fail_second, edges_end}
-use borrow.Author.Rules.{rules}
 use native.Mathlib.Omega.{arith}
 use Rattle.sections.proofs.edges.same_edges.Goals as goal
 

@@ -1,6 +1,5 @@
 -- `test_deck::call_entries::entry_empty` meets its contract: the empty deck is put.
 use mathlib.Core.Path.{◌∙◌}
-use borrow.Author.Rules.{rules}
 use Rattle.test_deck.proofs.call_entries.entry_empty.Goals as goal
 
 pub returns : goal.returns

@@ -1,7 +1,6 @@
 -- `test_deck::call_entries::entry_set_tail` meets its contract: the outcome is that of the call on the deck in the words.
 use mathlib.Core.Path.{refl}
 use Rattle.test_deck.proofs.Entries.{of_call}
-use borrow.Author.Rules.{rules}
 use Rattle.test_deck.proofs.call_entries.entry_set_tail.Goals as goal
 
 pub returns : goal.returns

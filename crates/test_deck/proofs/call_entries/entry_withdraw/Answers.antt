@@ -4,7 +4,6 @@ use Rattle.model.specs.Call as call
 use Rattle.plane.specs.Point.{point}
 use Rattle.arrays.proofs.Signed.{read_two}
 use Rattle.test_deck.proofs.Entries.{of_call}
-use borrow.Author.Rules.{rules}
 use Rattle.test_deck.proofs.call_entries.entry_withdraw.Goals as goal
 
 pub returns : goal.returns

@@ -2,7 +2,6 @@
 use Rattle.questions.specs.Answers.{of_column}
 use Rattle.arrays.proofs.Signed.{read_one}
 use Rattle.test_deck.proofs.Entries.{of_question}
-use borrow.Author.Rules.{rules}
 use Rattle.test_deck.proofs.question_entries.entry_column.Goals as goal
 
 pub returns : goal.returns

@@ -4,7 +4,6 @@ use Rattle.questions.specs.Answers.{of_degree}
 use Rattle.plane.specs.Point.{point}
 use Rattle.arrays.proofs.Signed.{read_two}
 use Rattle.test_deck.proofs.Entries.{of_question}
-use borrow.Author.Rules.{rules}
 use Rattle.test_deck.proofs.question_entries.entry_degree_at.Goals as goal
 
 pub returns : goal.returns

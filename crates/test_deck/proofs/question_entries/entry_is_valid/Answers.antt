@@ -1,7 +1,6 @@
 -- `test_deck::question_entries::entry_is_valid` meets its contract: the check of the deck in the words.
 use mathlib.Core.Path.{ap, ◌∙◌}
 use Rattle.deck.specs.Form.{sound}
-use borrow.Author.Rules.{rules}
 use Rattle.test_deck.proofs.question_entries.entry_is_valid.Goals as goal
 
 pub returns : goal.returns

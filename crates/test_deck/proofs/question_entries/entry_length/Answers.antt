@@ -1,7 +1,6 @@
 -- `test_deck::question_entries::entry_length` meets its contract: the answer is that of the deck in the words.
 use mathlib.Core.Path.{refl}
 use Rattle.test_deck.proofs.Entries.{of_question}
-use borrow.Author.Rules.{rules}
 use Rattle.test_deck.proofs.question_entries.entry_length.Goals as goal
 
 pub returns : goal.returns

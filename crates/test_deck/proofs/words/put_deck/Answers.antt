@@ -6,7 +6,7 @@ use Prim.Native.Nat.{ℕ}
 use native.Mathlib.Omega.{arith}
 use lib.ListN.{length, set, length-set}
 use Rattle.test_deck.specs.Words.{pin_count_word, steiner_count_word, tail_word, deck_in}
-use Rattle.test_deck.proofs.words.Places.{Sized, laid_out_lem, deck_in_words}
+use Rattle.test_deck.proofs.words.Places.{laid_out_lem, deck_in_words}
 use borrow.Author.Rules.{rules}
 use Rattle.test_deck.proofs.words.put_deck.Goals as goal
 
@@ -18,19 +18,19 @@ put_numbers-requires c = omega (arith, (record { pins = search rules; steiner = 
 
 pub put_numbers-requires-2 : goal.put_numbers-requires-2
 put_numbers-requires-2 c = omega (
-      arith,
-      (record { pins = search rules; steiner = search rules; ends = search rules }).steiner,
-      length-set c.put_numbers.new.out pin_count_word c.args.d.points.npins,
-      c.put_numbers.auto.out,
-    )
+  arith,
+  (record { pins = search rules; steiner = search rules; ends = search rules }).steiner,
+  length-set c.put_numbers.new.out pin_count_word c.args.d.points.npins,
+  c.put_numbers.auto.out,
+)
 
 pub put_numbers-requires-3 : goal.put_numbers-requires-3
 put_numbers-requires-3 c = omega (
-      arith,
-      (record { pins = search rules; steiner = search rules; ends = search rules }).ends,
-      set_twice c.put_numbers-2.new.out steiner_count_word c.args.d.points.nsteiner tail_word c.args.d.tail,
-      c.put_numbers-2.auto.out,
-    )
+  arith,
+  (record { pins = search rules; steiner = search rules; ends = search rules }).ends,
+  set_twice c.put_numbers-2.new.out steiner_count_word c.args.d.points.nsteiner tail_word c.args.d.tail,
+  c.put_numbers-2.auto.out,
+)
 
 pub returns : goal.returns
 returns c = let laid = laid_out_lem c.args.d (record { pins = search rules; steiner = search rules; ends = search rules }) refl c.put_numbers.ensures c.put_numbers-2.ensures

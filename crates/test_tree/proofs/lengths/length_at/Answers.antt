@@ -1,5 +1,4 @@
 -- `test_tree::lengths::length_at` meets its contract: no points have no length, and for some it is that of `length_with`.
-use borrow.Author.Rules.{rules}
 use Rattle.test_tree.proofs.lengths.Rows.{length_alone}
 use Rattle.test_tree.proofs.lengths.length_at.Goals as goal
 

@@ -1,7 +1,6 @@
 -- `test_tree::lengths::lengths` meets its contract: the tree's keys and their table are what each crossing is tried on.
 use mathlib.Core.Path.{◌∙◌}
 use native.Mathlib.Omega.{arith}
-use borrow.Author.Rules.{rules}
 use Rattle.arrays.proofs.paste.Parts.{front-take}
 use Rattle.score.proofs.TreeKeys.{tree_filling}
 use Rattle.test_tree.proofs.lengths.Rows.{keys_few_lem, tree-measured}

@@ -2,7 +2,6 @@
 use mathlib.Core.Path.{refl}
 use native.Mathlib.Omega.{arith}
 use Rattle.test_tree.proofs.points.Rising.{says_no, points_say}
-use borrow.Author.Rules.{rules}
 use Rattle.test_tree.proofs.points.accepts.Goals as goal
 
 pub returns-then-xs-ys : goal.returns-then-xs-ys

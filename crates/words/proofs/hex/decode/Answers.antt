@@ -2,7 +2,7 @@
 -- The measure: how many places are left.
 use native.Mathlib.Omega.{arith}
 use Rattle.words.proofs.hex.Bytes as decoding
-use Rattle.words.proofs.hex.Bytes.{Decoded, step_at, decoded_none, decoded_more, decoded_all, decoded_full}
+use Rattle.words.proofs.hex.Bytes.{step_at, decoded_none, decoded_more, decoded_all, decoded_full}
 use Rattle.words.proofs.hex.decode.Goals as goal
 
 pub loop-k-init : goal.loop-k-init

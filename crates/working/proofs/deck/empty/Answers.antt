@@ -5,7 +5,6 @@ use Rattle.model.proofs.Session.{empty-valid}
 use Rattle.points.specs.Coded.{Arranged}
 use Rattle.points.proofs.Coded.{valid-arranged}
 use Rattle.working.proofs.deck.Following.{empty_contents_lem}
-use borrow.Author.Rules.{rules}
 use Rattle.working.proofs.deck.empty.Goals as goal
 
 pub arrange-requires : goal.arrange-requires
