@@ -4,14 +4,12 @@ use Rattle.plane.specs.Point.{Point}
 use Rattle.model.specs.Call as call
 use Rattle.plane.proofs.codes.Points.{read-located, out-located, located_is}
 use Rattle.calls.proofs.PointCalls.{refused_is, by_point, add-out}
+use borrow.Author.Rules.{rules}
 use Rattle.calls.proofs.add.Goals as goal
 
 pub add_at-requires : goal.add_at-requires
-add_at-requires c = let there = read-located _ _ _ c.ranges.x c.ranges.y c.locate.ensures ∙ c.in
-    record { in_order = (-At.is in
-    (c.requires.in_order, ((located_is _ _ there).1, c.requires.valid_contents))).0; t = (-At.is in
-    (c.requires.in_order, ((located_is _ _ there).1, c.requires.valid_contents))).1.0; valid_contents = (-At.is in
-    (c.requires.in_order, ((located_is _ _ there).1, c.requires.valid_contents))).1.1 }
+add_at-requires c = let there = read-located _ _ _ c.ranges.x c.ranges.y c.locate.ensures ∙ c.in-At.is in
+    record { in_order = c.requires.in_order; t = (located_is _ _ there).1; valid_contents = c.requires.valid_contents }
 
 pub returns-in-OutOfRange : goal.returns-in-OutOfRange
 returns-in-OutOfRange c = let out = read-located _ _ _ c.ranges.x c.ranges.y c.locate.ensures ∙ c.in-OutOfRange.is in
