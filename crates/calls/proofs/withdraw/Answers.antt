@@ -6,7 +6,10 @@ use Rattle.calls.proofs.PointCalls.{refused_is, by_point, withdraw_none, none_ou
 use Rattle.calls.proofs.withdraw.Goals as goal
 
 pub withdraw_at-requires : goal.withdraw_at-requires
-withdraw_at-requires c = record { in_order = c.requires.in_order; t = (located_is _ _ (read-located _ _ _ c.ranges.x c.ranges.y c.locate.ensures ∙ c.in-At.is)).1 }
+withdraw_at-requires c = record {
+  in_order = c.requires.in_order;
+  t = (located_is _ _ (read-located _ _ _ c.ranges.x c.ranges.y c.locate.ensures ∙ c.in-At.is)).1;
+}
 
 pub returns-in-OutOfRange : goal.returns-in-OutOfRange
 returns-in-OutOfRange c = let out = read-located _ _ _ c.ranges.x c.ranges.y c.locate.ensures ∙ c.in-OutOfRange.is in

@@ -19,19 +19,25 @@ returns-then-not-are_short c = five_long _ _ _ _ _ _ (sym c.same_bytes.ensures �
     (sym (c.are_short.ensures ∙ read-four are_short _ _ _ _ c.ranges.x c.ranges.y c.ranges.u c.ranges.v) ∙ c.if-not-are_short.true)
 
 pub overflow_cast-result : goal.overflow_cast-result
-overflow_cast-result c = cut_fits (all_fit _ _ _ _ (sym (c.are_short.ensures ∙ read-four are_short _ _ _ _ c.ranges.x c.ranges.y c.ranges.u c.ranges.v) ∙ c.if-not-are_short.false)).0
+overflow_cast-result c = cut_fits (all_fit _ _ _ _ (sym (c.are_short.ensures ∙ read-four are_short _ _ _ _ c.ranges.x c.ranges.y c.ranges.u c.ranges.v)
+    ∙ c.if-not-are_short.false)).0
 
 pub overflow_cast-result-2 : goal.overflow_cast-result-2
-overflow_cast-result-2 c = cut_fits (all_fit _ _ _ _ (sym (c.are_short.ensures ∙ read-four are_short _ _ _ _ c.ranges.x c.ranges.y c.ranges.u c.ranges.v) ∙ c.if-not-are_short.false)).1
+overflow_cast-result-2 c = cut_fits (all_fit _ _ _ _ (sym (c.are_short.ensures ∙ read-four are_short _ _ _ _ c.ranges.x c.ranges.y c.ranges.u c.ranges.v)
+    ∙ c.if-not-are_short.false)).1
 
 pub overflow_cast-result-3 : goal.overflow_cast-result-3
-overflow_cast-result-3 c = cut_fits (all_fit _ _ _ _ (sym (c.are_short.ensures ∙ read-four are_short _ _ _ _ c.ranges.x c.ranges.y c.ranges.u c.ranges.v) ∙ c.if-not-are_short.false)).2
+overflow_cast-result-3 c = cut_fits (all_fit _ _ _ _ (sym (c.are_short.ensures ∙ read-four are_short _ _ _ _ c.ranges.x c.ranges.y c.ranges.u c.ranges.v)
+    ∙ c.if-not-are_short.false)).2
 
 pub overflow_cast-result-4 : goal.overflow_cast-result-4
-overflow_cast-result-4 c = cut_fits (all_fit _ _ _ _ (sym (c.are_short.ensures ∙ read-four are_short _ _ _ _ c.ranges.x c.ranges.y c.ranges.u c.ranges.v) ∙ c.if-not-are_short.false)).3
+overflow_cast-result-4 c = cut_fits (all_fit _ _ _ _ (sym (c.are_short.ensures ∙ read-four are_short _ _ _ _ c.ranges.x c.ranges.y c.ranges.u c.ranges.v)
+    ∙ c.if-not-are_short.false)).3
 
 pub returns : goal.returns
-returns c = let fits = all_fit _ _ _ _ (sym (c.are_short.ensures ∙ read-four are_short _ _ _ _ c.ranges.x c.ranges.y c.ranges.u c.ranges.v) ∙ c.if-not-are_short.false) in
+returns c = let fits = all_fit _ _ _ _ (sym (c.are_short.ensures ∙ read-four are_short _ _ _ _ c.ranges.x c.ranges.y c.ranges.u c.ranges.v)
+    ∙ c.if-not-are_short.false) in
     (λ i. Direct (Arrow (cut_read fits.0 i) (cut_read fits.1 i) (cut_read fits.2 i) (cut_read fits.3 i)
     (to_z-of_z w32 c.args.pitch c.ranges.pitch i)))
-    ∙ five_arrow _ _ _ _ _ _ (sym c.same_bytes.ensures ∙ c.if-not-same_bytes.false) (sym (c.are_short.ensures ∙ read-four are_short _ _ _ _ c.ranges.x c.ranges.y c.ranges.u c.ranges.v) ∙ c.if-not-are_short.false)
+    ∙ five_arrow _ _ _ _ _ _ (sym c.same_bytes.ensures ∙ c.if-not-same_bytes.false)
+    (sym (c.are_short.ensures ∙ read-four are_short _ _ _ _ c.ranges.x c.ranges.y c.ranges.u c.ranges.v) ∙ c.if-not-are_short.false)

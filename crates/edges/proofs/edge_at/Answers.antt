@@ -15,4 +15,5 @@ pub overflow_add-result : goal.overflow_add-result
 overflow_add-result c = omega (arith, near-codes _ _ _ c.distance_of.ensures, c.requires.tail_le_longest_tail)
 
 pub returns : goal.returns
-returns c = edge_found _ c.requires.in_order _ c.requires.ends_value _ c.requires.i_lt_nkeys _ _ _ refl (ap (λ (n : ℕ). n + 2 * c.args.tail) c.distance_of.ensures)
+returns c = edge_found _ c.requires.in_order _ c.requires.ends_value _ c.requires.i_lt_nkeys _ _ _ refl
+    (ap (λ (n : ℕ). n + 2 * c.args.tail) c.distance_of.ensures)

@@ -12,10 +12,20 @@ total_of-distances-requires c = let hk : length c.args.w.keys ≡ 136 = search r
     (omega (arith, c.requires.in_order.keys_few), omega (arith, c.requires.in_order.keys_few))
 
 pub overflow_mul-result-2 : goal.overflow_mul-result-2
-overflow_mul-result-2 c = omega (arith, (ap (λ (n : ℕ). n + 2 * c.args.tail * c.args.w.nkeys) c.total_of-distances.ensures ∙ length_is_lem _ c.requires.in_order c.args.tail), length-fits _ c.requires.in_order _ c.requires.tail_le_longest_tail)
+overflow_mul-result-2 c = omega (
+  arith,
+  (ap (λ (n : ℕ). n + 2 * c.args.tail * c.args.w.nkeys) c.total_of-distances.ensures
+      ∙ length_is_lem _ c.requires.in_order c.args.tail),
+  length-fits _ c.requires.in_order _ c.requires.tail_le_longest_tail,
+)
 
 pub overflow_add-result : goal.overflow_add-result
-overflow_add-result c = omega (arith, (ap (λ (n : ℕ). n + 2 * c.args.tail * c.args.w.nkeys) c.total_of-distances.ensures ∙ length_is_lem _ c.requires.in_order c.args.tail), length-fits _ c.requires.in_order _ c.requires.tail_le_longest_tail)
+overflow_add-result c = omega (
+  arith,
+  (ap (λ (n : ℕ). n + 2 * c.args.tail * c.args.w.nkeys) c.total_of-distances.ensures
+      ∙ length_is_lem _ c.requires.in_order c.args.tail),
+  length-fits _ c.requires.in_order _ c.requires.tail_le_longest_tail,
+)
 
 pub returns : goal.returns
 returns c = ap (λ (n : ℕ). n + 2 * c.args.tail * c.args.w.nkeys) c.total_of-distances.ensures ∙ length_is_lem _ c.requires.in_order c.args.tail

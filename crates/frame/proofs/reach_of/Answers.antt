@@ -23,4 +23,7 @@ pub overflow_cast-result-2 : goal.overflow_cast-result-2
 overflow_cast-result-2 c = record { fits = c.loop-i.invariant.stored.1 }
 
 pub returns : goal.returns
-returns c = record { low_value = (reach_all _ _ c.requires _ _ _ c.loop-i.invariant c.loop-i-test.false).0; high_value = (reach_all _ _ c.requires _ _ _ c.loop-i.invariant c.loop-i-test.false).1 }
+returns c = record {
+  low_value = (reach_all _ _ c.requires _ _ _ c.loop-i.invariant c.loop-i-test.false).0;
+  high_value = (reach_all _ _ c.requires _ _ _ c.loop-i.invariant c.loop-i-test.false).1;
+}

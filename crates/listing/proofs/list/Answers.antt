@@ -18,7 +18,8 @@ returns-then-not-c c = front-put 8704 _ _ _ _ c.if-out-lt-LISTING_ROOM.false
     (pasted_same (text_unsound _ (sym c.check-c.ensures.ok ∙ c.if-not-c.true)) c.refused_line.ensures)
 
 pub list_working-requires : goal.list_working-requires
-list_working-requires c = record { in_order = (checked_valid _ _ c.check-c.ensures (c.if-not-c.false)).0; valid_contents = (checked_valid _ _ c.check-c.ensures (c.if-not-c.false)).1 }
+list_working-requires c = record { in_order = (checked_valid _ _ c.check-c.ensures (c.if-not-c.false)).0;
+    valid_contents = (checked_valid _ _ c.check-c.ensures (c.if-not-c.false)).1 }
 
 pub returns : goal.returns
 returns c = let k = c.check-c.ensures in

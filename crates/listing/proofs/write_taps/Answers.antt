@@ -11,4 +11,5 @@ tap_lines-requires c = let p = c.requires.in_order in
 
 pub returns : goal.returns
 returns c = let few = steiner_few_lem _ c.requires.valid in
-    record { pasted = c.tap_lines.ensures.pasted; upper_bound = omega (arith, c.tap_lines.ensures.upper_bound, few, steiner_count_lem _ c.requires.in_order.arranged) }
+    record { pasted = c.tap_lines.ensures.pasted; upper_bound = omega
+        (arith, c.tap_lines.ensures.upper_bound, few, steiner_count_lem _ c.requires.in_order.arranged) }

@@ -27,11 +27,15 @@ pub returns-else-dy-dx : goal.returns-else-dy-dx
 returns-else-dy-dx c = read-octant 1 c.args.dx c.args.dy c.ranges.dx c.ranges.dy (omega (arith, tests))
 
 pub returns-then-dx-dy-lt0 : goal.returns-then-dx-dy-lt0
-returns-then-dx-dy-lt0 c = let h = rw (to_z-of_z w32 ((read c.args.dx) +ℤ (read c.args.dy)) (sum_fits (read c.args.dx) (read c.args.dy) (read_fits c.args.dx c.ranges.dx) (read_fits c.args.dy c.ranges.dy) (omega (arith, tests)) (omega (arith, tests)))) at c.if-dx-dy-lt0.true in
+returns-then-dx-dy-lt0 c = let h = rw (to_z-of_z w32 ((read c.args.dx) +ℤ (read c.args.dy))
+    (sum_fits (read c.args.dx) (read c.args.dy) (read_fits c.args.dx c.ranges.dx) (read_fits c.args.dy c.ranges.dy) (omega (arith, tests))
+    (omega (arith, tests)))) at c.if-dx-dy-lt0.true in
     read-octant 6 c.args.dx c.args.dy c.ranges.dx c.ranges.dy (omega (arith, tests, add_value (read c.args.dx) (read c.args.dy)))
 
 pub returns-else-dx-dy-lt0 : goal.returns-else-dx-dy-lt0
-returns-else-dx-dy-lt0 c = let h = rw (to_z-of_z w32 ((read c.args.dx) +ℤ (read c.args.dy)) (sum_fits (read c.args.dx) (read c.args.dy) (read_fits c.args.dx c.ranges.dx) (read_fits c.args.dy c.ranges.dy) (omega (arith, tests)) (omega (arith, tests)))) at c.if-dx-dy-lt0.false in
+returns-else-dx-dy-lt0 c = let h = rw (to_z-of_z w32 ((read c.args.dx) +ℤ (read c.args.dy))
+    (sum_fits (read c.args.dx) (read c.args.dy) (read_fits c.args.dx c.ranges.dx) (read_fits c.args.dy c.ranges.dy) (omega (arith, tests))
+    (omega (arith, tests)))) at c.if-dx-dy-lt0.false in
     read-octant 7 c.args.dx c.args.dy c.ranges.dx c.ranges.dy (omega (arith, tests, add_value (read c.args.dx) (read c.args.dy)))
 
 pub returns-then-dx-dy : goal.returns-then-dx-dy
@@ -41,11 +45,15 @@ pub returns-else-dx-dy : goal.returns-else-dx-dy
 returns-else-dx-dy c = read-octant 5 c.args.dx c.args.dy c.ranges.dx c.ranges.dy (omega (arith, tests))
 
 pub returns-then-dx-dy-gt0 : goal.returns-then-dx-dy-gt0
-returns-then-dx-dy-gt0 c = let h = rw (to_z-of_z w32 ((read c.args.dx) +ℤ (read c.args.dy)) (rw (+ℤ_comm (read c.args.dx) (read c.args.dy)) (sum_fits (read c.args.dy) (read c.args.dx) (read_fits c.args.dy c.ranges.dy) (read_fits c.args.dx c.ranges.dx) (omega (arith, tests)) (omega (arith, tests))))) at c.if-dx-dy-gt0.true in
+returns-then-dx-dy-gt0 c = let h = rw (to_z-of_z w32 ((read c.args.dx) +ℤ (read c.args.dy))
+    (rw (+ℤ_comm (read c.args.dx) (read c.args.dy)) (sum_fits (read c.args.dy) (read c.args.dx) (read_fits c.args.dy c.ranges.dy)
+    (read_fits c.args.dx c.ranges.dx) (omega (arith, tests)) (omega (arith, tests))))) at c.if-dx-dy-gt0.true in
     read-octant 2 c.args.dx c.args.dy c.ranges.dx c.ranges.dy (omega (arith, tests, add_value (read c.args.dx) (read c.args.dy)))
 
 pub returns-else-dx-dy-gt0 : goal.returns-else-dx-dy-gt0
-returns-else-dx-dy-gt0 c = let h = rw (to_z-of_z w32 ((read c.args.dx) +ℤ (read c.args.dy)) (rw (+ℤ_comm (read c.args.dx) (read c.args.dy)) (sum_fits (read c.args.dy) (read c.args.dx) (read_fits c.args.dy c.ranges.dy) (read_fits c.args.dx c.ranges.dx) (omega (arith, tests)) (omega (arith, tests))))) at c.if-dx-dy-gt0.false in
+returns-else-dx-dy-gt0 c = let h = rw (to_z-of_z w32 ((read c.args.dx) +ℤ (read c.args.dy))
+    (rw (+ℤ_comm (read c.args.dx) (read c.args.dy)) (sum_fits (read c.args.dy) (read c.args.dx) (read_fits c.args.dy c.ranges.dy)
+    (read_fits c.args.dx c.ranges.dx) (omega (arith, tests)) (omega (arith, tests))))) at c.if-dx-dy-gt0.false in
     read-octant 3 c.args.dx c.args.dy c.ranges.dx c.ranges.dy (omega (arith, tests, add_value (read c.args.dx) (read c.args.dy)))
 
 pub returns-then-dy-gt0 : goal.returns-then-dy-gt0

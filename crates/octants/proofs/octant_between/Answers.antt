@@ -11,7 +11,10 @@ overflow_add-result c = omega (arith, c.passes-below.ensures.upper_bound)
 
 pub returns-then-is_lower : goal.returns-then-is_lower
 returns-then-is_lower c = let s = c.args in
-    record { value = c.passes-above.ensures.value ∙ between_upper s.ax s.ay s.bx s.by (sym c.is_lower.ensures ∙ c.if-is_lower.true); upper_bound = omega (arith, c.passes-above.ensures.upper_bound) }
+    record {
+      value = c.passes-above.ensures.value ∙ between_upper s.ax s.ay s.bx s.by (sym c.is_lower.ensures ∙ c.if-is_lower.true);
+      upper_bound = omega (arith, c.passes-above.ensures.upper_bound);
+    }
 
 pub returns-then-is_lower-2 : goal.returns-then-is_lower-2
 returns-then-is_lower-2 c = let s = c.args in

@@ -10,7 +10,10 @@ use Rattle.plane.proofs.Signed.{lowered, lowered_fits}
 use Rattle.plane.proofs.difference.Goals as goal
 
 pub overflow_sub-result : goal.overflow_sub-result
-overflow_sub-result c = subst (SFits w32) (sym (ap₂ ◌-ℤ◌ (to_z_pos w32 c.args.a (omega (arith, c.requires))) (to_z_pos w32 c.args.b (omega (arith, c.requires))) ∙ lowered c.args.a c.args.b)) (lowered_fits c.args.a c.args.b c.requires.0 c.requires.1)
+overflow_sub-result c = subst (SFits w32) (sym (ap₂ ◌-ℤ◌ (to_z_pos w32 c.args.a (omega (arith, c.requires)))
+    (to_z_pos w32 c.args.b (omega (arith, c.requires))) ∙ lowered c.args.a c.args.b)) (lowered_fits c.args.a c.args.b c.requires.0 c.requires.1)
 
 pub returns : goal.returns
-returns c = read_is (subst (SFits w32) (sym (ap₂ ◌-ℤ◌ (to_z_pos w32 c.args.a (omega (arith, c.requires))) (to_z_pos w32 c.args.b (omega (arith, c.requires))) ∙ lowered c.args.a c.args.b)) (lowered_fits c.args.a c.args.b c.requires.0 c.requires.1)) (ap₂ ◌-ℤ◌ (to_z_pos w32 c.args.a (omega (arith, c.requires))) (to_z_pos w32 c.args.b (omega (arith, c.requires))) ∙ lowered c.args.a c.args.b)
+returns c = read_is (subst (SFits w32) (sym (ap₂ ◌-ℤ◌ (to_z_pos w32 c.args.a (omega (arith, c.requires)))
+    (to_z_pos w32 c.args.b (omega (arith, c.requires))) ∙ lowered c.args.a c.args.b)) (lowered_fits c.args.a c.args.b c.requires.0 c.requires.1))
+    (ap₂ ◌-ℤ◌ (to_z_pos w32 c.args.a (omega (arith, c.requires))) (to_z_pos w32 c.args.b (omega (arith, c.requires))) ∙ lowered c.args.a c.args.b)

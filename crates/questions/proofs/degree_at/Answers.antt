@@ -9,7 +9,10 @@ use Rattle.questions.proofs.Answers.{none_beyond}
 use Rattle.questions.proofs.degree_at.Goals as goal
 
 pub degree_of-requires : goal.degree_of-requires
-degree_of-requires c = record { in_order = c.requires.in_order; t = (located_is _ _ (read-located _ _ _ c.ranges.x c.ranges.y c.locate.ensures ∙ c.in-At.is)).1 }
+degree_of-requires c = record {
+  in_order = c.requires.in_order;
+  t = (located_is _ _ (read-located _ _ _ c.ranges.x c.ranges.y c.locate.ensures ∙ c.in-At.is)).1;
+}
 
 pub returns-in-OutOfRange : goal.returns-in-OutOfRange
 returns-in-OutOfRange c = let out = read-located _ _ _ c.ranges.x c.ranges.y c.locate.ensures ∙ c.in-OutOfRange.is in

@@ -7,7 +7,11 @@ use Rattle.replay.proofs.FirstDeck.{start_possible}
 use Rattle.replay.proofs.replay_calls.Goals as goal
 
 pub returns-then-refused-ne0 : goal.returns-then-refused-ne0
-returns-then-refused-ne0 c = record { value = (answer-refused (start_of _) (calls_of _) _ _ c.start-o.ensures c.refusal_number-refused.ensures c.if-refused-ne0.true).0; out_after = (answer-refused (start_of _) (calls_of _) _ _ c.start-o.ensures c.refusal_number-refused.ensures c.if-refused-ne0.true).1 }
+returns-then-refused-ne0 c = record {
+  value = (answer-refused (start_of _)
+      (calls_of _) _ _ c.start-o.ensures c.refusal_number-refused.ensures c.if-refused-ne0.true).0;
+  out_after = (answer-refused (start_of _) (calls_of _) _ _ c.start-o.ensures c.refusal_number-refused.ensures c.if-refused-ne0.true).1;
+}
 
 pub returns : goal.returns
 returns c = record {

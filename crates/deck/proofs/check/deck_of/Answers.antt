@@ -12,11 +12,17 @@ pub slice_bounds-all-end : goal.slice_bounds-all-end
 slice_bounds-all-end c = (let long : length c.args.w.kinds ≡ 64 = search rules in omega (arith, long, c.requires.arranged.pin_codes.few))
 
 pub slice_bounds-in_front-end : goal.slice_bounds-in_front-end
-slice_bounds-in_front-end c = sym (length-take-le _ _ (let long : length c.args.w.kinds ≡ 64 = search rules in omega (arith, long, c.requires.arranged.pin_codes.few)))
+slice_bounds-in_front-end c = sym (length-take-le _ _ (let long : length c.args.w.kinds
+    ≡ 64 = search rules in omega (arith, long, c.requires.arranged.pin_codes.few)))
 
 pub in_front-kinds-requires : goal.in_front-kinds-requires
 in_front-kinds-requires c = let w = c.args.w in
-    omega (arith, length-take-le w.form.points.npins w.kinds (let long : length c.args.w.kinds ≡ 64 = search rules in omega (arith, long, c.requires.arranged.pin_codes.few)), c.requires.arranged.pin_codes.few)
+    omega (
+      arith,
+      length-take-le w.form.points.npins w.kinds (let long : length c.args.w.kinds
+          ≡ 64 = search rules in omega (arith, long, c.requires.arranged.pin_codes.few)),
+      c.requires.arranged.pin_codes.few,
+    )
 
 pub returns : goal.returns
 unfolding deck_of

@@ -22,7 +22,8 @@ arrange-w-requires c = let q = c.args.q in
     passes_arranged q h k (of_true (sym c.is_arranged.ensures ∙ c.if-not-is_arranged.false))
 
 pub returns-then-lowest_weak-w : goal.returns-then-lowest_weak-w
-returns-then-lowest_weak-w c = no_form _ _ _ c.no_form-then-lowest_weak-w.ensures (points-weak _ _ c.arrange-w.ensures _ c.lowest_weak.ensures c.if-lowest_weak-w.true)
+returns-then-lowest_weak-w c = no_form _ _ _ c.no_form-then-lowest_weak-w.ensures
+    (points-weak _ _ c.arrange-w.ensures _ c.lowest_weak.ensures c.if-lowest_weak-w.true)
 
 pub returns : goal.returns
 returns c = let made = c.arrange-w.ensures in

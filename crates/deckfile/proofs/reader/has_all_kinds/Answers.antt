@@ -15,7 +15,8 @@ pub offset-at-requires : goal.offset-at-requires
 offset-at-requires c = pair-there _ c.requires.sections c.requires.b_value
 
 pub slice_bounds-kinds-end : goal.slice_bounds-kinds-end
-slice_bounds-kinds-end c = let h = (kinds-within _ c.requires.sections c.requires.b_value c.offset-at.ensures.0 (sym c.if-size-n.false ∙ c.size.ensures.0)) in search rules
+slice_bounds-kinds-end c = let h = (kinds-within _ c.requires.sections c.requires.b_value c.offset-at.ensures.0 (sym c.if-size-n.false ∙ c.size.ensures.0))
+    in search rules
 
 pub returns-then-not-all_within : goal.returns-then-not-all_within
 returns-then-not-all_within c = no_kind_lem _ c.requires.sections c.requires.b_value c.offset-at.ensures.0 c.size.ensures.0 c.if-size-n.false

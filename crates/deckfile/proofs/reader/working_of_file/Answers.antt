@@ -9,7 +9,12 @@ returns-then-size-gt-STEINER_ROOM c = read_as (last_many c.args.b.now c.requires
     c.refuse.ensures
 
 pub points_working-c-requires : goal.points_working-c-requires
-points_working-c-requires c = record { sections = c.requires.sections; decodes = c.requires.decodes; t = c.requires.t; b_bound = omega (arith, c.size.ensures.0) }
+points_working-c-requires c = record {
+  sections = c.requires.sections;
+  decodes = c.requires.decodes;
+  t = c.requires.t;
+  b_bound = omega (arith, c.size.ensures.0);
+}
 
 pub returns-then-not-c : goal.returns-then-not-c
 returns-then-not-c c = let invalid = c.if-not-c.true in
@@ -17,7 +22,11 @@ returns-then-not-c c = let invalid = c.if-not-c.true in
     invalid) c.refuse-then-not-c.ensures
 
 pub with_kinds-requires : goal.with_kinds-requires
-with_kinds-requires c = let r = (let b = c.args.b.now in let for = c.points_working-c.ensures in let ok = c.if-not-c.false in (c.requires.sections, (found_valid b c.requires.sections c.requires.t c.requires.few_pins _ for ok).0, found_state b c.requires.sections c.requires.t c.requires.few_pins _ for ok)) in
+with_kinds-requires c = let r = (let b = c.args.b.now in let for = c.points_working-c.ensures in let ok = c.if-not-c.false in (
+  c.requires.sections,
+  (found_valid b c.requires.sections c.requires.t c.requires.few_pins _ for ok).0,
+  found_state b c.requires.sections c.requires.t c.requires.few_pins _ for ok,
+)) in
     record { sections = r.0; in_order = r.1; w_value = r.2 }
 
 pub returns-then-is_plain : goal.returns-then-is_plain
@@ -53,7 +62,11 @@ returns-then-not-has_edges c = read_as
     c.refuse-then-not-has_edges.ensures
 
 pub with_kinds-requires-2 : goal.with_kinds-requires-2
-with_kinds-requires-2 c = let r = (let b = c.args.b.now in let for = c.points_working-c.ensures in let ok = c.if-not-c.false in (c.requires.sections, (found_valid b c.requires.sections c.requires.t c.requires.few_pins _ for ok).0, found_state b c.requires.sections c.requires.t c.requires.few_pins _ for ok)) in
+with_kinds-requires-2 c = let r = (let b = c.args.b.now in let for = c.points_working-c.ensures in let ok = c.if-not-c.false in (
+  c.requires.sections,
+  (found_valid b c.requires.sections c.requires.t c.requires.few_pins _ for ok).0,
+  found_state b c.requires.sections c.requires.t c.requires.few_pins _ for ok,
+)) in
     record { sections = r.0; in_order = r.1; w_value = r.2 }
 
 pub returns : goal.returns

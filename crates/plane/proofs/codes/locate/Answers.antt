@@ -21,7 +21,11 @@ pub returns-then-is_in_range : goal.returns-then-is_in_range
 unfolding code
 returns-then-is_in_range c = let x = c.stored.ensures ∙ read_one stored_of c.ranges.x in
     let y = c.stored-then-is_in_range.ensures ∙ read_one stored_of c.ranges.y in
-    ap At (c.pack.ensures.0 ∙ ap₂ packed x y) ∙ sym (located_in (record { x = c.args.x; y = c.args.y }) ((let x = c.is_in_range.ensures ∙ read_one coordinate_in_range c.ranges.x in sym (ap₂ ◌&&◌ x (c.is_in_range-2.ensures ∙ read_one coordinate_in_range c.ranges.y))) ∙ c.if-is_in_range.true))
+    ap At (c.pack.ensures.0 ∙ ap₂ packed x y) ∙ sym (located_in (record { x = c.args.x; y = c.args.y })
+    ((let x = c.is_in_range.ensures ∙ read_one coordinate_in_range c.ranges.x in sym
+    (ap₂ ◌&&◌ x (c.is_in_range-2.ensures ∙ read_one coordinate_in_range c.ranges.y))) ∙ c.if-is_in_range.true))
 
 pub returns-else-is_in_range : goal.returns-else-is_in_range
-returns-else-is_in_range c = sym (located-out (record { x = c.args.x; y = c.args.y }) ((let x = c.is_in_range.ensures ∙ read_one coordinate_in_range c.ranges.x in sym (ap₂ ◌&&◌ x (c.is_in_range-2.ensures ∙ read_one coordinate_in_range c.ranges.y))) ∙ c.if-is_in_range.false))
+returns-else-is_in_range c = sym (located-out (record { x = c.args.x; y = c.args.y })
+    ((let x = c.is_in_range.ensures ∙ read_one coordinate_in_range c.ranges.x in sym
+    (ap₂ ◌&&◌ x (c.is_in_range-2.ensures ∙ read_one coordinate_in_range c.ranges.y))) ∙ c.if-is_in_range.false))

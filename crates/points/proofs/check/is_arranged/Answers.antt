@@ -21,14 +21,16 @@ pub returns-then-npins-gt-MAX_PINS : goal.returns-then-npins-gt-MAX_PINS
 returns-then-npins-gt-MAX_PINS c = and_no _ _ (lt-leb _ _ c.if-npins-gt-MAX_PINS.true)
 
 pub returns-then-npins-nsteiner : goal.returns-then-npins-nsteiner
-returns-then-npins-nsteiner c = and_yes _ _ _ (le-leb _ _ c.if-npins-gt-MAX_PINS.false) (and_no _ _ (no_room c.if-npins-gt-MAX_PINS.false c.if-npins-nsteiner.true))
+returns-then-npins-nsteiner c = and_yes _ _ _ (le-leb _ _ c.if-npins-gt-MAX_PINS.false)
+    (and_no _ _ (no_room c.if-npins-gt-MAX_PINS.false c.if-npins-nsteiner.true))
 
 pub is_ordered-requires : goal.is_ordered-requires
 is_ordered-requires c = let pins-sized : length c.args.q.pins ≡ 64 = search rules in
     omega (arith, c.if-npins-gt-MAX_PINS.false, pins-sized)
 
 pub returns-then-not-is_ordered : goal.returns-then-not-is_ordered
-returns-then-not-is_ordered c = and_yes _ _ _ (le-leb _ _ c.if-npins-gt-MAX_PINS.false) (and_yes _ _ _ (room c.if-npins-gt-MAX_PINS.false c.if-npins-nsteiner.false)
+returns-then-not-is_ordered c = and_yes _ _ _ (le-leb _ _ c.if-npins-gt-MAX_PINS.false)
+    (and_yes _ _ _ (room c.if-npins-gt-MAX_PINS.false c.if-npins-nsteiner.false)
     (and_no _ _ (sym c.is_ordered.ensures ∙ c.if-not-is_ordered.true)))
 
 pub is_ordered-requires-2 : goal.is_ordered-requires-2
@@ -36,7 +38,8 @@ is_ordered-requires-2 c = let steiner-sized : length c.args.q.steiner ≡ 128 = 
     omega (arith, c.if-npins-nsteiner.false, steiner-sized)
 
 pub returns-then-not-is_ordered-2 : goal.returns-then-not-is_ordered-2
-returns-then-not-is_ordered-2 c = and_yes _ _ _ (le-leb _ _ c.if-npins-gt-MAX_PINS.false) (and_yes _ _ _ (room c.if-npins-gt-MAX_PINS.false c.if-npins-nsteiner.false)
+returns-then-not-is_ordered-2 c = and_yes _ _ _ (le-leb _ _ c.if-npins-gt-MAX_PINS.false)
+    (and_yes _ _ _ (room c.if-npins-gt-MAX_PINS.false c.if-npins-nsteiner.false)
     (and_yes _ _ _ (sym c.is_ordered.ensures ∙ c.if-not-is_ordered.false)
     (and_no _ _ (sym c.is_ordered-2.ensures ∙ c.if-not-is_ordered-2.true))))
 

@@ -4,7 +4,12 @@ use Rattle.model.specs.State.{insert, remove, prune}
 use Rattle.prune.proofs.change.with_steiner.Goals as goal
 
 pub with_steiner-requires : goal.with_steiner-requires
-with_steiner-requires c = record { arranged = c.requires.in_order.arranged; t = c.requires.t; nsteiner_bound = c.requires.nsteiner_bound; fact = c.requires.fact }
+with_steiner-requires c = record {
+  arranged = c.requires.in_order.arranged;
+  t = c.requires.t;
+  nsteiner_bound = c.requires.nsteiner_bound;
+  fact = c.requires.fact;
+}
 
 pub prune-requires : goal.prune-requires
 prune-requires c = c.with_steiner.ensures.0

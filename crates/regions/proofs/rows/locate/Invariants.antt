@@ -6,7 +6,8 @@ use Rattle.regions.specs.Rows.{Located}
 use Rattle.regions.proofs.rows.locate.Given as goal
 
 abbrev pub invariant-loop-j : goal.invariant-loop-j
-invariant-loop-j l = (l.j ≤ l.n) × (length l.gaps ≡ length l.initial.gaps) × (length l.ranks ≡ length l.initial.ranks) × Located l.ys l.j l.rows l.count l.gaps l.ranks
+invariant-loop-j l = (l.j ≤ l.n) × (length l.gaps ≡ length l.initial.gaps) × (length l.ranks ≡ length l.initial.ranks)
+    × Located l.ys l.j l.rows l.count l.gaps l.ranks
 
 abbrev pub decreases-loop-j : goal.decreases-loop-j
 decreases-loop-j l = l.n - l.j

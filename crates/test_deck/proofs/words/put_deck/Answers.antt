@@ -33,6 +33,11 @@ put_numbers-requires-3 c = omega (
 )
 
 pub returns : goal.returns
-returns c = let laid = laid_out_lem c.args.d (record { pins = search rules; steiner = search rules; ends = search rules }) refl c.put_numbers.ensures c.put_numbers-2.ensures
+returns c = let laid = laid_out_lem c.args.d (record { pins = search rules; steiner = search rules; ends = search rules }) refl c.put_numbers.ensures
+    c.put_numbers-2.ensures
     c.put_numbers-3.ensures in
-    record { words_after = laid; kinds_after = ap (λ (w : List ℕ). deck_in w c.args.d.kinds) laid ∙ deck_in_words c.args.d (record { pins = search rules; steiner = search rules; ends = search rules }) }
+    record {
+      words_after = laid;
+      kinds_after = ap (λ (w : List ℕ). deck_in w c.args.d.kinds) laid
+          ∙ deck_in_words c.args.d (record { pins = search rules; steiner = search rules; ends = search rules });
+    }
