@@ -7,5 +7,4 @@ pub returns : goal.returns
 unfolding long_side
 returns c = let first = c.larger-2.ensures in
     let second = c.larger.ensures in
-    let known = c.struct_known-2-1.given in
-    record { value = omega (arith, first, second); lower_bound = (omega (arith, first, second), omega (arith, first, second, known)) }
+    record { value = omega (arith, first, second); lower_bound = (omega (arith, first, second), omega (arith, first, second)) }

@@ -4,7 +4,9 @@ use Rattle.frame.proofs.Extremes.{reach_last, reach_more, reach_all, reach_none}
 use Rattle.frame.proofs.reach_of.Goals as goal
 
 pub returns-then-n-eq0 : goal.returns-then-n-eq0
-returns-then-n-eq0 c = record { low_value = (reach_none _ _ c.if-n-eq0.true).0; high_value = (reach_none _ _ c.if-n-eq0.true).1 }
+returns-then-n-eq0 c =
+    let done = reach_none _ _ c.if-n-eq0.true in
+    record { low_value = done.0; high_value = done.1 }
 
 pub loop-i-init : goal.loop-i-init
 loop-i-init c = reach_last _ _ c.requires c.if-n-eq0.false _ c.wide-low.ensures
@@ -23,7 +25,6 @@ pub overflow_cast-result-2 : goal.overflow_cast-result-2
 overflow_cast-result-2 c = record { fits = c.loop-i.invariant.stored.1 }
 
 pub returns : goal.returns
-returns c = record {
-  low_value = (reach_all _ _ c.requires _ _ _ c.loop-i.invariant c.loop-i-test.false).0;
-  high_value = (reach_all _ _ c.requires _ _ _ c.loop-i.invariant c.loop-i-test.false).1;
-}
+returns c =
+    let done = reach_all _ _ c.requires _ _ _ c.loop-i.invariant c.loop-i-test.false in
+    record { low_value = done.0; high_value = done.1 }

@@ -1,8 +1,6 @@
 -- `pin_line::all_plain` meets its contract. The invariant: the bytes passed pass the test.
 use mathlib.Core.Path.{ap, ◌∙◌}
-use Prim.Native.Nat.{◌-◌}
 use native.Mathlib.Omega.{arith}
-use lib.ListN.{length}
 use lib.Seq.{take-length}
 use Rattle.arrays.specs.Set.{all}
 use Rattle.sorted.proofs.Scan.{passed_none, passed_more, passed_fail, passed_end}

@@ -1,5 +1,4 @@
 -- `template::fill` meets its contract. The invariant: the bytes passed are put, with their numbers. The measure: how many bytes are left.
-use Prim.Native.Nat.{◌-◌}
 use native.Mathlib.Omega.{arith}
 use Rattle.template.proofs.Filling.{fill_none, fill_more, fill_end}
 use Rattle.template.proofs.fill.Goals as goal
@@ -18,4 +17,6 @@ pub shape_of-out : goal.shape_of-out
 shape_of-out c = c.loop-i.invariant.same
 
 pub returns : goal.returns
-returns c = record { pasted = (fill_end _ _ _ _ c.loop-i.invariant c.loop-i-test.false).0; upper_bound = (fill_end _ _ _ _ c.loop-i.invariant c.loop-i-test.false).1 }
+returns c =
+    let done = fill_end _ _ _ _ c.loop-i.invariant c.loop-i-test.false in
+    record { pasted = done.0; upper_bound = done.1 }

@@ -7,4 +7,7 @@ use Rattle.template.proofs.put_coordinate.Goals as goal
 
 pub returns : goal.returns
 returns c = let coordinate = c.to_signed in
-    record { pasted = pasted_same (ap signed_decimal (read_is (record { sfits = coordinate.type-inv }) coordinate.ensures)) c.signed.ensures.pasted; upper_bound = c.signed.ensures.upper_bound }
+    record {
+      pasted = pasted_same (ap signed_decimal (read_is (record { sfits = coordinate.type_inv }) coordinate.ensures)) c.signed.ensures.pasted;
+      upper_bound = c.signed.ensures.upper_bound;
+    }

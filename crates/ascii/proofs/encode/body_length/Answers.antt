@@ -3,10 +3,16 @@ use Rattle.ascii.proofs.encode.Text.{body_empty, body_feed, body_other}
 use Rattle.ascii.proofs.encode.body_length.Goals as goal
 
 pub returns-then-n-eq0 : goal.returns-then-n-eq0
-returns-then-n-eq0 c = record { value = (body_empty c.args.lines.now c.if-n-eq0.true).0; upper_bound = (body_empty c.args.lines.now c.if-n-eq0.true).1 }
+returns-then-n-eq0 c =
+    let done = body_empty c.args.lines.now c.if-n-eq0.true in
+    record { value = done.0; upper_bound = done.1 }
 
 pub returns-then-lines-n-eq10 : goal.returns-then-lines-n-eq10
-returns-then-lines-n-eq10 c = record { value = (body_feed c.args.lines.now c.if-lines-n-eq10.true).0; upper_bound = (body_feed c.args.lines.now c.if-lines-n-eq10.true).1 }
+returns-then-lines-n-eq10 c =
+    let done = body_feed c.args.lines.now c.if-lines-n-eq10.true in
+    record { value = done.0; upper_bound = done.1 }
 
 pub returns : goal.returns
-returns c = record { value = (body_other c.args.lines.now c.if-lines-n-eq10.false).0; upper_bound = (body_other c.args.lines.now c.if-lines-n-eq10.false).1 }
+returns c =
+    let done = body_other c.args.lines.now c.if-lines-n-eq10.false in
+    record { value = done.0; upper_bound = done.1 }

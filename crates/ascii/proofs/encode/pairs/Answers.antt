@@ -1,5 +1,4 @@
 -- `ascii::encode::pairs` meets its contract. The invariant: the digits of the bytes passed are written.
-use Prim.Native.Nat.{◌-◌}
 use native.Mathlib.Omega.{arith}
 use Rattle.ascii.specs.Encoding.{hex_pair}
 use Rattle.arrays.proofs.paste.Lines.{each-first_none, each-first_more, each-first_end, each_all}

@@ -1,5 +1,4 @@
 -- `ascii::encode::spread_all` meets its contract. The invariant: what stands for the bytes passed is written.
-use Prim.Native.Nat.{◌-◌}
 use native.Mathlib.Omega.{arith}
 use Rattle.ascii.specs.Encoding.{spread}
 use Rattle.arrays.proofs.paste.Lines.{each-first_none, each-first_more, each-first_end}
