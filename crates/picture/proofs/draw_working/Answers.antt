@@ -17,4 +17,12 @@ returns c = let end = c.put_bytes-symbols.ensures in
     (pasted_then c.put_head-runs.ensures.pasted (omega (arith, room, c.put_head-runs.ensures.upper_bound))
     (pasted_then c.put_runs-end.ensures.pasted (omega (arith, room, c.put_head-runs.ensures.upper_bound, c.put_runs-end.ensures.upper_bound))
     (pasted_then end (omega (arith, room, c.put_head-runs.ensures.upper_bound, c.put_runs-end.ensures.upper_bound, end.next))
-    (pasted_then c.put_points-foot.ensures.pasted (omega (arith, room, c.put_head-runs.ensures.upper_bound, c.put_runs-end.ensures.upper_bound, end.next, c.put_points-foot.ensures.upper_bound)) c.put_foot.ensures.pasted)))))
+    (pasted_then c.put_points-foot.ensures.pasted
+    (omega (
+      arith,
+      room,
+      c.put_head-runs.ensures.upper_bound,
+      c.put_runs-end.ensures.upper_bound,
+      end.next,
+      c.put_points-foot.ensures.upper_bound,
+    )) c.put_foot.ensures.pasted)))))

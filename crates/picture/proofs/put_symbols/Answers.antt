@@ -1,5 +1,4 @@
 -- `picture::put_symbols` meets its contract. The invariant: the symbols of the points passed are put. The measure: how many are left.
-use Prim.Native.Nat.{◌-◌}
 use native.Mathlib.Omega.{arith}
 use Rattle.arrays.proofs.paste.Lines.{first_none, first_more, first_end}
 use Rattle.frame.specs.Stored.{box_in}
@@ -26,15 +25,13 @@ loop-i-preserved c = let symbols = c.args.symbols.now in
     first_more (symbols_to b symbols codes) symbol_room _ _ _ _ _ _ _ _ _ inv c.loop-i-test.true
     (symbol_more b symbols codes c.loop-i.i (omega (arith, c.requires.n_in_bounds_2.0, c.loop-i-test.true))
     (omega (arith, c.requires.n_in_bounds_2.1, c.loop-i-test.true))) (omega (arith, c.requires.n_in_bounds, inv.most, inv.same, c.loop-i-test.true))
-    symbol.ensures.0 symbol.ensures.1 symbol.auto.0
+    symbol.ensures.pasted symbol.ensures.upper_bound symbol.auto.out
 
 pub shape_of-out : goal.shape_of-out
 shape_of-out c = c.loop-i.invariant.same
 
 pub returns : goal.returns
-returns c = record {
-  pasted = (first_end (symbols_to (box_in c.args.f) c.args.symbols.now c.args.codes.now) symbol_room _ _ _ _ _ _ c.loop-i.invariant
-      c.loop-i-test.false).0;
-  upper_bound = (first_end (symbols_to (box_in c.args.f) c.args.symbols.now c.args.codes.now) symbol_room _ _ _ _ _ _ c.loop-i.invariant
-      c.loop-i-test.false).1;
-}
+returns c =
+    let done = first_end (symbols_to (box_in c.args.f) c.args.symbols.now c.args.codes.now) symbol_room _ _ _ _ _ _ c.loop-i.invariant
+    c.loop-i-test.false in
+    record { pasted = done.0; upper_bound = done.1 }

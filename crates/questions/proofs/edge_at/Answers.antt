@@ -9,7 +9,9 @@ returns-then-d-i c = no_edge _ _ c.requires.in_order _ c.if-d-i.true
 pub edge_at-requires : goal.edge_at-requires
 edge_at-requires c = record {
   in_order = c.requires.in_order;
-  valid_contents = (c.edge_numbers-ends.ensures, (c.if-d-i.false, c.requires.valid_contents.tailed));
+  ends_value = c.edge_numbers-ends.ensures;
+  i_lt_nkeys = c.if-d-i.false;
+  tail_le_longest_tail = c.requires.valid_contents.tailed;
 }
 
 pub returns : goal.returns
