@@ -6,6 +6,7 @@ use Rattle.model.specs.File.{headed, whole}
 use Rattle.deckfile.proofs.Checks.{passed, failed, long_enough, sections_of_lem, few-pins, refused_1, refused_2, refused_3, refused_4, refused_5, all_passed}
 use Rattle.deckfile.proofs.reader.LastCheck.{read_as}
 use native.Mathlib.Omega.{arith}
+use borrow.Author.Tests.{not-true, not-false}
 use Rattle.deckfile.proofs.read_working.Goals as goal
 
 pub returns-then-not-is_headed : goal.returns-then-not-is_headed
@@ -44,7 +45,7 @@ decode_points-found-requires c = let b = (c.args.file.now) in
     record { sections = sections_of_lem b h l w; few_pins = few-pins b h l w _ c.size.ensures.0 c.if-size-gt-MAX_PINS.false }
 
 pub returns-then-not-found : goal.returns-then-not-found
-returns-then-not-found c = let other = failed c.decode_points-found.ensures.ok c.if-not-found.true in
+returns-then-not-found c = let other = failed c.decode_points-found.ensures.ok (not-true _ c.if-not-found.true) in
     let misplaced = refused_5 (c.args.file.now) (passed c.is_headed.ensures c.if-not-is_headed.false)
     (passed c.is_laid_out.ensures c.if-not-is_laid_out.false) (passed c.is_whole.ensures c.if-not-is_whole.false) in
     read_as (misplaced _ c.size.ensures.0 c.if-size-gt-MAX_PINS.false other) c.refuse-then-not-found.ensures
@@ -56,10 +57,10 @@ working_of_file-requires c = let b = (c.args.file.now) in
     let w = (passed c.is_whole.ensures c.if-not-is_whole.false) in
     let few = few-pins b h l w _ c.size.ensures.0 c.if-size-gt-MAX_PINS.false in
     let found = c.decode_points-found.ensures in
-    record { sections = sections_of_lem b h l w; few_pins = few; decodes = found; t = of_true (passed found.ok c.if-not-found.false) }
+    record { sections = sections_of_lem b h l w; few_pins = few; decodes = found; t = of_true (passed found.ok (not-false _ c.if-not-found.false)) }
 
 pub returns : goal.returns
-returns c = let points = passed c.decode_points-found.ensures.ok c.if-not-found.false in
+returns c = let points = passed c.decode_points-found.ensures.ok (not-false _ c.if-not-found.false) in
     let all = all_passed (c.args.file.now) (passed c.is_headed.ensures c.if-not-is_headed.false) (passed c.is_laid_out.ensures c.if-not-is_laid_out.false)
     (passed c.is_whole.ensures c.if-not-is_whole.false) in
     read_as (all _ c.size.ensures.0 c.if-size-gt-MAX_PINS.false points) c.working_of_file.ensures
