@@ -68,7 +68,7 @@ fn refuse(d: WorkingDeck, number: u8) -> Changed
 
 // Adds a pin of a kind at a point in range.
 fn add_at(d: WorkingDeck, k: u64, kind: u32) -> Changed
-    requires in_order_lem { InOrder d.form }
+    requires in_order { InOrder d.form }
     requires t { T (is_code k) }
     requires valid_contents { ValidContents (contents_of d) }
     ensures { ChangedBy d (call.add (point_of k) kind) result }
@@ -97,7 +97,7 @@ fn add_at(d: WorkingDeck, k: u64, kind: u32) -> Changed
 
 // Withdraws a pin at a point in range.
 fn withdraw_at(d: WorkingDeck, k: u64) -> Changed
-    requires in_order_lem { InOrder d.form }
+    requires in_order { InOrder d.form }
     requires t { T (is_code k) }
     ensures { ChangedBy d (call.withdraw (point_of k)) result }
 {
@@ -114,7 +114,7 @@ fn withdraw_at(d: WorkingDeck, k: u64) -> Changed
 
 // Adds a pin of a kind. Returns the deck that follows, and the reply: done, or a refusal, in the order 7, 15, 8, 10.
 pub fn add(d: WorkingDeck, x: i32, y: i32, kind: u32) -> Changed
-    requires in_order_lem { InOrder d.form }
+    requires in_order { InOrder d.form }
     requires valid_contents { ValidContents (contents_of d) }
     ensures { ChangedBy d (call.add (record { x = x; y = y }) kind) result }
 {
@@ -126,7 +126,7 @@ pub fn add(d: WorkingDeck, x: i32, y: i32, kind: u32) -> Changed
 
 // Withdraws a pin. Returns the deck that follows, and the reply: done, or refusal 9.
 pub fn withdraw(d: WorkingDeck, x: i32, y: i32) -> Changed
-    requires in_order_lem { InOrder d.form }
+    requires in_order { InOrder d.form }
     requires valid_contents { ValidContents (contents_of d) }
     ensures { ChangedBy d (call.withdraw (record { x = x; y = y })) result }
 {
@@ -138,7 +138,7 @@ pub fn withdraw(d: WorkingDeck, x: i32, y: i32) -> Changed
 
 // One round. Returns the deck that follows, and the reply: finished, or the new Steiner point with the fall in length.
 pub fn round(d: WorkingDeck) -> Changed
-    requires in_order_lem { InOrder d.form }
+    requires in_order { InOrder d.form }
     requires valid_contents { ValidContents (contents_of d) }
     ensures { ChangedBy d call.one_round result }
 {
@@ -155,7 +155,7 @@ pub fn round(d: WorkingDeck) -> Changed
 
 // Rounds until one is finished. Returns the deck that they lead to, and how many added a Steiner point.
 pub fn run_to_end(d: WorkingDeck) -> Changed
-    requires in_order_lem { InOrder d.form }
+    requires in_order { InOrder d.form }
     requires valid_contents { ValidContents (contents_of d) }
     ensures { ChangedBy d call.run_to_end result }
 {

@@ -62,7 +62,7 @@ fn free_rows(codes: &[u64], n: usize, x: u16, rows: &[u16], count: usize, free: 
 // The candidate with this x that has the greatest gain, the lowest of several, with that gain; nothing where there is none. If no row of the column is held,
 // no point has that x.
 fn greatest(w: Working, x: u16) -> Greatest
-    requires in_order_lem { work.InOrder w }
+    requires in_order { work.InOrder w }
     requires x_le_stored_limit { x ≤ stored_limit }
     ensures value { result ≡ try_all (points (work.state_of w)) nothing_found (candidates_at (coordinate x) (points (work.state_of w))) }
     ensures gain_le_most_gain { result.gain ≤ most_gain }
@@ -112,7 +112,7 @@ fn choice_of(found: Greatest, tail: u64) -> Choice
 // Returns the lowest of the candidates with this x that have the greatest saving, with that saving, or that there is none. Of the point that is located only
 // x is looked at, so any y in range would do.
 pub fn column(w: Working, x: i32, tail: u64) -> Choice
-    requires in_order_lem { work.InOrder w }
+    requires in_order { work.InOrder w }
     requires tail_le_longest_tail { tail ≤ longest_tail }
     ensures { result ≡ choice_of (column_answer tail (points (work.state_of w)) x) }
 {

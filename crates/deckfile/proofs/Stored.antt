@@ -44,7 +44,8 @@ module _ (c : Contents) (l : List ℕ) where
 -- A deck: refused where it is not sound, else stored.
 module _ (d : Deck) (l : List ℕ) where
   by_sound : {t : Bool} → sound d ≡ t
-      → (if t (λ _. stored_answer (contents_of d) l) (λ _. Refused 11) ≡ written d l) × (if t (λ _. stored_buffer (contents_of d) l) (λ _. l) ≡ buffer_after d l)
+      → (if t (λ _. stored_answer (contents_of d) l) (λ _. Refused 11) ≡ written d l)
+      × (if t (λ _. stored_buffer (contents_of d) l) (λ _. l) ≡ buffer_after d l)
   unfolding written buffer_after
   by_sound e = (
     ap (λ (t : Bool). if t (λ _. stored_answer (contents_of d) l) (λ _. Refused 11)) (sym e),

@@ -35,6 +35,7 @@ pub record Entered (r : Read) (calls : List Call) (l : List ℕ) : Type 0 where
       → (answer_number r calls l ≡ length (file_of (contents_after c calls)))
       × (answer_buffer r calls l ≡ file_of (contents_after c calls) ++ drop (length (file_of (contents_after c calls))) l)
   -- no room for it: 12, and every byte as it was
-  pub short : (c : Contents) → r ≡ deck c → length l < length (file_of (contents_after c calls)) → (answer_number r calls l ≡ 12) × (answer_buffer r calls l ≡ l)
+  pub short : (c : Contents) → r ≡ deck c → length l < length (file_of (contents_after c calls)) → (answer_number r calls l ≡ 12)
+      × (answer_buffer r calls l ≡ l)
   -- so a number below 30 is a refusal
   pub least : (c : Contents) → r ≡ deck c → 30 ≤ length (file_of (contents_after c calls))

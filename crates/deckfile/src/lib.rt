@@ -71,7 +71,7 @@ pub fn read(file: &[u8]) -> Outcome
 // Writes the file of a deck in working form to the front of a buffer. Returns its length, or refusal 12 where there is no room; a refusal
 // keeps every byte.
 pub fn write_working(w: WorkingDeck, out: &mut [u8]) -> Written
-    requires in_order_lem { InOrder w.form }
+    requires in_order { InOrder w.form }
     requires valid_contents { ValidContents (contents_of w) }
     ensures value { result ≡ stored_answer (contents_of w) out.old }
     ensures out_after { out.new ≡ stored_buffer (contents_of w) out.old }

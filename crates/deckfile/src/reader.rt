@@ -73,7 +73,7 @@ fn points_working(b: &[u8], found: FilePoints) -> Formed
 // Whether the third section holds the edges of a working form.
 fn has_edges(b: &[u8], w: Working) -> bool
     requires sections { Sections b.now }
-    requires in_order_lem { InOrder w }
+    requires in_order { InOrder w }
     requires valid { Valid (state_of w) }
     ensures { result ≡ same_list (model.section b.now 2) (run_section (state_of w)) }
 {
@@ -115,7 +115,7 @@ fn kinds_of(b: &[u8], n: usize) -> [u8; MAX_PINS]
 // Check 15: returns the deck of the file, whose working form is given, without tails, and done, or refusal 15.
 fn with_kinds(b: &[u8], w: Working) -> Changed
     requires sections { Sections b.now }
-    requires in_order_lem { InOrder w }
+    requires in_order { InOrder w }
     requires w_value { state_of w ≡ file_state b.now }
     ensures { ReadTo (kinds_answer b.now) result }
 {

@@ -62,7 +62,8 @@ refused_case c call.one_round n e = let z : ◌≡◌ {A = ℕ} 0 1 = cc in absu
 refused_case c call.run_to_end n e = let z : ◌≡◌ {A = ℕ} 0 1 = cc in absurd (omega arith)
 refused_case c (call.set_tail tail) n e = let o = call.tail_refusal tail in (unless-kept o c _ n e, (unless-number o c _ n).0 e)
 
-refused_call_lem : (d : Deck) (s : Sound d) (c : call.Call) (n : ℕ) → (called d c).reply ≡ reply.Refused n → ((called d c).next ≡ d) × InCase (contents_of d) c n
+refused_call_lem : (d : Deck) (s : Sound d) (c : call.Call) (n : ℕ) → (called d c).reply ≡ reply.Refused n → ((called d c).next ≡ d)
+    × InCase (contents_of d) c n
 refused_call_lem d s c n e =
     let r = refused_case (contents_of d) c n (refused-reply (call.step (contents_of d) c).reply n (sym (reply_is d s c) ∙ e)) in
     (next_is d s c ∙ ap deck_of r.0 ∙ sym s.same, r.1)

@@ -30,7 +30,8 @@ use Rattle.demands.proofs.Method.{answered, next_is, reply_is, next-contents}
 
 module _ (d : Deck) (s : Sound d) where
   -- What the call on the deck replies is what the call on its contents replies.
-  refused_is : (tail n : ℕ) → ((called d (call.set_tail tail)).reply ≡ reply.Refused n) ↔ ((call.step (contents_of d) (call.set_tail tail)).reply ≡ call.refused n)
+  refused_is : (tail n : ℕ) → ((called d (call.set_tail tail)).reply ≡ reply.Refused n) ↔
+      ((call.step (contents_of d) (call.set_tail tail)).reply ≡ call.refused n)
   unfolding reply_of
   refused_is tail n = (
     λ e. refused-reply (call.step (contents_of d) (call.set_tail tail)).reply n (sym (reply_is d s (call.set_tail tail)) ∙ e),

@@ -76,9 +76,11 @@ pub record Demand1 : Type 0 where
   pub refused_call : (d : Deck) → Sound d → (c : call.Call) (n : ℕ) → (called d c).reply ≡ reply.Refused n
       → ((called d c).next ≡ d) × InCase (contents_of d) c n
   -- any buffer: shorter than the file, it is refused by 12 and keeps every byte; else every byte past the file is kept
-  pub short_buffer : (d : Deck) (l : List ℕ) → Sound d → length l < length (file_of (contents_of d)) → (written d l ≡ writing.Refused 12) × (buffer_after d l ≡ l)
+  pub short_buffer : (d : Deck) (l : List ℕ) → Sound d → length l < length (file_of (contents_of d)) → (written d l ≡ writing.Refused 12)
+      × (buffer_after d l ≡ l)
   pub long_buffer : (d : Deck) (l : List ℕ) → Sound d → length (file_of (contents_of d)) ≤ length l
-      → (written d l ≡ writing.Length (length (file_of (contents_of d)))) × (buffer_after d l ≡ file_of (contents_of d) ++ drop (length (file_of (contents_of d))) l)
+      → (written d l ≡ writing.Length (length (file_of (contents_of d))))
+      × (buffer_after d l ≡ file_of (contents_of d) ++ drop (length (file_of (contents_of d))) l)
   -- any display, any bay and any pitch
   pub arrow : (display bay : Point) (pitch : ℤ) → ArrowAnswer display bay pitch
 

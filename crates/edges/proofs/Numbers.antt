@@ -163,7 +163,8 @@ module _ (w : Working) (p : InOrder w) where
     item : (e : Edge) × (get_elem? (listed (state_of w)) i ≡ some e) × Memᴰ e (listed (state_of w))
         × (get_or (edge_row (state_of w)) i 0 ≡ ends_at (points (state_of w)) e)
     item =
-        item_at (ends_at (points (state_of w))) (listed (state_of w)) (replicate (places - length (edge_numbers (state_of w))) 0) i (omega (arith, listed-length))
+        item_at (ends_at (points (state_of w))) (listed (state_of w)) (replicate (places - length (edge_numbers (state_of w))) 0) i
+        (omega (arith, listed-length))
 
     both_is : get_or row i 0 ≡ ends_at (points (state_of w)) item.0
     both_is = ap (λ (l : List ℕ). get_or l i 0) are ∙ item.3

@@ -24,7 +24,7 @@ pub struct CodedEdge {
 
 // Returns the length of the tree: its distances together, and two tails for each edge.
 pub fn length_of(w: Working, tail: u64) -> u64
-    requires in_order_lem { InOrder w }
+    requires in_order { InOrder w }
     requires tail_le_longest_tail { tail ≤ longest_tail }
     ensures { result ≡ tree_length_with tail (points (state_of w)) }
 {
@@ -53,7 +53,7 @@ fn distance_of(a: u64, b: u64) -> u64
 
 // Returns the edge at a place of the listing order, from the numbers of all edges, with the tails in its length.
 pub fn edge_at(w: Working, ends: &[u64; PLACES], i: usize, tail: u64) -> CodedEdge
-    requires in_order_lem { InOrder w }
+    requires in_order { InOrder w }
     requires ends_value { ends.now ≡ edge_row (state_of w) }
     requires i_lt_nkeys { i < w.nkeys }
     requires tail_le_longest_tail { tail ≤ longest_tail }

@@ -35,7 +35,7 @@ pub struct Printed {
 // The tap lines of a working form.
 fn write_taps(w: Working, out: &mut [u8], at: usize) -> usize
     requires at_in_bounds { at + 1148 ≤ length out.old }
-    requires in_order_lem { InOrder w }
+    requires in_order { InOrder w }
     requires valid { Valid (state_of w) }
     ensures pasted { Pasted (model.tap_lines (state_of w).steiner) out.old out.new at result }
     ensures upper_bound { result ≤ at + 1116 }
@@ -47,7 +47,7 @@ fn write_taps(w: Working, out: &mut [u8], at: usize) -> usize
 // The listing of a deck in working form at the front of `out`, which has to have room for LISTING_ROOM bytes. Returns its length; 0 where
 // there is no room.
 pub fn list_working(d: WorkingDeck, out: &mut [u8]) -> usize
-    requires in_order_lem { InOrder d.form }
+    requires in_order { InOrder d.form }
     requires valid_contents { ValidContents (contents_of d) }
     ensures { Pasted (fitting listing_room out.old (model.listing (contents_of d))) out.old out.new 0 result }
 {

@@ -27,7 +27,7 @@ pub struct Measures {
 
 // Returns the counts and the length of a deck.
 pub fn measure(d: WorkingDeck) -> Measures
-    requires in_order_lem { InOrder d.form }
+    requires in_order { InOrder d.form }
     requires valid_contents { ValidContents (contents_of d) }
     ensures { result ≡ measures_of (contents_of d) }
 {
@@ -51,7 +51,7 @@ fn edge_kind(e: CodedEdge, pins: &[u64], kinds: &[u8], n: usize) -> u64
 
 // Returns how long the edges of each kind of device are together.
 pub fn kind_lengths(d: WorkingDeck) -> [u64; KIND_COUNT]
-    requires in_order_lem { InOrder d.form }
+    requires in_order { InOrder d.form }
     requires valid_contents { ValidContents (contents_of d) }
     ensures { result ≡ kind_lengths (contents_of d) }
 {

@@ -40,6 +40,7 @@ module _ (c : Contents) (p : Point) (k : ℕ) where
   full f = nltb→le (length c.state.pins) 64 (not_T (ltb (length c.state.pins) 64) f)
 
   which : (n : ℕ) → FirstFailed n (add_checks p k c.state) → Failed n
+  which n (later t (later u (later v (later _ x)))) = elim x [ ]
   which n (here e f) = inl (sym e, f)
   which n (later t (here e f)) = inr (inl (sym e, t, above f))
   which n (later t (later u (here e f))) = inr (inr (inl (sym e, t, leb→le k 2 u, there f)))
@@ -106,6 +107,7 @@ module _ (c : Contents) (p : Point) where
     where
       none : (n : ℕ) → FirstFailed n (withdraw_checks p c.state) → (n ≡ 9) × ¬ T (has lower p c.state.pins)
       none n (here e f) = (sym e, f)
+      none n (later _ r) = elim r [ ]
 
 module _ (c : Contents) (tail : ℕ) where
   pub tail-refusals : TailRefusals c tail
@@ -121,3 +123,4 @@ module _ (c : Contents) (tail : ℕ) where
     where
       only : (n : ℕ) → FirstFailed n (tail_checks tail) → (n ≡ 16) × ¬ T (leb tail 500)
       only n (here e f) = (sym e, f)
+      only n (later _ r) = elim r [ ]

@@ -122,7 +122,8 @@ best_none tail ps = go (best_choice tail ps)
     go (some_chosen c h) = (λ e. absurd (some-ne-none c e), λ f. absurd (f c h.candidate h.saves))
 
 -- A candidate that saves something makes the tree shorter, and one that does not leaves it at least as long.
-pub saved-shorter : (tail : ℕ) (ps : List Point) (c : Point) → T (lt_z (pos 0) (saved tail ps c)) → tree_length_with tail (put lower c ps) < tree_length_with tail ps
+pub saved-shorter : (tail : ℕ) (ps : List Point) (c : Point) → T (lt_z (pos 0) (saved tail ps c))
+    → tree_length_with tail (put lower c ps) < tree_length_with tail ps
 unfolding saving
 saved-shorter tail ps c t = omega (arith, less_value (pos 0) (saved tail ps c) t, sub_value (tree_length_with tail ps) (tree_length_with tail (put lower c ps)))
 
@@ -132,7 +133,8 @@ unfolding saving
 unsaved_longer tail ps c n = go (dec_lt (tree_length_with tail (put lower c ps)) (tree_length_with tail ps))
   where
     go : Dec (tree_length_with tail (put lower c ps) < tree_length_with tail ps) → tree_length_with tail ps ≤ tree_length_with tail (put lower c ps)
-    go (yes h) = absurd (n (value_less (pos 0) (saved tail ps c) (omega (arith, sub_value (tree_length_with tail ps) (tree_length_with tail (put lower c ps))))))
+    go (yes h) = absurd (n (value_less (pos 0) (saved tail ps c)
+        (omega (arith, sub_value (tree_length_with tail ps) (tree_length_with tail (put lower c ps))))))
     go (no h) = omega arith
 
 -- With a point that saves no more than c the tree is at least as long as with c.

@@ -126,7 +126,8 @@ infixr 2 ◌and◌
 ◌and◌ a b = (a, b)
 
 pub decks_hold : Each Holds table
-unfolding table half_around deck11 other_start other_count too_long sections_apart byte_behind uneven_section uneven_runs pin_too_many pin_twice beyond_range tap_on_pin
+unfolding table half_around deck11 other_start other_count too_long sections_apart byte_behind uneven_section uneven_runs pin_too_many pin_twice
+    beyond_range tap_on_pin
     run_turned tap_of_two_runs other_tree full_file plain_file box_of_line box_of_two_on_one_x box_of_middle_pin box_of_tap_off_middle
     box_around_origin
 decks_hold =

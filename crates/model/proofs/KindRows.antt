@@ -13,8 +13,10 @@ infixr 2 ◌and◌
 ◌and◌ a b = (a, b)
 
 pub kinds_hold : Each Holds kind_table
-unfolding play reads lengths_of kind_table kinds_move tap_becomes_display kind_refusals kinds_file plain_kinds_file pair_missing starts_early many_taps run_turned_beside_kind
-    kind_above kind_too_few kind_too_many sensors_in_four no_pin_in_four plain_kind_above plain_kind_too_few plain_kind_too_many plain_sensors_in_four too_long_of_four
+unfolding play reads lengths_of kind_table kinds_move tap_becomes_display kind_refusals kinds_file plain_kinds_file pair_missing starts_early many_taps
+    run_turned_beside_kind
+    kind_above kind_too_few kind_too_many sensors_in_four no_pin_in_four plain_kind_above plain_kind_too_few plain_kind_too_many plain_sensors_in_four
+    too_long_of_four
     displays_over_tap kinds_in_line one_controller no_device
 kinds_hold =
     refl and refl and refl and refl and refl and refl and refl and refl and refl and refl and refl and refl and refl and refl
@@ -22,7 +24,8 @@ kinds_hold =
 
 pub kinds-filed : Each Filed kind_table
 unfolding filed kind_table kinds_move tap_becomes_display kind_refusals kinds_file plain_kinds_file pair_missing starts_early many_taps run_turned_beside_kind
-    kind_above kind_too_few kind_too_many sensors_in_four no_pin_in_four plain_kind_above plain_kind_too_few plain_kind_too_many plain_sensors_in_four too_long_of_four
+    kind_above kind_too_few kind_too_many sensors_in_four no_pin_in_four plain_kind_above plain_kind_too_few plain_kind_too_many plain_sensors_in_four
+    too_long_of_four
     displays_over_tap kinds_in_line one_controller no_device
 kinds-filed =
     refl and refl and refl and tt and tt and tt and tt and tt and tt and tt and tt and tt and tt and tt and tt and tt and tt and tt and tt

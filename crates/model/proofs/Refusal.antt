@@ -38,6 +38,7 @@ failed_first n (c ∷ l) e = failed_by n c l (c.test tt) refl (failed_first n l)
 
 first_fails : (n : ℕ) (l : List Check) → FirstFailed n l → first_failed l ≡ some n
 unfolding first_failed
+first_fails n [] r = elim r [ ]
 first_fails n (c ∷ l) r = by_failed n c l (c.test tt) refl (first_fails n l) r
 
 pub first_failed_lem : (n : ℕ) (l : List Check) → (first_failed l ≡ some n) ↔ FirstFailed n l
@@ -73,6 +74,7 @@ Numbered P [] = Unit {0}
 Numbered P (c ∷ l) = P c.number × Numbered P l
 
 pub failed_number : (P : ℕ → Type 0) (n : ℕ) (l : List Check) → Numbered P l → FirstFailed n l → P n
+failed_number P n [] h r = elim r [ ]
 failed_number P n (c ∷ l) h (here e f) = subst P e h.0
 failed_number P n (c ∷ l) h (later t r) = failed_number P n l h.1 r
 

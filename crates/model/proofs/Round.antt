@@ -34,7 +34,8 @@ points_with s c rise =
     (points-rise (with_steiner c s) (put-sorted lower lower-order c s.steiner rise)) (put-sorted lower lower-order c (points s) (points-rise s rise))
     (λ p i. (put_in lower lower-order c p (points s)).1
     (⊎_elim (λ j. inr ((points_in_lem s p).1 (inl j)))
-    (λ j. ⊎_elim (λ e. inl e) (λ k. inr ((points_in_lem s p).1 (inr k))) ((put_in lower lower-order c p s.steiner).0 j)) ((points_in_lem (with_steiner c s) p).0 i)))
+    (λ j. ⊎_elim (λ e. inl e) (λ k. inr ((points_in_lem s p).1 (inr k))) ((put_in lower lower-order c p s.steiner).0 j))
+    ((points_in_lem (with_steiner c s) p).0 i)))
     (λ p i. (points_in_lem (with_steiner c s) p).1
     (⊎_elim (λ e. inr ((put_in lower lower-order c p s.steiner).1 (inl e)))
     (λ j. ⊎_elim (λ k. inl k) (λ k. inr ((put_in lower lower-order c p s.steiner).1 (inr k))) ((points_in_lem s p).0 j))

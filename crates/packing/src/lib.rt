@@ -74,7 +74,7 @@ fn after(deck: WorkingDeck, lines: u64, fault: Fault) -> Packing
 
 // Line n asks for a pin: it is added, or the refusal is the fault.
 fn add_pin(d: WorkingDeck, n: u64, x: i32, y: i32, kind: u32) -> Packing
-    requires in_order_lem { InOrder d.form }
+    requires in_order { InOrder d.form }
     requires valid_contents { ValidContents (contents_of d) }
     ensures { PacksAs result (by_call n (contents_of d) (call.add (record { x = x; y = y }) kind)) }
 {

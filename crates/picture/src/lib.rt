@@ -42,7 +42,7 @@ fn frame_for(w: Working) -> Frame
 // The paths of the runs of a working form, from place `at` on.
 fn put_runs(out: &mut [u8], at: usize, f: Frame, w: Working, tail: u64) -> usize
     requires runs_room_in_bounds { at + runs_room ≤ length out.old }
-    requires in_order_lem { InOrder w }
+    requires in_order { InOrder w }
     requires valid { Valid (state_of w) }
     requires tail_le_longest_tail { tail ≤ longest_tail }
     ensures pasted { Pasted (run_texts tail (box_in f) (listed (state_of w))) out.old out.new at result }
@@ -86,7 +86,7 @@ fn put_symbols(
 // The symbols of all points: the pins by their kinds, then the Steiner points.
 fn put_points(out: &mut [u8], at: usize, f: Frame, d: WorkingDeck) -> usize
     requires points_room_in_bounds { at + points_room ≤ length out.old }
-    requires in_order_lem { InOrder d.form }
+    requires in_order { InOrder d.form }
     requires valid_contents { ValidContents (contents_of d) }
     ensures pasted { Pasted (point_texts (box_in f) (contents_of d)) out.old out.new at result }
     ensures upper_bound { result ≤ at + points_room }
@@ -102,7 +102,7 @@ fn put_points(out: &mut [u8], at: usize, f: Frame, d: WorkingDeck) -> usize
 // The picture of a deck in working form at the front of `out`, which has to have room for PICTURE_ROOM bytes. Returns its length; 0 where there is no
 // room.
 pub fn draw_working(d: WorkingDeck, out: &mut [u8]) -> usize
-    requires in_order_lem { InOrder d.form }
+    requires in_order { InOrder d.form }
     requires valid_contents { ValidContents (contents_of d) }
     ensures { Pasted (fitting picture_room out.old (picture_of (contents_of d))) out.old out.new 0 result }
 {

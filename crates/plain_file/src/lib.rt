@@ -42,7 +42,7 @@ fn put_parts(pins: &[u64], n: usize, kinds: &[u8], bare: bool, out: &mut [u8]) -
 
 // Puts the plain file into a buffer that has room for the longest, and returns its length.
 fn put_file(w: WorkingDeck, out: &mut [u8]) -> usize
-    requires in_order_lem { InOrder w.form }
+    requires in_order { InOrder w.form }
     requires valid_contents { ValidContents (contents_of w) }
     requires plain_room_in_bounds { plain_room ≤ length out.old }
     ensures { Pasted (plain_file_of (contents_of w)) out.old out.new 0 result }
@@ -56,7 +56,7 @@ fn put_file(w: WorkingDeck, out: &mut [u8]) -> usize
 // Writes the plain file of a deck in working form to the front of `out`, which has to have room for PLAIN_ROOM bytes. Returns its length; 0
 // where there is no room.
 pub fn write_plain(w: WorkingDeck, out: &mut [u8]) -> usize
-    requires in_order_lem { InOrder w.form }
+    requires in_order { InOrder w.form }
     requires valid_contents { ValidContents (contents_of w) }
     ensures { Pasted (fitting plain_room out.old (plain_file_of (contents_of w))) out.old out.new 0 result }
 {

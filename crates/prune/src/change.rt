@@ -12,7 +12,7 @@ use working::Working;
 
 // Returns the working form with a pin of code k, where no Steiner point stands then, after the sweep.
 pub fn insert(w: Working, k: u64) -> Working
-    requires in_order_lem { InOrder w }
+    requires in_order { InOrder w }
     requires t { T (is_code k) }
     requires npins_lt_max_pins { (w.points.npins < state.max_pins) × (w.points.npins + w.points.nsteiner < max_points) }
     ensures { InOrder result × (state_of result ≡ state.insert (point_of k) (state_of w)) }
@@ -22,7 +22,7 @@ pub fn insert(w: Working, k: u64) -> Working
 
 // Returns the working form without the pin of code k, after the sweep.
 pub fn remove(w: Working, k: u64) -> Working
-    requires in_order_lem { InOrder w }
+    requires in_order { InOrder w }
     requires t { T (is_code k) }
     ensures { InOrder result × (state_of result ≡ state.remove (point_of k) (state_of w)) }
 {
@@ -31,7 +31,7 @@ pub fn remove(w: Working, k: u64) -> Working
 
 // Returns the working form with a Steiner point of code k, where no point is held, after the sweep.
 pub fn with_steiner(w: Working, k: u64) -> Working
-    requires in_order_lem { InOrder w }
+    requires in_order { InOrder w }
     requires t { T (is_code k) }
     requires nsteiner_bound { w.points.npins + w.points.nsteiner < max_points }
     requires fact { Memᴰ k (take w.points.npins w.points.pins) → ⊥ }

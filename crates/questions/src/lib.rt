@@ -44,7 +44,7 @@ fn answer_of(e: CodedEdge) -> Answer
 
 // The number of edges at a place in range, 0 where no point is held.
 fn degree_of(w: Working, k: u64) -> usize
-    requires in_order_lem { InOrder w }
+    requires in_order { InOrder w }
     requires t { T (is_code k) }
     ensures { result ≡ question.edge_count_at (point_of k) (state_of w) }
 {
@@ -58,7 +58,7 @@ fn degree_of(w: Working, k: u64) -> usize
 
 // Returns the length of the tree.
 pub fn length(d: WorkingDeck) -> Answer
-    requires in_order_lem { InOrder d.form }
+    requires in_order { InOrder d.form }
     requires valid_contents { ValidContents (contents_of d) }
     ensures { result ≡ length_answer (contents_of d) }
 {
@@ -67,7 +67,7 @@ pub fn length(d: WorkingDeck) -> Answer
 
 // Returns the numbers of pins, Steiner points and edges.
 pub fn counts(d: WorkingDeck) -> Answer
-    requires in_order_lem { InOrder d.form }
+    requires in_order { InOrder d.form }
     requires valid_contents { ValidContents (contents_of d) }
     ensures { result ≡ counts_answer (contents_of d) }
 {
@@ -77,7 +77,7 @@ pub fn counts(d: WorkingDeck) -> Answer
 
 // Returns how long the edges of each kind of device are together.
 pub fn kind_lengths(d: WorkingDeck) -> Answer
-    requires in_order_lem { InOrder d.form }
+    requires in_order { InOrder d.form }
     requires valid_contents { ValidContents (contents_of d) }
     ensures { result ≡ kinds_answer (contents_of d) }
 {
@@ -87,7 +87,7 @@ pub fn kind_lengths(d: WorkingDeck) -> Answer
 
 // Returns the edge at a place of the listing order, counted from 0, or that there is none.
 pub fn edge_at(d: WorkingDeck, i: usize) -> Answer
-    requires in_order_lem { InOrder d.form }
+    requires in_order { InOrder d.form }
     requires valid_contents { ValidContents (contents_of d) }
     ensures { result ≡ edge_at_answer i (contents_of d) }
 {
@@ -100,7 +100,7 @@ pub fn edge_at(d: WorkingDeck, i: usize) -> Answer
 
 // Returns how many edges a point has, 0 where it is not held.
 pub fn degree_at(d: WorkingDeck, x: i32, y: i32) -> Answer
-    requires in_order_lem { InOrder d.form }
+    requires in_order { InOrder d.form }
     requires valid_contents { ValidContents (contents_of d) }
     ensures { result ≡ degree_answer (record { x = x; y = y }) (contents_of d) }
 {
@@ -112,7 +112,7 @@ pub fn degree_at(d: WorkingDeck, x: i32, y: i32) -> Answer
 
 // Returns the lowest of the candidates with this x that have the greatest saving, with that saving, or that there is none.
 pub fn column(d: WorkingDeck, x: i32) -> Answer
-    requires in_order_lem { InOrder d.form }
+    requires in_order { InOrder d.form }
     requires valid_contents { ValidContents (contents_of d) }
     ensures { result ≡ column_at x (contents_of d) }
 {

@@ -38,7 +38,7 @@ pub struct Ended {
 
 // The lowest crossing of greatest saving, if one saves more than 0.
 fn best_of(w: Working, tail: u64) -> Best
-    requires in_order_lem { work.InOrder w }
+    requires in_order { work.InOrder w }
     requires tail_le_longest_tail { tail ≤ longest_tail }
     ensures { result ≡ answer_of (round.best tail (points (work.state_of w))) }
 {
@@ -50,7 +50,7 @@ fn best_of(w: Working, tail: u64) -> Best
 
 // One round: finished, or the best crossing joins as a Steiner point and a sweep follows. Returns the next working form and which it was.
 pub fn round_of(w: Working, tail: u64) -> Rounded
-    requires in_order_lem { work.InOrder w }
+    requires in_order { work.InOrder w }
     requires valid { Valid (work.state_of w) }
     requires tail_le_longest_tail { tail ≤ longest_tail }
     ensures { RoundOf tail w result }
@@ -77,7 +77,7 @@ pub fn round_of(w: Working, tail: u64) -> Rounded
 
 // Rounds until one is finished. Returns the working form that they lead to, and how many added a Steiner point.
 pub fn finish_of(w: Working, tail: u64) -> Ended
-    requires in_order_lem { work.InOrder w }
+    requires in_order { work.InOrder w }
     requires valid { Valid (work.state_of w) }
     requires tail_le_longest_tail { tail ≤ longest_tail }
     ensures { FinishOf tail w result }

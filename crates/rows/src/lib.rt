@@ -92,7 +92,7 @@ fn run_line(out: &mut [u8], at: usize, e: CodedEdge) -> usize
 // Puts the run lines of a working form from place `at` on, with the tails in their lengths. Returns the place behind them.
 pub fn run_lines(out: &mut [u8], at: usize, w: Working, tail: u64) -> usize
     requires at_in_bounds { at + 6625 ≤ length out.old }
-    requires in_order_lem { InOrder w }
+    requires in_order { InOrder w }
     requires valid { Valid (state_of w) }
     requires tail_le_longest_tail { tail ≤ longest_tail }
     ensures { Pasted (model.run_lines tail (listed (state_of w))) out.old out.new at result }

@@ -49,11 +49,12 @@ module _ {P E : Type 0} (G : Graph P E) where
       go (no n) c a b = subst (λ r. Conn G (In (e ∷ F)) r u) (sym (comp_miss G F e u n)) c
 
   comp-edge : (F : List E) (e : E) → In F e → comp G F (G.lo e) ≡ comp G F (G.hi e)
+  comp-edge [] e h = elim h [ ]
   comp-edge (x ∷ F) e (head p) =
       ap (λ f. comp G (x ∷ F) (G.lo f)) p ∙ comp-ends G F x ∙ sym (ap (λ f. comp G (x ∷ F) (G.hi f)) p)
   comp-edge (x ∷ F) e (tail m) = comp-step G F x (G.lo e) (G.hi e) (comp-edge F e m)
 
-  comp_of_conn : (F : List E) {u v : P} → Conn G (In F) v u → comp G F u ≡ comp G F v
+  comp_of_conn : (F : List E) {v u : P} → Conn G (In F) v u → comp G F u ≡ comp G F v
   comp_of_conn F (stop p) = ap (comp G F) p
   comp_of_conn F (fwd e m p c) = ap (comp G F) p ∙ comp-edge F e m ∙ comp_of_conn F c
   comp_of_conn F (bwd e m p c) = ap (comp G F) p ∙ sym (comp-edge F e m) ∙ comp_of_conn F c

@@ -144,11 +144,11 @@ module _ {P E : Type 0} (G : Graph P E) {before : E → E → Type 0} (order : S
 
   -- With e in its place the total falls by the bottleneck of e's ends less the weight of e. Only bounds from e's weight on count.
   one_more_at :
-      (F S T : List E) (e : E) (b : ℕ) → Sorted before S → Inserted before e S T
+      (e : E) (F S T : List E) (b : ℕ) → Sorted before S → Inserted before e S T
       → ((x : ℕ) → w e ≤ x → (b ≤ x) ↔ Conn G (Upto F S x) (G.hi e) (G.lo e))
       → total w (kruskal G F T) + (b - w e) ≡ total w (kruskal G F S)
   unfolding total
-  one_more_at F S T e b s (here ahead) h =
+  one_more_at e F S T b s (here ahead) h =
       kruskal_cases G F e S (λ K. total w K + (b - w e) ≡ total w (kruskal G F S))
       (λ c. omega (arith, (h (w e) (omega arith)).1 (conn_mono (λ g m. inl m) c)))
       (λ n. spare (drop F S e s n (conn_mono (λ g. ⊎_elim inl (λ m. inr m.0)) ((h (max b (w e)) (omega arith)).0 (omega arith)))))
@@ -162,16 +162,16 @@ module _ {P E : Type 0} (G : Graph P E) {before : E → E → Type 0} (order : S
           go : Dec (max b (w e) < w r.dropped) → w e + total w (kruskal G (e ∷ F) S) + (b - w e) ≡ total w (kruskal G F S)
           go (yes l) = absurd (r.first (max b (w e)) l ((h (max b (w e)) (omega arith)).0 (omega arith)))
           go (no l) = omega (arith, r.sum, after, (h (w r.dropped) after).1 r.joins, l)
-  one_more_at F S T e b s (later {x = x} {S = S'} {T = T'} p i) h =
+  one_more_at e F S T b s (later {x = x} {S = S'} {T = T'} p i) h =
       kruskal_cases G F x T' (λ K. total w K + (b - w e) ≡ total w (kruskal G F (x ∷ S')))
       (λ c. kruskal_cases G F x S' (λ K. total w (kruskal G F T') + (b - w e) ≡ total w K)
-      (λ _. one_more_at F S' T' e b s.1 i
+      (λ _. one_more_at e F S' T' b s.1 i
       (λ y l. (λ q. upto_closed F S' x y c ((h y l).0 q), λ d. (h y l).1 (conn_mono (λ g. upto_tail F S' x g y) d))))
       (λ n. absurd (n c)))
       (λ n. kruskal_cases G F x S' (λ K. w x + total w (kruskal G (x ∷ F) T') + (b - w e) ≡ total w K) (λ c. absurd (n c))
       (λ _. omega (
         arith,
-        one_more_at (x ∷ F) S' T' e b s.1 i
+        one_more_at e (x ∷ F) S' T' b s.1 i
             (λ y l. (
               λ q. conn_mono (λ g. upto_down F S' x g y) ((h y l).0 q),
               λ d. (h y l).1 (conn_mono (λ g. upto_up F S' x g y (omega (arith, l, light x e p))) d),
@@ -179,18 +179,18 @@ module _ {P E : Type 0} (G : Graph P E) {before : E → E → Type 0} (order : S
       )))
 
   bridge_at :
-      (F S T : List E) (e : E) → Inserted before e S T → ¬ Conn G (λ f. In F f ⊎ In S f) (G.hi e) (G.lo e)
+      (e : E) (F S T : List E) → Inserted before e S T → ¬ Conn G (λ f. In F f ⊎ In S f) (G.hi e) (G.lo e)
       → total w (kruskal G F T) ≡ w e + total w (kruskal G F S)
   unfolding total
-  bridge_at F S T e (here ahead) n =
+  bridge_at e F S T (here ahead) n =
       kruskal_cases G F e S (λ K. total w K ≡ w e + total w (kruskal G F S)) (λ c. absurd (n (conn_mono (λ g m. inl m) c)))
       (λ _. ap (λ K. w e + total w K) (bridge G F S e n))
-  bridge_at F S T e (later {x = x} {S = S'} {T = T'} p i) n =
+  bridge_at e F S T (later {x = x} {S = S'} {T = T'} p i) n =
       kruskal_cases G F x T' (λ K. total w K ≡ w e + total w (kruskal G F (x ∷ S')))
       (λ c. kruskal_cases G F x S' (λ K. total w (kruskal G F T') ≡ w e + total w K)
-      (λ _. bridge_at F S' T' e i (λ d. n (conn_mono (λ g. ⊎_elim inl (λ m. inr (tail m))) d))) (λ m. absurd (m c)))
+      (λ _. bridge_at e F S' T' i (λ d. n (conn_mono (λ g. ⊎_elim inl (λ m. inr (tail m))) d))) (λ m. absurd (m c)))
       (λ m. kruskal_cases G F x S' (λ K. w x + total w (kruskal G (x ∷ F) T') ≡ w e + total w K) (λ c. absurd (m c))
-      (λ _. omega (arith, bridge_at (x ∷ F) S' T' e i (λ d. n (conn_mono (λ g. (mem_shift x g F S').0) d)))))
+      (λ _. omega (arith, bridge_at e (x ∷ F) S' T' i (λ d. n (conn_mono (λ g. (mem_shift x g F S').0) d)))))
 
   module _ (S T : List E) (e : E) (s : Sorted before S) (t : Sorted before T) (members : (f : E) → In T f ↔ ((f ≡ e) ⊎ In S f)) where
     pub one_more :
@@ -199,7 +199,7 @@ module _ {P E : Type 0} (G : Graph P E) {before : E → E → Type 0} (order : S
     one_more b h =
         ⊎_elim
         (λ m. omega (arith, ap (λ l. total w (kruskal G [] l)) m.1, (h (w e) (omega arith)).1 (conn_edge e (m.0, omega arith))))
-        (λ i. one_more_at [] S T e b s i
+        (λ i. one_more_at e [] S T b s i
         (λ x l. (λ q. conn_mono (λ g m. inr m) ((h x l).0 q), λ d. (h x l).1 (conn_mono (λ g. ⊎_elim (λ m. absurd (not-nil m)) (λ m. m)) d))))
         (inserted order e S T s t members)
 
@@ -211,7 +211,7 @@ module _ {P E : Type 0} (G : Graph P E) {before : E → E → Type 0} (order : S
     pub one_more_bridge : ¬ Conn G (In S) (G.hi e) (G.lo e) → total w (kruskal G [] T) ≡ w e + total w (kruskal G [] S)
     one_more_bridge n =
         ⊎_elim (λ m. absurd (n (conn_edge e m.0)))
-        (λ i. bridge_at [] S T e i (λ d. n (conn_mono (λ g. ⊎_elim (λ m. absurd (not-nil m)) (λ m. m)) d)))
+        (λ i. bridge_at e [] S T i (λ d. n (conn_mono (λ g. ⊎_elim (λ m. absurd (not-nil m)) (λ m. m)) d)))
         (inserted order e S T s t members)
 
   -- Of the edges no heavier than x, those that Kruskal's method keeps connect all that the others do.

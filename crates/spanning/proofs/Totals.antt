@@ -56,6 +56,7 @@ module _ {A : Type 0} where
 
   pub take_out : (l : List A) → Distinct l → (a : A) → Memᴰ a l → Without a l
   unfolding total
+  take_out [] d a h = elim h [ ]
   take_out (x ∷ l) d a (head p) =
       record {
         list = l;

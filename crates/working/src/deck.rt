@@ -31,7 +31,7 @@ pub fn empty() -> WorkingDeck
 
 // Returns the deck of another form with the same tail, where the kinds follow their pins: each pin that was there keeps its kind, any other takes `kind`.
 pub fn follow(d: WorkingDeck, next: Working, kind: u8) -> WorkingDeck
-    requires in_order_lem { InOrder d.form }
+    requires in_order { InOrder d.form }
     requires in_order_2 { InOrder next }
     ensures { (result.form ≡ next) × (contents_of result ≡ following kind (contents_of d) (state_of next)) }
 {

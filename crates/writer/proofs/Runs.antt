@@ -71,7 +71,8 @@ module _ (w : Working) (p : InOrder w) (v : Valid (state_of w)) where
 
   pub edges_are : edge_bytes (take w.nkeys (edge_row (state_of w))) ≡ run_section (state_of w)
   edges_are =
-      ap edge_bytes (padded-take places (edge_numbers (state_of w)) w.nkeys (length-map (listed (state_of w)) (ends_at (points (state_of w))) ∙ listed-length w p))
+      ap edge_bytes (padded-take places (edge_numbers (state_of w)) w.nkeys
+      (length-map (listed (state_of w)) (ends_at (points (state_of w))) ∙ listed-length w p))
       ∙ section-edges (state_of w) v
 
   pub edges-long : length (run_section (state_of w)) ≡ 2 * w.nkeys

@@ -15,7 +15,7 @@ use working::deck::WorkingDeck;
 
 // Returns how many bytes the file has.
 pub fn file_length(w: WorkingDeck) -> usize
-    requires in_order_lem { InOrder w.form }
+    requires in_order { InOrder w.form }
     requires valid_contents { ValidContents (contents_of w) }
     ensures { result ≡ length (file_of (contents_of w)) }
 {
@@ -24,7 +24,7 @@ pub fn file_length(w: WorkingDeck) -> usize
 
 // Puts the file into a buffer that has room for it, and returns its length.
 pub fn put_file(w: WorkingDeck, out: &mut [u8]) -> usize
-    requires in_order_lem { InOrder w.form }
+    requires in_order { InOrder w.form }
     requires valid_contents { ValidContents (contents_of w) }
     requires w_in_bounds { length (file_of (contents_of w)) ≤ length out.old }
     ensures { Pasted (file_of (contents_of w)) out.old out.new 0 result }

@@ -82,7 +82,8 @@ module _ (d : Deck) (sized : Sized d) where
       }
 
   -- The parts put one behind the other into an array for all words are the words of the deck.
-  pub laid_out_lem : {before a b after : List ℕ} {i j k : ℕ} → length before ≡ word_count → Pasted p before a 0 i → Pasted s (set a pin_count_word n) b steiner_word j
+  pub laid_out_lem : {before a b after : List ℕ} {i j k : ℕ} → length before ≡ word_count → Pasted p before a 0 i
+      → Pasted s (set a pin_count_word n) b steiner_word j
       → Pasted d.ends (set (set b steiner_count_word m) tail_word t) after ends_word k → after ≡ words_of d
   laid_out_lem {before} {a} {b} size x y z =
       whole (pasted_then third (omega arith) z)

@@ -1,0 +1,7 @@
+-- `ascii::decimal_field` meets its contract: a blank, then the digits behind it.
+use native.Mathlib.Omega.{arith}
+use Rattle.arrays.proofs.paste.Parts.{pasted_then}
+use Rattle.ascii.proofs.decimal_field.Goals as goal
+
+pub returns : goal.returns
+returns c = record { pasted = pasted_then c.put_byte-next.ensures (omega arith) c.decimal.ensures.pasted; upper_bound = omega arith }

@@ -1,0 +1,29 @@
+-- `buffer::file::put_kinds` meets its contract: nothing, or the kinds.
+use mathlib.Core.Path.{◌≡◌, sym, ap, subst}
+use mathlib.Core.List.{[]}
+use Prim.Native.Nat.{ℕ, ◌+◌}
+use native.Mathlib.Omega.{arith}
+use lib.ListN.{length}
+use lib.Seq.{length-take-le}
+use Rattle.arrays.specs.Paste.{Pasted}
+use Rattle.arrays.proofs.paste.Parts.{pasted_none, pasted_same}
+use Rattle.buffer.proofs.Parts.{bare_kinds, all_kinds_lem}
+use Rattle.buffer.proofs.file.put_kinds.Goals as goal
+
+pub returns-then-bare : goal.returns-then-bare
+returns-then-bare c = let at = c.args.at in
+    let same : at + 0 ≡ at = omega arith in
+    pasted_same (bare_kinds c.args.kinds.now c.args.n c.if-bare.true)
+    (subst (λ (z : ℕ). Pasted [] c.args.out.now c.args.out.now at z) same (pasted_none c.args.out.now at))
+
+pub slice_bounds-put_bytes-end : goal.slice_bounds-put_bytes-end
+slice_bounds-put_bytes-end c = let entry = c.?before in
+    sym (length-take-le _ _ entry.requires.0)
+
+pub put_bytes-requires : goal.put_bytes-requires
+put_bytes-requires c = let entry = c.?before in
+    omega (arith, ap length (all_kinds_lem entry.args.kinds.now entry.args.n c.if-bare.false), entry.requires.1)
+
+pub returns : goal.returns
+returns c = let entry = c.?before in
+    pasted_same (all_kinds_lem entry.args.kinds.now entry.args.n c.if-bare.false) c.put_bytes.ensures

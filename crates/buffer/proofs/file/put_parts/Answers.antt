@@ -1,0 +1,15 @@
+-- `buffer::file::put_parts` meets its contract: the kinds stand behind the edges.
+use native.Mathlib.Omega.{arith}
+use Rattle.arrays.proofs.paste.Parts.{pasted_then}
+use Rattle.buffer.proofs.Parts.{kinds_fit}
+use Rattle.buffer.proofs.file.put_parts.Goals as goal
+
+pub put_kinds-requires : goal.put_kinds-requires
+put_kinds-requires c = let entry = (c) in
+    let fit = kinds_fit entry.pre.0 entry.args.kinds.now entry.pre.1 c.put_tree-fourth.ensures in
+    record { n_in_bounds = entry.pre.1; kinds_in_bounds = omega (arith, fit, c.put_tree-fourth.auto.out) }
+
+pub returns : goal.returns
+returns c = let entry = (c) in
+    let fit = kinds_fit entry.pre.0 entry.args.kinds.now entry.pre.1 c.put_tree-fourth.ensures in
+    pasted_then c.put_tree-fourth.ensures (omega (arith, fit)) c.put_kinds.ensures

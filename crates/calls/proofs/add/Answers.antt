@@ -1,0 +1,20 @@
+-- `calls::add` meets its contract: the range first, then the call at a place in range.
+use mathlib.Core.Path.{◌∙◌}
+use Rattle.plane.specs.Point.{Point}
+use Rattle.model.specs.Call as call
+use Rattle.plane.proofs.codes.Points.{read-located, out-located, located_is}
+use Rattle.calls.proofs.PointCalls.{refused_is, by_point, add-out}
+use borrow.Author.Rules.{rules}
+use Rattle.calls.proofs.add.Goals as goal
+
+pub add_at-requires : goal.add_at-requires
+add_at-requires c = let there = read-located _ _ _ c.ranges.x c.ranges.y c.locate.ensures ∙ c.in-At.is in
+    record { in_order = c.requires.in_order; t = (located_is _ _ there).1; valid_contents = c.requires.valid_contents }
+
+pub returns-in-OutOfRange : goal.returns-in-OutOfRange
+returns-in-OutOfRange c = let out = read-located _ _ _ c.ranges.x c.ranges.y c.locate.ensures ∙ c.in-OutOfRange.is in
+    refused_is _ c.requires.in_order _ 7 (add-out _ _ _ (out-located _ out)) _ c.refuse.ensures
+
+pub returns-in-At : goal.returns-in-At
+returns-in-At c = let there = read-located _ _ _ c.ranges.x c.ranges.y c.locate.ensures ∙ c.in-At.is in
+    by_point _ (λ (p : Point). call.add p c.args.kind) _ _ (located_is _ _ there).0 _ c.add_at.ensures

@@ -1,0 +1,14 @@
+-- `deck::Deck::counts` meets its contract: the check, then the question on the deck in working form.
+use Rattle.questions.specs.Answers.{of_counts}
+use Rattle.deck.proofs.Calls.{ready}
+use Rattle.deck.proofs.Questions.{refused-answer, asked_by}
+use Rattle.deck.proofs.Deck.counts.Goals as goal
+
+pub returns-then-not-c : goal.returns-then-not-c
+returns-then-not-c c = refused-answer _ c.check-c.ensures _ c.if-not-c.true
+
+pub counts-requires : goal.counts-requires
+counts-requires c = record { in_order = (ready _ c.check-c.ensures c.if-not-c.false).0; valid_contents = (ready _ c.check-c.ensures c.if-not-c.false).1 }
+
+pub returns : goal.returns
+returns c = asked_by _ c.check-c.ensures of_counts c.if-not-c.false c.counts.ensures
