@@ -78,8 +78,8 @@ module _ {pins : List ℕ} {n : ℕ} {steiner : List ℕ} {m : ℕ} {ends : List
   fits {e} is = omega (arith, tree-room bare n m e, ap (λ (z : ℕ). file_size (sizes_of n m z bare)) is, k.room)
 
   pub tree-put : {e : ℕ} → e ≡ n + m - 1 → {o₁ o₂ o₃ o₄ : List ℕ} {a b c r : ℕ} → Pasted (header (sizes_of n m e bare)) old o₁ 0 a
-      → Pasted (each code_bytes (take n pins)) o₁ o₂ a b → Pasted (each code_bytes (take m steiner)) o₂ o₃ b c → Pasted (each ends_bytes (take e ends)) o₃ o₄ c r
-      → Pasted (tree_parts pins n steiner m ends bare) old o₄ 0 r
+      → Pasted (each code_bytes (take n pins)) o₁ o₂ a b → Pasted (each code_bytes (take m steiner)) o₂ o₃ b c
+      → Pasted (each ends_bytes (take e ends)) o₃ o₄ c r → Pasted (tree_parts pins n steiner m ends bare) old o₄ 0 r
   tree-put {e} is p q s t =
       let first = header_end e p in
       pasted_same

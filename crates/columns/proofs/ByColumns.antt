@@ -93,7 +93,8 @@ module _ (tail : ℕ) (ps : List Point) where
       go (some c) rest = by (lt_z top (saved tail ps c)) refl
         where
           by : (t : Bool) → lt_z top (saved tail ps c) ≡ t
-              → after tail now ps top found (some c) (not_held ps (crossings xs ys)) ≡ best_answer top found (answer_for tail ps (some c) ∷ map (answer_in ys) xs)
+              → after tail now ps top found (some c) (not_held ps (crossings xs ys))
+              ≡ best_answer top found (answer_for tail ps (some c) ∷ map (answer_in ys) xs)
           by true e = rw e (rest (saved tail ps c) (some c))
           by false e = rw e (rest top found)
 

@@ -50,13 +50,13 @@ called-sound d c e = ap (λ (b : Bool). if b (λ _. deck_outcome (call.step (con
 -- Every method begins with the check and a test of its answer. Where the check failed the call is refused, else it is made on the
 -- working form.
 module _ (d : Deck) {r : Checked} (k : Checks (sound d) d r) where
-  pub ready : not r.ok ≡ false → work.InOrder r.working.form × ValidContents (workingDeck.contents_of r.working)
-  ready e = checked_valid d r k (not-false r.ok e)
+  pub ready : r.ok ≡ true → work.InOrder r.working.form × ValidContents (workingDeck.contents_of r.working)
+  ready e = checked_valid d r k e
 
-  pub refused_by : (c : call.Call) {o : Outcome} → not r.ok ≡ true → o ≡ refused_outcome d 11 → o ≡ called d c
-  refused_by c e is = is ∙ called_unsound d c (sym k.ok ∙ not-true r.ok e)
+  pub refused_by : (c : call.Call) {o : Outcome} → r.ok ≡ false → o ≡ refused_outcome d 11 → o ≡ called d c
+  refused_by c e is = is ∙ called_unsound d c (sym k.ok ∙ e)
 
-  pub called_by : (c : call.Call) {o : Outcome} {t : Changed} → not r.ok ≡ false → ChangedBy r.working c t → o ≡ outcome_of t → o ≡ called d c
+  pub called_by : (c : call.Call) {o : Outcome} {t : Changed} → r.ok ≡ true → ChangedBy r.working c t → o ≡ outcome_of t → o ≡ called d c
   unfolding deck_outcome
   called_by c e by is =
       is
@@ -64,13 +64,13 @@ module _ (d : Deck) {r : Checked} (k : Checks (sound d) d r) where
         next = deck_of ((by.next ∙ ap (λ (z : Contents). (call.step z c).next) same) i);
         reply = (by.reply ∙ ap (λ (z : Contents). reply_of (call.step z c).reply) same) i;
       })
-      ∙ called-sound d c (sym k.ok ∙ not-false r.ok e)
+      ∙ called-sound d c (sym k.ok ∙ e)
     where
       same : workingDeck.contents_of r.working ≡ contents_of d
-      same = (checked_sound d r k (not-false r.ok e)).2
+      same = (checked_sound d r k e).2
 
   -- At a point whose two numbers are handed on as 32 bits.
-  pub called_at : (f : Point → call.Call) {x y : ℤ} → SFits w32 x → SFits w32 y → {o : Outcome} {t : Changed} → not r.ok ≡ false
+  pub called_at : (f : Point → call.Call) {x y : ℤ} → SFits w32 x → SFits w32 y → {o : Outcome} {t : Changed} → r.ok ≡ true
       → ChangedBy r.working (f (point (read x) (read y))) t → o ≡ outcome_of t → o ≡ called d (f (point x y))
   called_at f {x} {y} fx fy {t = t} e by =
       called_by (f (point x y)) e (by_point r.working f (point (read x) (read y)) (point x y) (read_two point x y fx fy) t by)

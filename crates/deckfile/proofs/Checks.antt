@@ -20,11 +20,11 @@ use Rattle.deckfile.specs.ReadWorking.{kinds_answer, last_answer}
 use Rattle.sections.proofs.codes.Placed.{pins-count}
 
 -- What a test answered, by its definition.
-pub failed : {a b : Bool} → a ≡ b → not a ≡ true → b ≡ false
-failed {a} e f = sym e ∙ not-true a f
+pub failed : {a b : Bool} → a ≡ b → a ≡ false → b ≡ false
+failed e f = sym e ∙ f
 
-pub passed : {a b : Bool} → a ≡ b → not a ≡ false → b ≡ true
-passed {a} e f = sym e ∙ not-false a f
+pub passed : {a b : Bool} → a ≡ b → a ≡ true → b ≡ true
+passed e f = sym e ∙ f
 
 module _ (b : List ℕ) where
   -- What the header says once its checks passed.

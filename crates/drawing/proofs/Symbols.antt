@@ -10,7 +10,8 @@ use Rattle.template.specs.Template.{filled}
 use Rattle.drawing.specs.Elements.{use_template, symbol_name, symbol_template}
 
 -- The symbol of a kind, whose name computes.
-pub kind_put : (k n : ℕ) (numbers : List ℕ) {before after : List ℕ} {at r : ℕ} → n ≡ k → Pasted (filled (use_template (symbol_name k)) numbers) before after at r
+pub kind_put : (k n : ℕ) (numbers : List ℕ) {before after : List ℕ} {at r : ℕ} → n ≡ k
+    → Pasted (filled (use_template (symbol_name k)) numbers) before after at r
     → Pasted (filled (symbol_template n) numbers) before after at r
 unfolding symbol_template
 kind_put k n numbers e p = pasted_same (ap (λ (m : ℕ). filled (use_template (symbol_name m)) numbers) (sym e)) p

@@ -1,5 +1,5 @@
 -- An example: the names of the symbols, by the kinds of pins (SPEC 1.7) and then that of a tap.
-use Rattle.std.specs.Prelude.{◌≡◌, List, [], ◌∷◌, map, ℕ}
+use Rattle.std.specs.Prelude.{◌≡◌, [], ◌∷◌, map}
 use Rattle.arrays.specs.Text.{bytes}
 use Rattle.drawing.specs.Elements.{symbol_name}
 

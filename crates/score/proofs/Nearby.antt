@@ -45,7 +45,8 @@ closed_keys [] S s c = refl
 closed_keys (k ∷ l) S s c =
     let rest : List ℕ = union ltb l S in
     let sorted = union-sorted ltb nat_order l S s in
-    one_more_closed key_graph nat_order weight light rest (put ltb k rest) k sorted (put-sorted ltb nat_order k rest sorted) (λ f. put_in ltb nat_order k f rest)
+    one_more_closed key_graph nat_order weight light rest (put ltb k rest) k sorted (put-sorted ltb nat_order k rest sorted)
+    (λ f. put_in ltb nat_order k f rest)
     (conn_mono (λ z m. ((union_in ltb nat_order l S z).1 (inr m.0), m.1)) (c k (head refl)))
     ∙ closed_keys l S s (λ j m. c j (tail m))
 
@@ -114,7 +115,8 @@ module _ {at : ℕ → Point} {n : ℕ} {t : ℕ → ℕ → ℕ} (p : Plain (al
   held-rays k m = ⊎_elim (λ e. omega arith) (λ r. omega arith) (nearby.edges k m)
 
   -- A walk to the point of a ray is one between the ends of its key.
-  ray_closed : {S : ℕ → Type 0} (d j : ℕ) → j < n → Conn key_graph S n j → Conn key_graph S (key_graph.hi (key_of n (ray d j))) (key_graph.lo (key_of n (ray d j)))
+  ray_closed : {S : ℕ → Type 0} (d j : ℕ) → j < n → Conn key_graph S n j
+      → Conn key_graph S (key_graph.hi (key_of n (ray d j))) (key_graph.lo (key_of n (ray d j)))
   ray_closed {S} d j h w = let e : ray_point (ray d j) ≡ j = omega arith in (key_conn p.small (ray d j) S).0 (rw e w)
 
   -- The ray to each point closes a walk of the few: by the one that covers the point, and on from there.

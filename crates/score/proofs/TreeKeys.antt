@@ -51,7 +51,8 @@ module _ (xs ys : List ℕ) (n : ℕ) (few : n < places) (wx : Words xs) (wy : W
         within = within;
         few = omega arith;
         room = size;
-        sorted = subst⁻¹ (Sorted (λ (a b : ℕ). T (ltb a b))) tree (kruskal-sorted key_graph (λ (a b : ℕ). T (ltb a b)) [] (all_keys at n) (all_keys-sorted at n));
+        sorted = subst⁻¹ (Sorted (λ (a b : ℕ). T (ltb a b))) tree
+            (kruskal-sorted key_graph (λ (a b : ℕ). T (ltb a b)) [] (all_keys at n) (all_keys-sorted at n));
         short = λ k i. omega (arith, key-short k (subst (λ (l : List ℕ). Memᴰ k l) tree i));
         joins = λ u v hu hv. subst⁻¹ (λ (l : List ℕ). Conn key_graph (In l) v u) tree
             ((kruskal_connects key_graph (all_keys at n)).1 (all_keys_join at n (omega arith) u v hu hv));

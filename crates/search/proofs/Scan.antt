@@ -90,10 +90,12 @@ module _ (tail : ℕ) (ps : List Point) (s : Sorted Lower ps) (some-there : 1 �
     unfolding length_at
     reaches h = omega (arith, one_point_more tail ps s some-there c free)
 
-    loses : (found : Option Point) → Agrees found → length_at found ≤ tree_length_with tail (put lower c ps) → ltb (gain_at tail ps found) (spared_by ps c) ≡ false
+    loses : (found : Option Point) → Agrees found → length_at found ≤ tree_length_with tail (put lower c ps)
+        → ltb (gain_at tail ps found) (spared_by ps c) ≡ false
     loses found a h = le-ltb (gain_at tail ps found) (spared_by ps c) (omega (arith, one_point_more tail ps s some-there c free))
 
-    wins : (found : Option Point) → Agrees found → tree_length_with tail (put lower c ps) < length_at found → ltb (gain_at tail ps found) (spared_by ps c) ≡ true
+    wins : (found : Option Point) → Agrees found → tree_length_with tail (put lower c ps) < length_at found
+        → ltb (gain_at tail ps found) (spared_by ps c) ≡ true
     wins found a h = lt-ltb (gain_at tail ps found) (spared_by ps c) (omega (arith, one_point_more tail ps s some-there c free))
 
   -- Among points that are not held it finds what the model's search finds from that saving on.
@@ -103,7 +105,8 @@ module _ (tail : ℕ) (ps : List Point) (s : Sorted Lower ps) (some-there : 1 �
   best_from : Option Point → List Point → Option Point
   best_from found l = best_above tail whole ps (sub_ℕ whole (length_at found)) found l
 
-  try_free : (found : Option Point) → Agrees found → (l : List Point) → Free l → try_all ps (greatest_at tail ps found) l ≡ greatest_at tail ps (best_from found l)
+  try_free : (found : Option Point) → Agrees found → (l : List Point) → Free l
+      → try_all ps (greatest_at tail ps found) l ≡ greatest_at tail ps (best_from found l)
   unfolding try_all tried best_above best_from saving length_at
   try_free found a [] free = refl
   try_free found a (c ∷ l) free =

@@ -1,6 +1,5 @@
 -- `bottleneck::clear_diagonal` meets its contract. The invariant: the entries of the numbers below i with themselves are 0.
 use mathlib.Core.Path.{refl}
-use Prim.Native.Nat.{◌-◌}
 use native.Mathlib.Omega.{arith}
 use Rattle.kruskal.proofs.Fill.{fill_none, fill_more}
 use Rattle.bottleneck.proofs.clear_diagonal.Goals as goal

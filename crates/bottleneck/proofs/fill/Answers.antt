@@ -1,7 +1,6 @@
 -- `bottleneck::fill` meets its contract. The invariant: the labels are those of the keys seen so far, and the table has the bottlenecks of
 -- the numbers that these connect. A key between two labels fills the entries that it connects, and one within a label is skipped.
 use mathlib.Core.Path.{refl}
-use Prim.Native.Nat.{◌-◌}
 use native.Mathlib.Omega.{arith}
 use Rattle.kruskal.proofs.Labels.{labels_none}
 use Rattle.bottleneck.proofs.TablePass.{pass_none, pass_skip, pass_merge, pass_end, next-short}

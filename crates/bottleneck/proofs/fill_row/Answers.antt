@@ -1,6 +1,6 @@
 -- `bottleneck::fill_row` meets its contract. The invariant: the first j entries of the row are chosen, and the others are as they were.
 use mathlib.Core.Path.{ap, ◌∙◌}
-use Prim.Native.Nat.{◌+◌, ◌-◌}
+use Prim.Native.Nat.{◌+◌}
 use native.Mathlib.Omega.{arith}
 use lib.ListN.{get_or}
 use Rattle.kruskal.proofs.Fill.{fill_none, fill_more}

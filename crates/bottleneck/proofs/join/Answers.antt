@@ -1,6 +1,5 @@
 -- `bottleneck::join` meets its contract. The invariant: the rows below i are those of the merge, and the others are as they were. A row
 -- whose number has the label a is filled where the label is b, one with the label b where it is a, and any other is left.
-use Prim.Native.Nat.{◌-◌}
 use native.Mathlib.Omega.{arith}
 use Rattle.bottleneck.proofs.Rows.{rows_none, rows-first, rows-second, rows_skip, rows_all}
 use Rattle.bottleneck.proofs.join.Goals as goal

@@ -8,8 +8,8 @@ use Rattle.buffer.proofs.put_header.Goals as goal
 
 pub returns : goal.returns
 unfolding header
-returns c = let entry = (c) in
-    let first = ap (λ (z : ℕ). pairs_from z entry.args.sizes.now) c.header_size.ensures in
-    pasted_then c.put_bytes-count.ensures (omega (arith, entry.pre.0))
-    (pasted_then c.put2-first.ensures (omega (arith, entry.pre.0, c.put_bytes-count.auto.out))
+returns c =
+    let first = ap (λ (z : ℕ). pairs_from z c.args.sizes.now) c.header_size.ensures in
+    pasted_then c.put_bytes-count.ensures (omega (arith, c.requires.sizes_in_bounds))
+    (pasted_then c.put2-first.ensures (omega (arith, c.requires.sizes_in_bounds, c.put_bytes-count.auto.out))
     (pasted_same first c.put_pairs.ensures))

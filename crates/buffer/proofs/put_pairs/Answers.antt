@@ -1,5 +1,4 @@
 -- `buffer::put_pairs` meets its contract. The invariant: the pairs passed are put, and the next section starts where the last one ends.
-use Prim.Native.Nat.{◌-◌}
 use native.Mathlib.Omega.{arith}
 use Rattle.buffer.proofs.Pairs.{none_put, pair_put, next-within, all_put}
 use Rattle.buffer.proofs.put_pairs.Goals as goal

@@ -1,5 +1,4 @@
 -- `buffer::put_points` meets its contract. The invariant: those passed are put.
-use Prim.Native.Nat.{◌-◌}
 use native.Mathlib.Omega.{arith}
 use Rattle.arrays.proofs.paste.Lines.{each-first_none, each-first_more, each-first_end}
 use Rattle.sections.specs.Bytes.{code_bytes}

@@ -13,6 +13,5 @@ returns-in-Finished c = sym (ap step_reply c.in-Finished.is)
 
 pub returns-in-Tap : goal.returns-in-Tap
 unfolding step_reply
-returns-in-Tap c = let v = c.in-Tap.s.given.0 in
-    read_two (λ (x y : ℤ). Tap x y v.1.1.0) v.0 v.1.0 (search rules) (search rules)
+returns-in-Tap c = read_two (λ (x y : ℤ). Tap x y c.in-Tap.fall) c.in-Tap.x c.in-Tap.y (search rules) (search rules)
     ∙ sym (ap step_reply c.in-Tap.is)

@@ -7,10 +7,8 @@ use Rattle.columns.specs.Found.{choice_with}
 use Rattle.columns.proofs.choice_of.Goals as goal
 
 pub returns-in-At : goal.returns-in-At
-returns-in-At c = let signed-x = c.to_signed-x in
-    let signed-y = c.to_signed-y in
-    let saving = c.saving_of-saving in
-    let x = to_z-of_z w32 _ (record { sfits = signed-x.type-inv }) ∙ signed-x.ensures in
-    let y = to_z-of_z w32 _ (record { sfits = signed-y.type-inv }) ∙ signed-y.ensures in
-    let s = to_z-of_z w32 _ (record { sfits = saving.type-inv }) ∙ saving.ensures in
+returns-in-At c =
+    let x = to_z-of_z w32 _ (record { sfits = c.to_signed-x.type_inv }) ∙ c.to_signed-x.ensures in
+    let y = to_z-of_z w32 _ (record { sfits = c.to_signed-y.type_inv }) ∙ c.to_signed-y.ensures in
+    let s = to_z-of_z w32 _ (record { sfits = c.saving_of-saving.type_inv }) ∙ c.saving_of-saving.ensures in
     (λ i. Candidate (x i) (y i) (s i)) ∙ ap (choice_with c.args.tail c.args.found.gain) (sym c.in-At.is)

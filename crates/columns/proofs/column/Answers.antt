@@ -13,14 +13,14 @@ use Rattle.working.proofs.InOrder.{arranged-placed}
 use Rattle.columns.specs.Column.{column_answer}
 use Rattle.columns.specs.Found.{choice_of}
 use Rattle.columns.proofs.Found.{located-small, column_found, out-column}
-use borrow.Author.Rules.{rules}
 use Rattle.columns.proofs.column.Goals as goal
 
 zero-fits : SFits w32 (pos 0)
 zero-fits = record { sfits = omega arith }
 
 pub greatest-requires : goal.greatest-requires
-greatest-requires c = let there = read-located _ _ _ c.ranges.x zero-fits c.locate.ensures ∙ c.in-At.is in
+greatest-requires c =
+    let there = read-located _ _ _ c.ranges.x zero-fits c.locate.ensures ∙ c.in-At.is in
     record { in_order = c.requires.in_order; x_le_stored_limit = located-small _ there c.x_of.ensures }
 
 pub returns-in-OutOfRange : goal.returns-in-OutOfRange

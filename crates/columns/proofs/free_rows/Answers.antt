@@ -1,5 +1,4 @@
 -- `columns::free_rows` meets its contract. The invariant: of the rows seen, those that are free stand at the front of `free`.
-use Prim.Native.Nat.{◌-◌}
 use native.Mathlib.Omega.{arith}
 use lib.ListN.{take}
 use Rattle.arrays.proofs.paste.Lines.{each-first_none, each-first_more, each-first_end}

@@ -1,6 +1,5 @@
 -- `display::display_arrow` meets its contract: in each arm what is shown is told, and the arguments are read back from their bits.
 use mathlib.Core.Path.{sym, ap, ◌∙◌}
-use Rattle.arrow.specs.Arrow.{arrow}
 use Rattle.arrow.proofs.Answers.{read-arrow}
 use Rattle.display.specs.Entry.{indication_number}
 use Rattle.display.proofs.display_arrow.Goals as goal

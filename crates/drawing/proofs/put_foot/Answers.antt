@@ -5,5 +5,11 @@ use Rattle.drawing.proofs.Parts.{foot_put}
 use Rattle.drawing.proofs.put_foot.Goals as goal
 
 pub returns : goal.returns
-returns c = let text = pasted_then c.fill-names.ensures.pasted (omega (arith, c.fill-names.ensures.upper_bound)) (pasted_then c.put_legend-caption.ensures.pasted (omega (arith, c.fill-names.ensures.upper_bound, c.put_legend-caption.ensures.upper_bound)) c.fill.ensures.pasted) in
-    record { pasted = foot_put _ _ _ _ c.long_side.ensures.value text; upper_bound = omega (arith, c.fill-names.ensures.upper_bound, c.put_legend-caption.ensures.upper_bound, c.fill.ensures.upper_bound) }
+returns c =
+    let text = pasted_then c.fill-names.ensures.pasted (omega (arith, c.fill-names.ensures.upper_bound))
+    (pasted_then c.put_legend-caption.ensures.pasted (omega (arith, c.fill-names.ensures.upper_bound, c.put_legend-caption.ensures.upper_bound))
+    c.fill.ensures.pasted) in
+    record {
+      pasted = foot_put _ _ _ _ c.long_side.ensures.value text;
+      upper_bound = omega (arith, c.fill-names.ensures.upper_bound, c.put_legend-caption.ensures.upper_bound, c.fill.ensures.upper_bound);
+    }

@@ -1,6 +1,5 @@
 -- `drawing::put_numbered` meets its contract: by the number of the symbol.
 use native.Mathlib.Omega.{arith}
-use borrow.Author.Rules.{rules}
 use Rattle.drawing.proofs.Symbols.{kind_put, tap-put}
 use Rattle.drawing.proofs.put_numbered.Goals as goal
 
@@ -14,5 +13,8 @@ pub returns-in-2 : goal.returns-in-2
 returns-in-2 c = record { pasted = kind_put 2 _ _ c.in-2.is c.fill-in-2.ensures.pasted; upper_bound = omega (arith, c.fill-in-2.ensures.upper_bound) }
 
 pub returns-in-3-to-255 : goal.returns-in-3-to-255
-returns-in-3-to-255 c = let rest = c.in-3-to-255.match.rest in
-    record { pasted = tap-put _ _ rest.0.0.1 rest.0.1 rest.1 c.fill-in-3-to-255.ensures.pasted; upper_bound = omega (arith, c.fill-in-3-to-255.ensures.upper_bound) }
+returns-in-3-to-255 c =
+    record {
+      pasted = tap-put _ _ (λ e. omega arith) (λ e. omega arith) (λ e. omega arith) c.fill-in-3-to-255.ensures.pasted;
+      upper_bound = omega (arith, c.fill-in-3-to-255.ensures.upper_bound);
+    }

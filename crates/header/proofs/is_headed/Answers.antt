@@ -12,8 +12,7 @@ pub returns-then-b-gt-LONGEST : goal.returns-then-b-gt-LONGEST
 returns-then-b-gt-LONGEST c = head_long c.args.b.now (omega arith) c.if-b-gt-LONGEST.true
 
 pub slice_bounds-same_bytes-end : goal.slice_bounds-same_bytes-end
-slice_bounds-same_bytes-end c = let entry = c.?before in
-    sym (length-take-le 4 entry.args.b.now (omega arith))
+slice_bounds-same_bytes-end c = sym (length-take-le 4 c.args.b.now (omega arith))
 
 pub returns-then-not-same_bytes : goal.returns-then-not-same_bytes
 returns-then-not-same_bytes c = head_other c.args.b.now (omega arith) (omega arith) (sym c.same_bytes.ensures ∙ c.if-not-same_bytes.true)

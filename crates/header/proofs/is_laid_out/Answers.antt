@@ -1,5 +1,4 @@
 -- `header::is_laid_out` meets its contract. The invariant: the sections passed follow one another, and the others decide.
-use Prim.Native.Nat.{◌-◌}
 use native.Mathlib.Omega.{arith}
 use Rattle.header.proofs.Checks.{pairs_missing, none_passed, next_passed, apart, all_passed}
 use Rattle.header.proofs.is_laid_out.Goals as goal

@@ -10,4 +10,5 @@ pub slice_bounds-kinds-end : goal.slice_bounds-kinds-end
 slice_bounds-kinds-end c = (let long : length c.args.w.kinds ≡ 64 = search rules in omega (arith, long, c.requires.arranged.pin_codes.few))
 
 pub slice_bounds-all_within-end : goal.slice_bounds-all_within-end
-slice_bounds-all_within-end c = sym (length-take-le _ _ (let long : length c.args.w.kinds ≡ 64 = search rules in omega (arith, long, c.requires.arranged.pin_codes.few)))
+slice_bounds-all_within-end c =
+    sym (length-take-le _ _ (let long : length c.args.w.kinds ≡ 64 = search rules in omega (arith, long, c.requires.arranged.pin_codes.few)))

@@ -7,16 +7,14 @@ pub put_file_header-first-requires : goal.put_file_header-first-requires
 put_file_header-first-requires c = record { bare_in_bounds = header-fits c.requires c.args.bare; n_le_max_pins = (c.requires.few, omega arith, omega arith) }
 
 pub put_points-second-requires : goal.put_points-second-requires
-put_points-second-requires c = let entry = (c) in
-    (entry.pre.in_pins, omega (arith, pins_fit entry.pre entry.args.bare c.put_file_header-first.ensures))
+put_points-second-requires c =
+    (c.requires.in_pins, omega (arith, pins_fit c.requires c.args.bare c.put_file_header-first.ensures))
 
 pub put_kinds-requires : goal.put_kinds-requires
-put_kinds-requires c = let at-header = (c) in
-    let entry = (let at-header-arg = at-header.before in at-header-arg.before.before.before.before) in
-    let fit = kinds_fit entry.pre entry.args.bare at-header.put-file-header.ensures c.put_points-second.ensures in
-    record { n_in_bounds = entry.pre.in_kinds; kinds_in_bounds = omega (arith, fit) }
+put_kinds-requires c =
+    let fit = kinds_fit c.requires c.args.bare c.put_file_header-first.ensures c.put_points-second.ensures in
+    record { n_in_bounds = c.requires.in_kinds; kinds_in_bounds = omega (arith, fit) }
 
 pub returns : goal.returns
-returns c = let at-header = (c) in
-    let entry = (let at-header-arg = at-header.before in at-header-arg.before.before.before.before) in
-    parts-put entry.pre entry.args.bare at-header.put-file-header.ensures c.put_points-second.ensures c.put_kinds.ensures
+returns c =
+    parts-put c.requires c.args.bare c.put_file_header-first.ensures c.put_points-second.ensures c.put_kinds.ensures

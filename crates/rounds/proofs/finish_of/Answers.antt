@@ -1,9 +1,7 @@
 -- `rounds::finish_of` meets its contract. The invariant: what the rounds to come lead to, the model's rounds lead to from the start.
 use mathlib.Core.Path.{refl, sym, ◌∙◌}
-use Prim.Native.Nat.{◌-◌}
 use native.Mathlib.Omega.{arith}
 use borrow.Author.Rules.{rules}
-use Rattle.working.specs.InOrder as work
 use Rattle.rounds.proofs.Run.{running_start, running_less, running_fits, running_next, running_more, running_end}
 use Rattle.rounds.proofs.finish_of.Goals as goal
 
@@ -25,7 +23,9 @@ pub loop-more-smaller : goal.loop-more-smaller
 loop-more-smaller c = omega (arith, running_less _ _ _ _ _ c.loop-more.invariant.0 (sym c.loop-more.invariant.1 ∙ c.loop-more-test.true))
 
 pub loop-more-preserved : goal.loop-more-preserved
-loop-more-preserved c = (running_more _ _ _ _ _ c.loop-more.invariant.0 (sym c.loop-more.invariant.1 ∙ c.loop-more-test.true) _ c.round_of-last-in-loop-more.ensures, refl)
+loop-more-preserved c =
+    let more = sym c.loop-more.invariant.1 ∙ c.loop-more-test.true in
+    (running_more _ _ _ _ _ c.loop-more.invariant.0 more _ c.round_of-last-in-loop-more.ensures, refl)
 
 pub returns : goal.returns
 returns c = running_end _ _ _ _ _ c.loop-more.invariant.0 c.requires.valid (sym c.loop-more.invariant.1 ∙ c.loop-more-test.false)

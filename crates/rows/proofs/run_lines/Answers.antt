@@ -1,5 +1,4 @@
 -- `rows::run_lines` meets its contract. The invariant: the lines of the edges passed are written.
-use Prim.Native.Nat.{◌-◌}
 use native.Mathlib.Omega.{arith}
 use Rattle.model.specs.Question.{listed}
 use Rattle.model.proofs.FileSize.{edges_few}
@@ -15,7 +14,13 @@ loop-i-init c = let l = listed (state_of c.args.w) in
     first_none (run_text c.args.tail l) 53 _ _ _ (run_none _ l)
 
 pub edge_at-requires : goal.edge_at-requires
-edge_at-requires c = record { in_order = c.requires.in_order; ends_value = c.edge_numbers-ends.ensures; i_lt_nkeys = c.loop-i-test.true; tail_le_longest_tail = c.requires.tail_le_longest_tail }
+edge_at-requires c =
+    record {
+      in_order = c.requires.in_order;
+      ends_value = c.edge_numbers-ends.ensures;
+      i_lt_nkeys = c.loop-i-test.true;
+      tail_le_longest_tail = c.requires.tail_le_longest_tail;
+    }
 
 pub run_line-next-requires : goal.run_line-next-requires
 run_line-next-requires c = let few = edges_few _ c.requires.valid in
@@ -23,12 +28,14 @@ run_line-next-requires c = let few = edges_few _ c.requires.valid in
     omega (arith, inv.most, inv.same, few, edge_count_lem _ c.requires.in_order, c.loop-i-test.true)
 
 pub loop-i-preserved : goal.loop-i-preserved
-loop-i-preserved c = let s = state_of c.args.w in
+loop-i-preserved c =
+    let s = state_of c.args.w in
     let few = edges_few _ c.requires.valid in
     let inv = c.loop-i.invariant in
     let line = c.run_line-next in
     first_more (run_text c.args.tail (listed s)) 53 _ _ _ _ _ _ _ _ _ inv c.loop-i-test.true (run_more _ s _ _ c.edge_at.ensures)
-    (omega (arith, inv.most, inv.same, few, edge_count_lem _ c.requires.in_order, c.loop-i-test.true)) line.ensures.0 line.ensures.1 line.auto.0
+    (omega (arith, inv.most, inv.same, few, edge_count_lem _ c.requires.in_order, c.loop-i-test.true)) line.ensures.pasted line.ensures.upper_bound
+    line.auto.out
 
 pub shape_of-out : goal.shape_of-out
 shape_of-out c = c.loop-i.invariant.same

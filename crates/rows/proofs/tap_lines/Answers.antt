@@ -1,5 +1,4 @@
 -- `rows::tap_lines` meets its contract. The invariant: the lines of the Steiner points passed are written.
-use Prim.Native.Nat.{◌-◌}
 use native.Mathlib.Omega.{arith}
 use Rattle.arrays.proofs.paste.Lines.{first_none, first_more, first_end}
 use Rattle.rows.proofs.Lines.{tap_text, tap_none, tap_more}
@@ -17,4 +16,6 @@ pub shape_of-out : goal.shape_of-out
 shape_of-out c = c.loop-i.invariant.same
 
 pub returns : goal.returns
-returns c = record { pasted = (first_end (tap_text c.args.codes.now) 18 _ _ _ _ _ _ c.loop-i.invariant c.loop-i-test.false).0; upper_bound = (first_end (tap_text c.args.codes.now) 18 _ _ _ _ _ _ c.loop-i.invariant c.loop-i-test.false).1 }
+returns c =
+    let done = first_end (tap_text c.args.codes.now) 18 _ _ _ _ _ _ c.loop-i.invariant c.loop-i-test.false in
+    record { pasted = done.0; upper_bound = done.1 }

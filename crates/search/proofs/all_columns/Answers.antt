@@ -1,6 +1,5 @@
 -- `search::all_columns` meets its contract. The invariant: from the best so far, the columns left give what all columns give.
 use mathlib.Core.Path.{refl}
-use Prim.Native.Nat.{◌-◌}
 use native.Mathlib.Omega.{arith}
 use Rattle.search.proofs.Steps.{columns_more, columns_end}
 use Rattle.search.proofs.all_columns.Goals as goal

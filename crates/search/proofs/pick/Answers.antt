@@ -1,6 +1,5 @@
 -- `search::pick` meets its contract. The invariant: from the best so far, the rows left give what the whole column gives.
 use mathlib.Core.Path.{refl}
-use Prim.Native.Nat.{◌-◌}
 use native.Mathlib.Omega.{arith}
 use Rattle.search.proofs.Steps.{column_more, column_end}
 use Rattle.search.proofs.pick.Goals as goal

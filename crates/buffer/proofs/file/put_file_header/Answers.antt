@@ -10,7 +10,10 @@ use Rattle.buffer.proofs.file.put_file_header.Goals as goal
 
 pub put_header-requires : goal.put_header-requires
 put_header-requires c = let a = c.args in
-    record { sizes_in_bounds = omega (arith, ap (λ (b : Bool). header_size (length (sizes_of a.n a.m a.e b))) c.if-bare.true, c.requires.bare_in_bounds); sizes_bound = omega (arith, c.requires.n_le_max_pins) }
+    record {
+      sizes_in_bounds = omega (arith, ap (λ (b : Bool). header_size (length (sizes_of a.n a.m a.e b))) c.if-bare.true, c.requires.bare_in_bounds);
+      sizes_bound = omega (arith, c.requires.n_le_max_pins);
+    }
 
 pub returns-then-bare : goal.returns-then-bare
 returns-then-bare c = let a = c.args in
@@ -18,7 +21,10 @@ returns-then-bare c = let a = c.args in
 
 pub put_header-requires-2 : goal.put_header-requires-2
 put_header-requires-2 c = let a = c.args in
-    record { sizes_in_bounds = omega (arith, ap (λ (b : Bool). header_size (length (sizes_of a.n a.m a.e b))) c.if-bare.false, c.requires.bare_in_bounds); sizes_bound = omega (arith, c.requires.n_le_max_pins) }
+    record {
+      sizes_in_bounds = omega (arith, ap (λ (b : Bool). header_size (length (sizes_of a.n a.m a.e b))) c.if-bare.false, c.requires.bare_in_bounds);
+      sizes_bound = omega (arith, c.requires.n_le_max_pins);
+    }
 
 pub returns : goal.returns
 returns c = let a = c.args in

@@ -17,13 +17,12 @@ returns-then-bare c = let at = c.args.at in
     (subst (λ (z : ℕ). Pasted [] c.args.out.now c.args.out.now at z) same (pasted_none c.args.out.now at))
 
 pub slice_bounds-put_bytes-end : goal.slice_bounds-put_bytes-end
-slice_bounds-put_bytes-end c = let entry = c.?before in
-    sym (length-take-le _ _ entry.requires.0)
+slice_bounds-put_bytes-end c = sym (length-take-le _ _ c.requires.n_in_bounds)
 
 pub put_bytes-requires : goal.put_bytes-requires
-put_bytes-requires c = let entry = c.?before in
-    omega (arith, ap length (all_kinds_lem entry.args.kinds.now entry.args.n c.if-bare.false), entry.requires.1)
+put_bytes-requires c =
+    omega (arith, ap length (all_kinds_lem c.args.kinds.now c.args.n c.if-bare.false), c.requires.kinds_in_bounds)
 
 pub returns : goal.returns
-returns c = let entry = c.?before in
-    pasted_same (all_kinds_lem entry.args.kinds.now entry.args.n c.if-bare.false) c.put_bytes.ensures
+returns c =
+    pasted_same (all_kinds_lem c.args.kinds.now c.args.n c.if-bare.false) c.put_bytes.ensures

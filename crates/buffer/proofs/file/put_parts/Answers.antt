@@ -5,11 +5,11 @@ use Rattle.buffer.proofs.Parts.{kinds_fit}
 use Rattle.buffer.proofs.file.put_parts.Goals as goal
 
 pub put_kinds-requires : goal.put_kinds-requires
-put_kinds-requires c = let entry = (c) in
-    let fit = kinds_fit entry.pre.0 entry.args.kinds.now entry.pre.1 c.put_tree-fourth.ensures in
-    record { n_in_bounds = entry.pre.1; kinds_in_bounds = omega (arith, fit, c.put_tree-fourth.auto.out) }
+put_kinds-requires c =
+    let fit = kinds_fit c.requires.parts_fit c.args.kinds.now c.requires.n_in_bounds c.put_tree-fourth.ensures in
+    record { n_in_bounds = c.requires.n_in_bounds; kinds_in_bounds = omega (arith, fit, c.put_tree-fourth.auto.out) }
 
 pub returns : goal.returns
-returns c = let entry = (c) in
-    let fit = kinds_fit entry.pre.0 entry.args.kinds.now entry.pre.1 c.put_tree-fourth.ensures in
+returns c =
+    let fit = kinds_fit c.requires.parts_fit c.args.kinds.now c.requires.n_in_bounds c.put_tree-fourth.ensures in
     pasted_then c.put_tree-fourth.ensures (omega (arith, fit)) c.put_kinds.ensures

@@ -5,13 +5,10 @@ pub ray_of-requires : goal.ray_of-requires
 ray_of-requires c = c.requires.1.low _
 
 pub ray_of-requires-2 : goal.ray_of-requires-2
-ray_of-requires-2 c = (c).requires.1.low _
+ray_of-requires-2 c = c.requires.1.low _
 
 pub ray_of-requires-3 : goal.ray_of-requires-3
-ray_of-requires-3 c = (c).requires.1.low _
+ray_of-requires-3 c = c.requires.1.low _
 
 pub ray_of-requires-4 : goal.ray_of-requires-4
-ray_of-requires-4 c = (c).requires.1.low _
-
-pub returns : goal.returns
-returns c = cc
+ray_of-requires-4 c = c.requires.1.low _

@@ -14,4 +14,7 @@ decode-requires c = let size = c.size.ensures.0 in
 
 pub returns : goal.returns
 returns c = let are = section-read _ _ c.requires.point_section c.offset.ensures.0 c.size.ensures.0 in
-    record { value = c.decode.ensures.value ∙ ap (all in_range) are; out_after = c.decode.ensures.out_after ∙ ap (λ (ps : List Point). decoded ps c.args.out.now) are }
+    record {
+      value = c.decode.ensures.value ∙ ap (all in_range) are;
+      out_after = c.decode.ensures.out_after ∙ ap (λ (ps : List Point). decoded ps c.args.out.now) are;
+    }

@@ -9,5 +9,5 @@ use Rattle.sections.proofs.codes.locate_at.Goals as goal
 pub returns : goal.returns
 returns c = let x = c.from_bytes in
     let y = c.from_bytes-2 in
-    sym (read-located _ _ _ (record { sfits = x.type-inv }) (record { sfits = y.type-inv }) c.locate.ensures)
+    sym (read-located _ _ _ (record { sfits = x.type_inv }) (record { sfits = y.type_inv }) c.locate.ensures)
     ∙ ap₂ (λ (a b : ℤ). located (point a b)) x.ensures y.ensures

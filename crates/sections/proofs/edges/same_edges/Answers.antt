@@ -1,6 +1,5 @@
 -- `sections::edges::same_edges` meets its contract. The invariant: the bytes of the edges passed are the same.
 use mathlib.Core.Path.{◌∙◌}
-use Prim.Native.Nat.{◌-◌}
 use Rattle.sections.proofs.edges.Bytes.{edges_none, edges_more, edges_fail_first, edges_fail_second, edges_end}
 use native.Mathlib.Omega.{arith}
 use Rattle.sections.proofs.edges.same_edges.Goals as goal

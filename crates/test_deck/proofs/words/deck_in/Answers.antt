@@ -9,15 +9,14 @@ use borrow.Author.Rules.{rules}
 use Rattle.test_deck.proofs.words.deck_in.Goals as goal
 
 pub returns : goal.returns
-returns c = let entry = c.?before in
-    let w = entry.args.t1 in
+returns c = let w = c.args.words in
+    let size : length c.args.words ≡ word_count = search rules in
     let pins = part_copied w 0 pin_places c.put_numbers.ensures (omega (arith, size)) refl in
     let steiner = part_copied w steiner_word steiner_places c.put_numbers-2.ensures (omega (arith, size)) refl in
     let ends = part_copied w ends_word end_places c.put_numbers-3.ensures (omega (arith, size)) refl in
-    let size : length entry.args.t1 ≡ word_count = search rules in
     λ i. record {
       points = record { pins = pins i; npins = get_or w pin_count_word 0; steiner = steiner i; nsteiner = get_or w steiner_count_word 0 };
-      kinds = entry.args.kinds;
+      kinds = c.args.kinds;
       tail = get_or w tail_word 0;
       ends = ends i;
     }

@@ -7,23 +7,20 @@ use Rattle.test_tree.proofs.lengths.Rows.{keys_few_lem, tree-measured}
 use Rattle.test_tree.proofs.lengths.lengths.Goals as goal
 
 pub total_of-plain-requires : goal.total_of-plain-requires
-total_of-plain-requires c = let at-ys = (c) in
-    let entry = at-ys.before.before in
-    let few = keys_few_lem _ _ _ _ _ entry.pre.0 c.build-m.ensures in
+total_of-plain-requires c =
+    let few = keys_few_lem _ _ _ _ _ c.requires.0 c.build-m.ensures in
     (omega (arith, c.build-m.auto.keys), omega arith)
 
 pub fill-requires : goal.fill-requires
-fill-requires c = let at-ys = (c) in
-    let entry = at-ys.before.before in
-    let few = keys_few_lem _ _ _ _ _ entry.pre.0 c.build-m.ensures in
-    tree_filling entry.args.xs.now entry.args.ys.now _ (omega (arith, entry.pre.0.few)) (λ i. (at-ys.before.shared-slice-known.given i).fits)
-    (λ i. (at-ys.shared-slice-known2.given i).fits) (omega (arith, c.build-m.auto.keys)) (front-take c.build-m.ensures)
-    c.blank-table.ensures
+fill-requires c =
+    let a = c.args in
+    let few = keys_few_lem _ _ _ _ _ c.requires.0 c.build-m.ensures in
+    tree_filling a.xs.now a.ys.now _ (omega (arith, c.requires.0.few)) (λ i. (c.type_inv.xs i).fits) (λ i. (c.type_inv.ys i).fits)
+    (omega (arith, c.build-m.auto.keys)) (front-take c.build-m.ensures) c.blank-table.ensures
 
 pub try_each-requires : goal.try_each-requires
-try_each-requires c = let at-ys = (c) in
-    let entry = at-ys.before.before in
-    let p = entry.pre in
+try_each-requires c =
+    let p = c.requires in
     let size = c.fill.auto.table ∙ c.blank-table.ensures in
     record {
       given = tree-measured _ _ _ _ _ _ _ p.0 c.build-m.ensures c.total_of-plain.ensures size c.fill.ensures;

@@ -1,6 +1,5 @@
 -- `test_tree::points::rises` meets its contract. The invariant: the points passed rise.
 use mathlib.Core.Path.{refl, sym, ◌∙◌, subst}
-use Prim.Native.Nat.{◌-◌}
 use native.Mathlib.Omega.{arith}
 use lib.Dec.{T}
 use Rattle.test_tree.proofs.points.Rising.{says_yes, says_no, rises_one, rises_fewer, rises_more, rises_not}
