@@ -14,38 +14,50 @@ run: programs ## a text of coordinates to its listing and to a picture, target/d
 	@target/bin/deckplan < target/pins.deck | target/bin/deckdraw > target/deck.svg
 	@target/bin/decklist < target/pins.deck
 
-# The programs, proved and linked to target/bin.
+# The programs, proved and linked to target/bin. Each is run once, on the input that lies beside its source.
+PROGRAMS = deckpack deckplan deckdraw decklist deckplay arrows
+
 programs: ## the programs, proved and linked to target/bin
-	@rt check deckpack deckplan deckdraw decklist deckplay arrows >&2
+	@mkdir -p target/bin
+	@for name in $(PROGRAMS); do \
+		input=crates/$$name/stdin; [ -e $$input ] || input=/dev/null; \
+		(exec <$$input && cd crates/$$name && rt run >/dev/null) && cp crates/$$name/out/$$name target/bin/$$name || exit 1; \
+	done
 
 reference: ## the independent implementation
 	@cd tests/reference && cargo build --release --offline --quiet
 
+# A proved crate as a library for C: $(call archive,CRATE,NAME) writes target/staticlib/libNAME.a.
+define archive
+	@cd crates/$(1) && rt lib >&2
+	@mkdir -p target/staticlib && cp crates/$(1)/out/lib$(1).a target/staticlib/lib$(2).a
+endef
+
 # The planner for C.
 library: ## the planner for C: target/staticlib/libplanner.a
-	rt staticlib planner
+	$(call archive,planner_c,planner)
 
 # Lists of calls for C.
 replay_library: ## lists of calls for C: target/staticlib/libreplay.a
-	rt staticlib replay
+	$(call archive,replay_c,replay)
 
 # Arrows on displays for C.
 display_library: ## arrows on displays for C: target/staticlib/libdisplay.a
-	rt staticlib display
+	$(call archive,display_c,display)
 
-# The proved functions as libraries for the tests in Rust. One after the other: two at a time would get in each other's way in target/.
+# The proved functions as libraries for the tests in Rust. One after the other: a crate below two of them is proved once.
 entries: ## the proved functions as libraries for the tests
-	rt staticlib test_tree
-	rt staticlib test_deck
-	rt staticlib planner
-	rt staticlib replay
-	rt staticlib display
+	$(call archive,test_tree,test_tree)
+	$(call archive,test_deck,test_deck)
+	$(call archive,planner_c,planner)
+	$(call archive,replay_c,replay)
+	$(call archive,display_c,display)
 
 # The prover over every crate, then the tests on what it proved.
 test: ## the gate: the prover over every crate, then the tests; the last line is the verdict
 	sh tests/gate/gate.sh $(MAKE) -s tests
 
-# The libraries are linked beside the tests that need none of them; the programs are in target/bin already.
+# The libraries are made beside the tests that need none of them; the programs are in target/bin already.
 tests: ## the tests alone, once the prover has passed
 	$(MAKE) -s -j2 -O entries gate_tests
 	$(MAKE) -s compare_tests

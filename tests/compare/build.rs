@@ -1,4 +1,4 @@
-//! Links the proved functions, which `rt staticlib` writes.
+//! Links the proved functions, which `make entries` writes.
 
 use std::path::Path;
 
@@ -9,7 +9,7 @@ fn main() {
         let library = folder.join(format!("lib{name}.a"));
         assert!(
             library.exists(),
-            "run `rt staticlib {name}` in the repository first"
+            "run `make entries` in the repository first: no lib{name}.a"
         );
         println!("cargo:rerun-if-changed={}", library.display());
         println!("cargo:rustc-link-lib=static={name}");

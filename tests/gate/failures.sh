@@ -13,16 +13,19 @@ repository() { # FOLDER
     mkdir -p "$1/.git" "$1/crates/seven/src" "$1/crates/seven/must-fail" "$1/crates/silent/src"
     printf 'seven:\nsilent: seven\n' >"$1/crates.txt"
     cat >"$1/crates/seven/src/lib.rt" <<'RATTLE'
-ghost use mathlib.Core.Path.{_≡_};
+// A library of one function.
+#![tactic(auto)]
+
+ghost use Rattle.std.specs.Prelude.{◌≡◌};
 
 pub fn seven() -> usize
-    ensures { λ r. ⌜ r ≡ 7 ⌝ }
+    ensures { result ≡ 7 }
 {
     7
 }
 RATTLE
     printf 'file: src/lib.rt\nold:     7\nnew:     8\n' >"$1/crates/seven/must-fail/eight.edit"
-    printf 'fn main() {}\n' >"$1/crates/silent/src/main.rt"
+    printf '// Writes nothing.\n#![tactic(auto)]\n\nfn main() {}\n' >"$1/crates/silent/src/main.rt"
 }
 
 # Puts a repository through the gate with the tests COMMAND, and says whether it ended as it must: with `passes` by status 0, with
@@ -44,13 +47,15 @@ expect() { # passes|fails LAST-LINE TEXT FOLDER COMMAND [WORD...]
 }
 
 # The same with a prover that prints what the true one printed for `whole`, changed by a filter, and ends with a status of its own.
-expect_with_prover() { # FOLDER STATUS FILTER
+expect_with_prover() { # LAST-LINE FOLDER STATUS FILTER
+    wanted_last=$1
+    shift
     mkdir -p "$1" "$room/bin"
     printf '#!/bin/sh\n[ "$1" = ci ] || exit 0\n%s <"%s"\nexit %s\n' "$3" "$room/whole/target/rt-ci.out" "$2" >"$room/bin/rt"
     chmod +x "$room/bin/rt"
     (
         PATH=$room/bin:$PATH
-        expect fails 'gate: failed: the prover' 'rt ci: ' "$1" true
+        expect fails "$wanted_last" 'rt ci: ' "$1" true
     )
 }
 
@@ -62,17 +67,25 @@ repository "$room/edit_not_refused"
 printf 'file: src/lib.rt\nold: pub fn seven() -> usize\nnew: pub fn  seven() -> usize\n' >"$room/edit_not_refused/crates/seven/must-fail/eight.edit"
 repository "$room/other_output"
 echo spoken >"$room/other_output/crates/silent/stdout"
+repository "$room/not_laid_out"
+printf '// Writes nothing.\n#![tactic(auto)]\n\nfn main() { }\n' >"$room/not_laid_out/crates/silent/src/main.rt"
+repository "$room/bad_edit"
+printf 'file: src/lib.rt\nold:     9\nnew:     8\n' >"$room/bad_edit/crates/seven/must-fail/nine.edit"
 
 expect passes '3 passed, 0 failed' 'rt ci: 3 passed, 0 failed' "$room/whole" test -x target/bin/silent &
 expect fails 'gate: failed: the tests' 'rt ci: 3 passed, 0 failed' "$room/failing_test" false &
 wait
 expect fails 'gate: failed: the prover' 'seven NOT PROVED' "$room/not_proved" true &
-expect fails 'gate: failed: the prover' 'seven/eight: NOT REFUSED' "$room/edit_not_refused" true &
+expect fails 'gate: failed: the prover' 'seven/eight.edit: NOT REFUSED' "$room/edit_not_refused" true &
 wait
-expect fails 'gate: failed: the prover' 'what the program wrote is not' "$room/other_output" true
-expect_with_prover "$room/missing_verdict" 0 "sed '\$d'"
-expect_with_prover "$room/verdict_before_the_last_line" 0 'sed "\$arefused"'
-expect_with_prover "$room/status_not_0" 1 cat
+expect fails 'gate: failed: the prover' 'what the program wrote, .* is not what its file stdout has' "$room/other_output" true &
+expect fails 'gate: failed: the prover' 'not in the layout' "$room/not_laid_out" true &
+expect fails 'gate: failed: an edit that could not be tried' 'nine.edit: BAD EDIT' "$room/bad_edit" true &
+wait
+expect_with_prover 'gate: failed: the prover' "$room/missing_verdict" 0 "sed '\$d'"
+expect_with_prover 'gate: failed: the prover' "$room/verdict_before_the_last_line" 0 'sed "\$arefused"'
+expect_with_prover 'gate: failed: the prover' "$room/status_not_0" 1 cat
+expect_with_prover 'gate: failed: an edit that could not be tried' "$room/missing_count_of_edits" 0 "sed '/^rt: ok;/d'"
 
-[ "$(ls "$room/runs" | wc -l)" -eq 8 ] || { echo "the gate: not every case was tried"; exit 1; }
+[ "$(ls "$room/runs" | wc -l)" -eq 11 ] || { echo "the gate: not every case was tried"; exit 1; }
 [ -z "$(ls "$room/failed")" ]

@@ -1,6 +1,5 @@
 -- What one line of a script does to a deck, and the text of its answer, without a line feed (SPEC 9.3 to 9.5).
-use Rattle.std.specs.Prelude.{◌≡◌, List, [], ℕ, min, leb, length}
-use Rattle.io.specs.Counts as io
+use Rattle.std.specs.Prelude.{◌≡◌, List, [], ℕ, ◌≤◌, min, leb, length, take}
 use Rattle.arrays.specs.Test.{if}
 use Rattle.plane.specs.Point.{point}
 use Rattle.model.specs.Call as call
@@ -84,8 +83,8 @@ line_of d b command.List = stays d (joined_lines (deck_text d))
 abbrev pub played : Deck → List ℕ → Line
 played d b = line_of d b (script.command_of b)
 
--- The answer of a line stands at the front of the slice.
+-- The answer of a line stands at the front of the slice; the last part follows from the one before it, and spares a caller's slice a proof.
 pub record Plays (a : Line) (before after : List ℕ) (r : Played) : Type 0 where
   pub next : r.next ≡ a.next
   pub front : Pasted a.text before after 0 r.size
-  pub counts : io.IsPrefixLen r.size after
+  pub counts : (r.size ≤ length after) × (r.size ≡ length (take r.size after))

@@ -1,6 +1,6 @@
 // What the program prints: the numbers of the table of arrows, worked out by the octants.
 ghost use Rattle.std.specs.Prelude.{◌+◌, ◌*◌, ◌≤◌, length};
-ghost use Rattle.io.specs.Counts.{IsPrefixLen};
+ghost use Rattle.streams.specs.Counts.{IsPrefixLen};
 ghost use Rattle.arrays.specs.Paste.{Pasted, each};
 ghost use Rattle.table.specs.Table.{arrow_table};
 ghost use Rattle.ascii.specs.Text.{fitting};

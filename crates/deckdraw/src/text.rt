@@ -1,5 +1,5 @@
 // What the program prints for a file.
-ghost use Rattle.io.specs.Counts.{IsPrefixLen};
+ghost use Rattle.streams.specs.Counts.{IsPrefixLen};
 ghost use Rattle.model.specs.File.{read_file};
 ghost use Rattle.listing.specs.Printed.{Prints};
 ghost use Rattle.picture.specs.Picture.{picture_of};

@@ -1,16 +1,19 @@
-// The listing program (SPEC 9.1): a deck file on standard input; on standard output its listing after a run to the end, or `refused N`.
+// The listing program (SPEC 9.1): a deck file on standard input; on standard output its listing after a run to the end, or `refused N`. A read or a
+// write that fails ends it with that error.
 #![tactic(auto)]
 
 mod text;
 
 use deckfile::READ_ROOM;
 use listing::LISTING_ROOM;
+use std::io;
+use streams::read_full;
 use text::list_file;
 
-fn main() {
+fn main(rt: HostRuntime) -> io::Result<()> {
     let mut file = [0u8; READ_ROOM];
-    let n = io::read_full(0, &mut file);
+    let n = read_full(&mut rt.stdin(), &mut file)?;
     let mut out = [0u8; LISTING_ROOM];
     let m = list_file(&file[..n], &mut out);
-    io::write_all(1, &out[..m]);
+    rt.stdout().write_all(&out[..m])
 }

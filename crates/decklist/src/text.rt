@@ -1,6 +1,6 @@
 // What the program prints for a file.
 ghost use Rattle.std.specs.Prelude.{length};
-ghost use Rattle.io.specs.Counts.{IsPrefixLen};
+ghost use Rattle.streams.specs.Counts.{IsPrefixLen};
 ghost use Rattle.model.specs.Listing.{listing_of_file};
 ghost use Rattle.arrays.specs.Paste.{Pasted};
 ghost use Rattle.ascii.specs.Text.{fitting};

@@ -11,40 +11,41 @@ use lines::INPUT_ROOM;
 use packing::text::{FAULT_ROOM, fault_line, packed_file};
 use packing::{Packing, start};
 use plain_file::PLAIN_ROOM;
+use std::io;
+use std::io::{Read, Stderr, Stdout};
 
 // How many bytes are read at a time.
 const CHUNK: usize = 4096;
 
-// Prints the file, or the fault.
-fn print(p: Packing)
+// Prints the file to standard output, then the fault to standard error.
+fn print(p: Packing, to: Stdout, faults: Stderr) -> io::Result<()>
     requires { Packs p }
 {
     let mut file = [0u8; PLAIN_ROOM];
     let n = packed_file(p, &mut file);
-    io::write_all(1, &file[..n]);
+    to.write_all(&file[..n])?;
     let mut text = [0u8; FAULT_ROOM];
     let fault = p.fault;
     let m = fault_line(fault, &mut text);
-    io::write_all(2, &text[..m]);
+    faults.write_all(&text[..m])
 }
 
-// A proved loop has to end, and nothing says that the input does: the loop counts its reads down, from a number that no input uses up.
-fn main() {
+// A proved loop has to end, and nothing says that the input does: the loop counts its reads, up to a number that no input uses up. A read or a write that
+// fails ends the program with that error.
+fn main(rt: HostRuntime) -> io::Result<()> {
+    let mut input = rt.stdin();
     let mut line = [0u8; INPUT_ROOM];
     let mut chunk = [0u8; CHUNK];
     let mut r = Reader {
         packing: start(),
         size: 0,
     };
-    let mut reads = u64::MAX;
-    while 0 < reads {
-        let got = libc::read(0, &mut chunk);
-        let n = io::count(got, &chunk);
+    for _ in 0..u64::MAX {
+        let n = input.read(&mut chunk)?;
         if n == 0 {
             break;
         }
         r = take_all(r, &mut line, &chunk[..n]);
-        reads -= 1;
     }
-    print(finish(r, &line));
+    print(finish(r, &line), rt.stdout(), rt.stderr())
 }

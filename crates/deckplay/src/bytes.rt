@@ -4,6 +4,7 @@ ghost use Rattle.std.specs.Prelude.{◌≡◌, ◌≤◌, length};
 ghost use Rattle.lines.specs.Lines.{input_room};
 ghost use Rattle.deckplay.specs.Script.{after_line, TakesAll};
 
+use super::output::Output;
 use answer::{ANSWER_ROOM, play};
 use deck::Deck;
 use lines::push;
@@ -16,20 +17,20 @@ pub struct Reader {
 }
 
 // The end of a line: it is played, and its answer written to standard output with a line feed, if it has one. Returns the deck that follows.
-pub fn end(d: Deck, line: &[u8]) -> Deck
+pub fn end(output: &mut Output, d: Deck, line: &[u8]) -> Deck
     ensures { result ≡ after_line d line.now }
 {
     let mut out = [0u8; ANSWER_ROOM];
     let p = play(d, line, &mut out);
     if 0 < p.size {
-        io::write_all(1, &out[..p.size]);
-        io::write_all(1, b"\n");
+        output.put(&out[..p.size]);
+        output.put(b"\n");
     }
     p.next
 }
 
 // Takes the bytes that were read: a line feed ends a line, any other byte is one more of it.
-pub fn take_all(r: Reader, line: &mut [u8], bytes: &[u8]) -> Reader
+pub fn take_all(output: &mut Output, r: Reader, line: &mut [u8], bytes: &[u8]) -> Reader
     requires line_len { length line.old ≡ input_room }
     requires size_le_input_room { r.size ≤ input_room }
     ensures { TakesAll r line.old bytes.now result line.new }
@@ -41,7 +42,7 @@ pub fn take_all(r: Reader, line: &mut [u8], bytes: &[u8]) -> Reader
         let b = bytes[i];
         i += 1;
         if b == b'\n' {
-            deck = end(deck, &line[..size]);
+            deck = end(output, deck, &line[..size]);
             size = 0;
             continue;
         }

@@ -2,6 +2,7 @@
 #![tactic(auto)]
 
 mod bytes;
+mod output;
 
 ghost use Rattle.std.specs.Prelude.{◌≡◌};
 ghost use Rattle.model.specs.Contents.{empty_contents};
@@ -10,6 +11,9 @@ ghost use Rattle.deck.specs.Form.{deck_of};
 use bytes::{Reader, end, take_all};
 use deck::Deck;
 use lines::INPUT_ROOM;
+use output::Output;
+use std::io;
+use std::io::Read;
 
 // How many bytes are read at a time.
 const CHUNK: usize = 4096;
@@ -24,22 +28,26 @@ fn start() -> Reader
     }
 }
 
-// A proved loop has to end, and nothing says that the input does: the loop counts its reads down, from a number that no input uses up.
-fn main() {
+// A proved loop has to end, and nothing says that the input does: the loop counts its reads, up to a number that no input uses up. A read or a write that
+// fails ends the program with that error.
+fn main(rt: HostRuntime) -> io::Result<()> {
+    let mut input = rt.stdin();
+    let mut output = Output::new(rt.stdout());
     let mut line = [0u8; INPUT_ROOM];
     let mut chunk = [0u8; CHUNK];
     let mut r = start();
-    let mut reads = u64::MAX;
-    while 0 < reads {
-        let got = libc::read(0, &mut chunk);
-        let n = io::count(got, &chunk);
+    for _ in 0..u64::MAX {
+        let n = input.read(&mut chunk)?;
         if n == 0 {
             break;
         }
-        r = take_all(r, &mut line, &chunk[..n]);
-        reads -= 1;
+        r = take_all(&mut output, r, &mut line, &chunk[..n]);
+        if output.has_failed() {
+            break;
+        }
     }
     if 0 < r.size {
-        end(r.deck, &line[..r.size]);
+        end(&mut output, r.deck, &line[..r.size]);
     }
+    output.finish()
 }

@@ -9,8 +9,7 @@ ghost use Rattle.display.specs.Entry.{indication_number};
 use arrow::{Indication, arrow, glyph};
 
 // Returns the arrow that a display shows for a bay on a grid of this pitch, 0 to 8, or the number of the refusal (SPEC 10.4).
-#[unsafe(no_mangle)]
-pub extern "C" fn display_arrow(x: i16, y: i16, u: i16, v: i16, pitch: i32) -> u32
+pub fn display_arrow(x: i16, y: i16, u: i16, v: i16, pitch: i32) -> u32
     ensures { result ≡ indication_number (arrow.arrow (point x y) (point u v) pitch) }
 {
     match arrow(x, y, u, v, pitch) {
@@ -20,8 +19,7 @@ pub extern "C" fn display_arrow(x: i16, y: i16, u: i16, v: i16, pitch: i32) -> u
 }
 
 // Returns the glyph of a number as its ASCII code (SPEC 10.4).
-#[unsafe(no_mangle)]
-pub extern "C" fn display_glyph(n: u32) -> u8
+pub fn display_glyph(n: u32) -> u8
     ensures { result ≡ arrow.glyph n }
 {
     glyph(n)

@@ -28,8 +28,7 @@ fn start(file: &[u8]) -> Outcome
 
 // Makes a list of calls, twelve bytes each, on the deck of a file, or on an empty deck where `file` has no bytes, and writes the deck that
 // they leave into `out` (SPEC 10.2). Returns how many bytes were written, which are 30 at least, or the number of the refusal.
-#[unsafe(no_mangle)]
-pub extern "C" fn replay_calls(file: &[u8], calls: &[u8], out: &mut [u8]) -> usize
+pub fn replay_calls(file: &[u8], calls: &[u8], out: &mut [u8]) -> usize
     ensures value { result ≡ answer_number (start_of file.now) (calls_of calls.now) out.old }
     ensures out_after { out.new ≡ answer_buffer (start_of file.now) (calls_of calls.now) out.old }
 {

@@ -28,7 +28,7 @@ fn start(name: &str, source: Stdio) -> Child {
         .stdout(Stdio::piped())
         .stderr(Stdio::piped())
         .spawn()
-        .unwrap_or_else(|_| panic!("run `rt check {name}` in the repository first"))
+        .unwrap_or_else(|_| panic!("run `make programs` in the repository first: no {name}"))
 }
 
 /// Writes an input to a program that was started. What it did not take is an error of

@@ -1,0 +1,23 @@
+// Arrows on displays for C (include/display.h): what the library `display` has, under its names in C.
+#![tactic(auto)]
+
+ghost use Rattle.std.specs.Prelude.{◌≡◌};
+ghost use Rattle.plane.specs.Point.{point};
+ghost use Rattle.arrow.specs.Arrow as arrow;
+ghost use Rattle.display.specs.Entry.{indication_number};
+
+// Returns the arrow that a display shows for a bay on a grid of this pitch, 0 to 8, or the number of the refusal (SPEC 10.4).
+#[unsafe(no_mangle)]
+pub extern "C" fn display_arrow(x: i16, y: i16, u: i16, v: i16, pitch: i32) -> u32
+    ensures { result ≡ indication_number (arrow.arrow (point x y) (point u v) pitch) }
+{
+    display::display_arrow(x, y, u, v, pitch)
+}
+
+// Returns the glyph of a number as its ASCII code (SPEC 10.4).
+#[unsafe(no_mangle)]
+pub extern "C" fn display_glyph(n: u32) -> u8
+    ensures { result ≡ arrow.glyph n }
+{
+    display::display_glyph(n)
+}
