@@ -88,6 +88,7 @@ module _ (c : Contents) (v : ValidContents c) (p : Point) (k : ℕ) (e : (step c
   before (withdraw q) h = absurd h
   before one_round h = absurd h
   before run_to_end h = absurd h
+  before (set_tail t) h = absurd h
 
   after : (a : Call) → Fits c a → Apart (add p k) a → Fits next a
   after (add q l) h f =
@@ -95,6 +96,7 @@ module _ (c : Contents) (v : ValidContents c) (p : Point) (k : ℕ) (e : (step c
   after (withdraw q) h f = h
   after one_round h f = h
   after run_to_end h f = h
+  after (set_tail t) h f = absurd h
 
   in_front : (calls : List Call) → Addable next calls → Addable c (add p k ∷ calls)
   in_front calls h =

@@ -153,7 +153,8 @@ module _ (c : Contents) (k : ℕ) (l : List ℕ) (ls : List (List ℕ)) (rest : 
   first q e = λ i. by_pin (next-counted k i) c (e i)
 
   -- What it leads to.
-  moved : (r : Packed) → pack_line (at c k) l ≡ r → Result c k (l ∷ ls) (state_after pack_line r ls) → Result c k (l ∷ ls) (state_after pack_line (at c k) (l ∷ ls))
+  moved : (r : Packed) → pack_line (at c k) l ≡ r → Result c k (l ∷ ls) (state_after pack_line r ls)
+      → Result c k (l ∷ ls) (state_after pack_line (at c k) (l ∷ ls))
   unfolding state_after
   moved r e h = subst⁻¹ (λ (s : Packed). Result c k (l ∷ ls) (state_after pack_line s ls)) e h
 

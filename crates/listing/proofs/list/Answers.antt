@@ -8,6 +8,7 @@ use Rattle.deck.proofs.Calls.{checked_sound, checked_valid}
 use Rattle.ascii.specs.Text.{fitting}
 use Rattle.ascii.proofs.Room.{front_none, front-put}
 use Rattle.listing.proofs.Text.{text-sound, text_unsound}
+use borrow.Author.Tests.{not-true, not-false}
 use Rattle.listing.proofs.list.Goals as goal
 
 pub returns-then-out-lt-LISTING_ROOM : goal.returns-then-out-lt-LISTING_ROOM
@@ -15,15 +16,16 @@ returns-then-out-lt-LISTING_ROOM c = front_none 8704 _ _ c.if-out-lt-LISTING_ROO
 
 pub returns-then-not-c : goal.returns-then-not-c
 returns-then-not-c c = front-put 8704 _ _ _ _ c.if-out-lt-LISTING_ROOM.false
-    (pasted_same (text_unsound _ (sym c.check-c.ensures.ok ∙ c.if-not-c.true)) c.refused_line.ensures)
+    (pasted_same (text_unsound _ (sym c.check-c.ensures.ok ∙ not-true _ c.if-not-c.true)) c.refused_line.ensures)
 
 pub list_working-requires : goal.list_working-requires
-list_working-requires c = record { in_order = (checked_valid _ _ c.check-c.ensures (c.if-not-c.false)).0;
-    valid_contents = (checked_valid _ _ c.check-c.ensures (c.if-not-c.false)).1 }
+list_working-requires c =
+    let done = checked_valid _ _ c.check-c.ensures (not-false _ c.if-not-c.false) in
+    record { in_order = done.0; valid_contents = done.1 }
 
 pub returns : goal.returns
 returns c = let k = c.check-c.ensures in
-    let e = c.if-not-c.false in
+    let e = not-false _ c.if-not-c.false in
     let out = c.args.out.now in
     let text = ap listing (checked_sound _ _ k e).2 ∙ text-sound _ (sym k.ok ∙ e) in
     pasted_same (ap (λ (t : List ℕ). fitting 8704 out t) text) c.list_working.ensures

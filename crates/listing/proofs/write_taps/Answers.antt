@@ -10,6 +10,9 @@ tap_lines-requires c = let p = c.requires.in_order in
     record { n_in_bounds = omega (arith, steiner_few_lem _ c.requires.valid, steiner_count_lem _ p.arranged); n_in_bounds_2 = omega (arith, s.few, s.size) }
 
 pub returns : goal.returns
-returns c = let few = steiner_few_lem _ c.requires.valid in
-    record { pasted = c.tap_lines.ensures.pasted; upper_bound = omega
-        (arith, c.tap_lines.ensures.upper_bound, few, steiner_count_lem _ c.requires.in_order.arranged) }
+returns c =
+    let few = steiner_few_lem _ c.requires.valid in
+    record {
+      pasted = c.tap_lines.ensures.pasted;
+      upper_bound = omega (arith, c.tap_lines.ensures.upper_bound, few, steiner_count_lem _ c.requires.in_order.arranged);
+    }

@@ -25,9 +25,10 @@ returns-in-Counts c = front-put 128 _ _ _ _ c.if-out-lt-LINE_ROOM.false (pasted_
 
 pub returns-in-Edge : goal.returns-in-Edge
 unfolding answer_text
-returns-in-Edge c = let v = c.in-Edge.answer4.given.0 in
+returns-in-Edge c =
+    let v = c.in-Edge in
     front-put 128 _ _ _ _ c.if-out-lt-LINE_ROOM.false (pasted_same (sym (ap answer_text c.in-Edge.is))
-    (pasted_same (read-four (λ (x y s t : ℤ). edge_text x y s t v.1.1.1.1.0) v.0 v.1.0 v.1.1.0 v.1.1.1.0
+    (pasted_same (read-four (λ (x y s t : ℤ). edge_text x y s t v.n) v.x v.y v.u v.v
     (search rules) (search rules) (search rules) (search rules))
     c.edge_line.ensures))
 

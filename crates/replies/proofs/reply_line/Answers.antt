@@ -25,9 +25,10 @@ returns-in-Finished c = front-put 128 _ _ _ _ c.if-out-lt-LINE_ROOM.false (paste
 
 pub returns-in-Tap : goal.returns-in-Tap
 unfolding reply_text
-returns-in-Tap c = let v = c.in-Tap.reply2.given.0 in
+returns-in-Tap c =
+    let v = c.in-Tap in
     front-put 128 _ _ _ _ c.if-out-lt-LINE_ROOM.false (pasted_same (sym (ap reply_text c.in-Tap.is))
-    (pasted_same (read_two (λ (x y : ℤ). fall_text x y v.1.1.0) v.0 v.1.0 (search rules) (search rules))
+    (pasted_same (read_two (λ (x y : ℤ). fall_text x y v.fall) v.x v.y (search rules) (search rules))
     c.fall_line.ensures))
 
 pub returns-in-Rounds : goal.returns-in-Rounds

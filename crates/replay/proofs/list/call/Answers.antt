@@ -5,6 +5,7 @@ use Rattle.plane.specs.Point.{Point}
 use Rattle.model.specs.Call.{add, withdraw}
 use Rattle.replay.specs.Calls.{call_of}
 use Rattle.replay.proofs.list.Calls.{one_call, point_call, no_call}
+use native.Mathlib.Omega.{arith}
 use Rattle.replay.proofs.list.call.Goals as goal
 
 pub returns-in-0 : goal.returns-in-0
@@ -32,4 +33,4 @@ unfolding call_of
 returns-in-4 c = one_call _ c.in-4.is _ _ _ refl c.set_tail-o.ensures
 
 pub returns-in-5-to-255 : goal.returns-in-5-to-255
-returns-in-5-to-255 c = let r = c.in-5-to-255.match.rest in no_call _ _ _ _ _ r.0.0.0.0.1 r.0.0.0.1 r.0.0.1 r.0.1 r.1
+returns-in-5-to-255 c = no_call _ _ _ _ _ (λ h. omega arith) (λ h. omega arith) (λ h. omega arith) (λ h. omega arith) (λ h. omega arith)
