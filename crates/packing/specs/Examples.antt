@@ -24,8 +24,8 @@ use Rattle.packing.specs.Printed.{Outputs, packed}
 -- What is printed for inputs.
 unfoldable pub printed_for : List String → List Outputs
 unfolding beside put out has all word16 lower first_failed prune_from prune insert insert_refusal step pairs_from header section_file flatten section_of
-    plain_file_of digits_from is_space split are_digits value_from number_of numbers_of arguments_of lines_from state_after is_plain with_kind of_numbers of_text
-    pin_line_of by_call by_pin pack_line pack_input packed
+    plain_file_of digits_from is_space split are_digits value_from number_of numbers_of arguments_of lines_from state_after is_plain with_kind of_numbers
+    of_text pin_line_of by_call by_pin pack_line pack_input packed
 printed_for [] = []
 printed_for (s ∷ l) = packed (bytes s) ∷ printed_for l
 

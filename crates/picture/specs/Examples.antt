@@ -13,7 +13,8 @@ use Rattle.picture.specs.Picture.{edge_text, symbol_texts, point_texts, picture_
 
 -- The picture of a file's deck after a run to the end.
 unfoldable pub picture_answer : List ℕ → List ℕ
-unfolding play filed lengths_of each stored_of text place_in head_text run_text symbol_template symbol_text foot_text edge_text symbol_texts point_texts picture_of
+unfolding play filed lengths_of each stored_of text place_in head_text run_text symbol_template symbol_text foot_text edge_text symbol_texts
+    point_texts picture_of
 picture_answer b = answer (read_file b)
   where
     answer : Read → List ℕ

@@ -4,7 +4,6 @@ use Rattle.plane.specs.Point.{Point}
 use Rattle.model.specs.Call as call
 use Rattle.plane.proofs.codes.Points.{read-located, out-located, located_is}
 use Rattle.calls.proofs.PointCalls.{refused_is, by_point, add-out}
-use borrow.Author.Rules.{rules}
 use Rattle.calls.proofs.add.Goals as goal
 
 pub add_at-requires : goal.add_at-requires

@@ -2,7 +2,6 @@
 use mathlib.Core.Path.{sym, ◌∙◌, subst}
 use Prim.Native.Nat.{ℕ, ◌≤◌, ◌<◌}
 use native.Mathlib.Omega.{arith}
-use borrow.Author.Tests.{leb-true, leb-false, ltb-true, ltb-false}
 use Rattle.rounds.proofs.Round.{point_room_lem}
 use Rattle.calls.proofs.PointCalls.{in_range_lem, refused_is, done_is, add-no_kind, add-there, add_full, add_done, pin_there_lem, pin_count_lem}
 use Rattle.calls.proofs.add_at.Goals as goal

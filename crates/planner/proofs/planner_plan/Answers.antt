@@ -1,5 +1,5 @@
 -- `planner::planner_plan` meets its contract: a refusal of the file, or its deck in working form run to the end and written.
--- (must-fail/deck_as_read.edit changes a line that names the place `run`.)
+-- (must-fail/deck_as_read.edit changes a line of it.)
 use Rattle.model.specs.Call.{contents_after}
 use Rattle.model.specs.File.{read_file}
 use Rattle.model.proofs.FileAnswer.{read_possible}

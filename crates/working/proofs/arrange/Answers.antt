@@ -9,8 +9,13 @@ pub union-npoints-requires : goal.union-npoints-requires
 union-npoints-requires c = let p = c.requires in
     let pins = p.pin_codes in
     let steiner = p.steiner_codes in
-    record { n_in_bounds = omega (arith, pins.few, pins.size); m_in_bounds = omega (arith, steiner.few, steiner.size);
-        m_in_bounds_2 = omega (arith, pins.few, p.room); a_value = pins.rise; b_value = steiner.rise }
+    record {
+      n_in_bounds = omega (arith, pins.few, pins.size);
+      m_in_bounds = omega (arith, steiner.few, steiner.size);
+      m_in_bounds_2 = omega (arith, pins.few, p.room);
+      a_value = pins.rise;
+      b_value = steiner.rise;
+    }
 
 pub unpack-requires : goal.unpack-requires
 unpack-requires c = let p = c.requires in
