@@ -39,6 +39,7 @@ pub enum Written {
 }
 
 // Reads a file. Returns its deck in working form and the reply: done, or a refusal, in the order 1 to 6 and 15, with an empty deck.
+#[inline(never)]
 pub fn read_working(file: &[u8]) -> Changed
     ensures { ReadTo (read_file file.now) result }
 {
