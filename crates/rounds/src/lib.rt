@@ -37,6 +37,7 @@ pub struct Ended {
 }
 
 // The lowest crossing of greatest saving, if one saves more than 0.
+#[inline(never)]
 fn best_of(w: Working, tail: u64) -> Best
     requires in_order { work.InOrder w }
     requires tail_le_longest_tail { tail ≤ longest_tail }
