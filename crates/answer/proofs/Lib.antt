@@ -1,4 +1,3 @@
 -- What the proofs of a line's answer use.
-pub mod Commands
 pub mod Texts
 pub mod Written

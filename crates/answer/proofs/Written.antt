@@ -13,8 +13,7 @@ use Rattle.model.proofs.FileSize.{file_size_lem}
 use Rattle.deck.specs.declared.Deck.{Deck}
 use Rattle.questions.specs.declared.Answer.TheVariants as answer
 use Rattle.deck.specs.Form.{contents_of, sound}
-use Rattle.deckfile.specs.declared.Written.{Written}
-use Rattle.deckfile.specs.declared.Written.TheVariants.{Refused, Length}
+use Rattle.std.specs.Prelude.{Result, Ok, Err}
 use Rattle.deckfile.specs.Writing.{written, buffer_after}
 use Rattle.deckfile.proofs.RoundTrip.{Wrote, wrote, wrote_file}
 use Rattle.ascii.specs.Encoding.{file_text}
@@ -26,23 +25,23 @@ module _ (d : Deck) (l : List ℕ) where
   text : Bool → Bool → List ℕ
   text a b = if a (λ _. if b (λ _. file_text (file_of (contents_of d))) (λ _. answer_text (answer.Refused 12))) (λ _. answer_text (answer.Refused 11))
 
-  written_by : Bool → Bool → Written
-  written_by a b = if a (λ _. if b (λ _. Length (length (file_of (contents_of d)))) (λ _. Refused 12)) (λ _. Refused 11)
+  written_by : Bool → Bool → Result ℕ ℕ
+  written_by a b = if a (λ _. if b (λ _. Ok (length (file_of (contents_of d)))) (λ _. Err 12)) (λ _. Err 11)
 
-  pub refused-text : (k : ℕ) → written d l ≡ Refused k → answer_text (answer.Refused k) ≡ write_text d (length l)
+  pub refused-text : (k : ℕ) → written d l ≡ Err k → answer_text (answer.Refused k) ≡ write_text d (length l)
   unfolding written write_text text written_by
   refused-text k e = go (sound d) (leb (length (file_of (contents_of d))) (length l)) e
     where
-      go : (a b : Bool) → written_by a b ≡ Refused k → answer_text (answer.Refused k) ≡ text a b
+      go : (a b : Bool) → written_by a b ≡ Err k → answer_text (answer.Refused k) ≡ text a b
       go true true q = let z : ◌≡◌ {A = ℕ} 0 1 = cc in absurd (omega arith)
       go true false q = let e : k ≡ 12 = cc in ap (λ (n : ℕ). answer_text (answer.Refused n)) e
       go false b q = let e : k ≡ 11 = cc in ap (λ (n : ℕ). answer_text (answer.Refused n)) e
 
-  pub stored-text : (n : ℕ) → written d l ≡ Length n → file_text (file_of (contents_of d)) ≡ write_text d (length l)
+  pub stored-text : (n : ℕ) → written d l ≡ Ok n → file_text (file_of (contents_of d)) ≡ write_text d (length l)
   unfolding written write_text text written_by
   stored-text n e = go (sound d) (leb (length (file_of (contents_of d))) (length l)) e
     where
-      go : (a b : Bool) → written_by a b ≡ Length n → file_text (file_of (contents_of d)) ≡ text a b
+      go : (a b : Bool) → written_by a b ≡ Ok n → file_text (file_of (contents_of d)) ≡ text a b
       go true true q = refl
       go true false q = let z : ◌≡◌ {A = ℕ} 0 1 = cc in absurd (omega arith)
       go false b q = let z : ◌≡◌ {A = ℕ} 0 1 = cc in absurd (omega arith)
@@ -54,7 +53,7 @@ part_length b m c e f =
     (h, length-take-le m b h ∙ f)
 
 -- A file was written to the part l of a buffer, which then holds L, with `rest` behind it.
-module _ (d : Deck) (l held rest : List ℕ) (r : Written) (n : ℕ) (w : r ≡ written d l) (e : held ≡ buffer_after d l) (is : r ≡ Length n) where
+module _ (d : Deck) (l held rest : List ℕ) (r : Result ℕ ℕ) (n : ℕ) (w : r ≡ written d l) (e : held ≡ buffer_after d l) (is : r ≡ Ok n) where
   done : Wrote d l n
   done = wrote d l n (sym w ∙ is)
 

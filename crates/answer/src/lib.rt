@@ -19,7 +19,6 @@ use ascii::encode::{file_line, join_lines};
 use ascii::line::error_line;
 use commands::{Change, Command, Direction, LONGEST_FILE, Query};
 use deck::{Deck, Outcome};
-use deckfile::Written;
 use directions::direction_line;
 use lines::LINE_LIMIT;
 use listing::LISTING_ROOM;
@@ -33,10 +32,12 @@ pub const ANSWER_ROOM: usize = 3 * LISTING_ROOM;
 const FILE_ROOM: usize = LINE_LIMIT / 2;
 
 // Room for the longest file.
+// Stays: `as`, since a constant calls no From.
 const LONGEST_SIZE: usize = LONGEST_FILE as usize;
 
 // The deck after a line, and how long its answer is, 0 for none.
 #[derive(Clone, Copy)]
+// Stays: 0 for no answer, and no Option, since that many bytes are printed (`Plays` holds it).
 pub struct Played {
     pub next: Deck,
     pub size: usize,
@@ -47,11 +48,9 @@ fn changed(o: Outcome, out: &mut [u8]) -> Played
     requires { answer_room ≤ length out.old }
     ensures { Plays (changes o) out.old out.new result }
 {
-    let next = o.next;
-    let reply = o.reply;
     Played {
-        next,
-        size: reply_line(reply, out),
+        next: o.next,
+        size: reply_line(o.reply, out),
     }
 }
 
@@ -88,17 +87,6 @@ fn read(line: &[u8], out: &mut [u8]) -> Played
     changed(deckfile::read(&file[..n]), out)
 }
 
-// A capacity, or that of the longest file.
-fn least(capacity: u32) -> usize
-    ensures { result ≡ min capacity longest_file }
-{
-    if capacity < LONGEST_FILE {
-        capacity as usize
-    } else {
-        LONGEST_SIZE
-    }
-}
-
 // A buffer for the longest file.
 fn buffer() -> [u8; LONGEST_SIZE]
     ensures { length result ≡ longest_file }
@@ -112,10 +100,11 @@ fn write(d: Deck, capacity: u32, out: &mut [u8]) -> Played
     ensures { Plays (stays d (write_text d (min capacity longest_file))) out.old out.new result }
 {
     let mut file = buffer();
-    let most = least(capacity);
+    // Stays: `as`, since no From takes a u32 to a usize.
+    let most = capacity.min(LONGEST_FILE) as usize;
     match deckfile::write(d, &mut file[..most]) {
-        Written::Refused(n) => answered(d, Answer::Refused(n), out),
-        Written::Length(n) => Played {
+        Err(n) => answered(d, Answer::Refused(n), out),
+        Ok(n) => Played {
             next: d,
             size: file_line(&file[..n], out),
         },
@@ -123,6 +112,7 @@ fn write(d: Deck, capacity: u32, out: &mut [u8]) -> Played
 }
 
 // Answers a question on directions.
+// Stays: one line beside its twin `answered`; a function of both would take a closure with a contract as long as this one.
 fn direct(d: Deck, q: Direction, out: &mut [u8]) -> Played
     requires { answer_room ≤ length out.old }
     ensures { Plays (stays d (direction_text q)) out.old out.new result }
@@ -147,6 +137,7 @@ fn list(d: Deck, out: &mut [u8]) -> Played
 }
 
 // Makes a call.
+#[tactic(auto, unfolding(crate::specs::Play::call_for))]
 fn call(d: Deck, c: Change, out: &mut [u8]) -> Played
     requires { answer_room ≤ length out.old }
     ensures { Plays (changes (called d (call_for c))) out.old out.new result }
@@ -161,6 +152,7 @@ fn call(d: Deck, c: Change, out: &mut [u8]) -> Played
 }
 
 // Asks a question.
+#[tactic(auto, unfolding(crate::specs::Play::question_for))]
 fn ask(d: Deck, q: Query, out: &mut [u8]) -> Played
     requires { answer_room ≤ length out.old }
     ensures { Plays (stays d (answer_text (asked d (question_for q)))) out.old out.new result }
@@ -168,6 +160,7 @@ fn ask(d: Deck, q: Query, out: &mut [u8]) -> Played
     match q {
         Query::Length => answered(d, d.length(), out),
         Query::Counts => answered(d, d.counts(), out),
+        // Stays: `as`, since no From takes a u32 to a usize.
         Query::Run(i) => answered(d, d.edge_at(i as usize), out),
         Query::Degree(x, y) => answered(d, d.degree_at(x, y), out),
         Query::Kinds => answered(d, d.kind_lengths(), out),
@@ -176,6 +169,7 @@ fn ask(d: Deck, q: Query, out: &mut [u8]) -> Played
 }
 
 // Does what a line asks for, by its command.
+#[tactic(auto, unfolding(crate::specs::Play::line_of))]
 fn obey(d: Deck, line: &[u8], c: Command, out: &mut [u8]) -> Played
     requires c_value { c ≡ command_of line.now }
     requires answer_room_in_bounds { answer_room ≤ length out.old }

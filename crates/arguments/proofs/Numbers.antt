@@ -1,20 +1,21 @@
 -- The numbers of the words of a line: word by word, as a loop goes, they are those of all words together.
 use mathlib.Core.Path.{◌≡◌, refl, sym, ap, ◌∙◌}
-use mathlib.Core.Option.{Option, none, some}
 use mathlib.Core.List.{List, [], ◌∷◌, ◌++◌, append-nil, append_assoc}
-use Prim.Native.Nat.{ℕ, ◌-◌, ◌≤◌}
-use lib.ListN.{length, take, drop, drop_of_length-le}
-use Rattle.arguments.specs.declared.Arguments.{Arguments}
-use Rattle.words.specs.Words.{split, words_of, Next}
-use Rattle.arguments.specs.declared.Arguments.TheVariants.{Zero, Invalid}
-use Rattle.numbers.specs.declared.Number.{Number}
-use Rattle.numbers.specs.declared.Number.TheVariants.{NoNumber, Is}
+use Prim.Native.Nat.{ℕ}
+use Rattle.std.proofs.Common.{Option, None, Some, ℤ}
+use Rattle.std.specs.Option.{option_and_then}
+use Rattle.words.specs.Words.{words_of, Next}
 use Rattle.numbers.specs.Numbers.{number_of}
-use Rattle.arguments.specs.Arguments.{before, numbers_of, up_to_five, if_numbers, arguments_of, appended, number_appended, with_word, arguments_from}
-use lib.IntN.{ℤ}
+use Rattle.arguments.specs.declared.Arguments.{Arguments}
+use Rattle.arguments.specs.declared.Arguments.TheVariants.{Zero}
+use Rattle.arguments.specs.Arguments.{before, numbers_of, up_to_five, if_numbers, arguments_of, appended, with_word, arguments_from}
+
+-- What is said of arguments, and then of one more number.
+abbrev and_then : Option Arguments → (Arguments → Option Arguments) → Option Arguments
+and_then o f = option_and_then f o
 
 -- One more number behind up to five.
-appended-list : (l : List ℤ) (z : ℤ) → appended (up_to_five l) z ≡ up_to_five (l ++ (z ∷ []))
+appended-list : (l : List ℤ) (z : ℤ) → and_then (up_to_five l) (λ a. appended a z) ≡ up_to_five (l ++ (z ∷ []))
 unfolding appended
 appended-list [] z = refl
 appended-list (i ∷ []) z = refl
@@ -24,57 +25,76 @@ appended-list (i ∷ j ∷ k ∷ l ∷ []) z = refl
 appended-list (i ∷ j ∷ k ∷ l ∷ m ∷ []) z = refl
 appended-list (i ∷ j ∷ k ∷ l ∷ m ∷ n ∷ more) z = refl
 
--- What is no number stays so.
-invalid-stays : (ws : List (List ℕ)) → arguments_from Invalid ws ≡ Invalid
-unfolding arguments_from with_word appended
-invalid-stays [] = refl
-invalid-stays (w ∷ ws) = ap (λ (a : Arguments). arguments_from a ws) (go (number_of w)) ∙ invalid-stays ws
-  where
-    go : (n : Number) → number_appended Invalid n ≡ Invalid
-    go NoNumber = refl
-    go (Is z) = refl
+-- Words behind arguments that may be none.
+abbrev behind : List (List ℕ) → Option Arguments → Option Arguments
+behind ws o = and_then o (λ a. arguments_from a ws)
 
 -- The numbers l, and those of further words.
-abbrev joined : List ℤ → Option (List ℤ) → Arguments
-joined l none = Invalid
-joined l (some m) = up_to_five (l ++ m)
+abbrev joined : List ℤ → Option (List ℤ) → Option Arguments
+joined l None = None
+joined l (Some m) = up_to_five (l ++ m)
 
-word_by_word : (l : List ℤ) (ws : List (List ℕ)) → arguments_from (up_to_five l) ws ≡ joined l (numbers_of ws)
+word_by_word : (l : List ℤ) (ws : List (List ℕ)) → behind ws (up_to_five l) ≡ joined l (numbers_of ws)
 unfolding arguments_from with_word numbers_of
-word_by_word l [] = ap up_to_five (sym (append-nil l))
-word_by_word l (w ∷ ws) = go (number_of w) (λ z. word_by_word (l ++ (z ∷ [])) ws)
+word_by_word l [] = all (up_to_five l) ∙ ap up_to_five (sym (append-nil l))
   where
-    moved : (z : ℤ) (o : Option (List ℤ)) → joined (l ++ (z ∷ [])) o ≡ joined l (before (Is z) o)
-    moved z none = refl
-    moved z (some m) = ap up_to_five (append_assoc l (z ∷ []) m)
+    all : (o : Option Arguments) → behind [] o ≡ o
+    all None = refl
+    all (Some a) = refl
+word_by_word l (w ∷ ws) = inner (up_to_five l) (number_of w) ∙ go (number_of w) (λ z. word_by_word (l ++ (z ∷ [])) ws)
+  where
+    -- One more number, and then the words behind.
+    one_more : Option ℤ → Option Arguments → Option Arguments
+    one_more n o = and_then o (λ a. option_and_then (appended a) n)
 
-    go : (n : Number) → ((z : ℤ) → arguments_from (up_to_five (l ++ (z ∷ []))) ws ≡ joined (l ++ (z ∷ [])) (numbers_of ws))
-        → arguments_from (number_appended (up_to_five l) n) ws ≡ joined l (before n (numbers_of ws))
-    go NoNumber next = invalid-stays ws
-    go (Is z) next = ap (λ (a : Arguments). arguments_from a ws) (appended-list l z) ∙ next z ∙ moved z (numbers_of ws)
+    inner : (o : Option Arguments) (n : Option ℤ) → and_then o (λ a. behind ws (option_and_then (appended a) n)) ≡ behind ws (one_more n o)
+    inner None n = refl
+    inner (Some a) n = refl
 
-pub arguments_are : (ws : List (List ℕ)) → arguments_from Zero ws ≡ arguments_of ws
+    none : (o : Option Arguments) → one_more None o ≡ None
+    none None = refl
+    none (Some a) = refl
+
+    some : (o : Option Arguments) (z : ℤ) → one_more (Some z) o ≡ and_then o (λ a. appended a z)
+    some None z = refl
+    some (Some a) z = refl
+
+    moved : (z : ℤ) (o : Option (List ℤ)) → joined (l ++ (z ∷ [])) o ≡ joined l (before (Some z) o)
+    moved z None = refl
+    moved z (Some m) = ap up_to_five (append_assoc l (z ∷ []) m)
+
+    go : (n : Option ℤ) → ((z : ℤ) → behind ws (up_to_five (l ++ (z ∷ []))) ≡ joined (l ++ (z ∷ [])) (numbers_of ws))
+        → behind ws (one_more n (up_to_five l)) ≡ joined l (before n (numbers_of ws))
+    go None next = ap (behind ws) (none (up_to_five l))
+    go (Some z) next = ap (behind ws) (some (up_to_five l) z ∙ appended-list l z) ∙ next z ∙ moved z (numbers_of ws)
+
+pub arguments_are : (ws : List (List ℕ)) → arguments_of ws ≡ arguments_from Zero ws
 unfolding arguments_of
-arguments_are ws = word_by_word [] ws ∙ same (numbers_of ws)
+arguments_are ws = sym (word_by_word [] ws ∙ same (numbers_of ws))
   where
     same : (o : Option (List ℤ)) → joined [] o ≡ if_numbers o
-    same none = refl
-    same (some m) = refl
+    same None = refl
+    same (Some m) = refl
 
-module _ (line : List ℕ) {all : Arguments} (a : Arguments) (at : ℕ) (inv : all ≡ arguments_from a (words_of (drop at line))) where
-  module _ (start end : ℕ) (n : Next line at start end) where
-    -- There is no word more.
-    pub numbers_none : start ≡ end → a ≡ all
-    unfolding arguments_from
-    numbers_none e = sym (inv ∙ ap (arguments_from a) (n.none e))
+-- The words of a text behind the arguments so far: no word, or one and those behind it.
+module _ (line : List ℕ) (a : Arguments) {all : Option Arguments} (inv : all ≡ arguments_from a (words_of line)) where
+  pub numbers_end : words_of line ≡ [] → Some a ≡ all
+  unfolding arguments_from
+  numbers_end e = sym (inv ∙ ap (arguments_from a) e)
 
-    -- There is one more.
-    pub numbers_more : ¬ (start ≡ end) → (b : Arguments) → b ≡ with_word a (take (end - start) (drop start line))
-        → all ≡ arguments_from b (words_of (drop end line))
-    unfolding arguments_from
-    numbers_more s b e = inv ∙ ap (arguments_from a) (n.some s) ∙ ap (λ (c : Arguments). arguments_from c (words_of (drop end line))) (sym e)
+  module _ {word rest : List ℕ} (n : Next line word rest) where
+    pub numbers_none : None ≡ number_of word → None ≡ all
+    unfolding arguments_from with_word
+    numbers_none e = sym (inv ∙ ap (arguments_from a) n.words ∙ ap (λ (o : Option ℤ). behind (words_of rest) (option_and_then (appended a) o)) (sym e))
 
-  -- The end of the line.
-  pub numbers_end : length line ≤ at → a ≡ all
-  unfolding arguments_from split
-  numbers_end h = sym (inv ∙ ap (λ (l : List ℕ). arguments_from a (words_of l)) (drop_of_length-le line h))
+    pub numbers_full : (z : ℤ) → Some z ≡ number_of word → None ≡ appended a z → None ≡ all
+    unfolding arguments_from with_word
+    numbers_full z e f =
+        sym (inv ∙ ap (arguments_from a) n.words ∙ ap (λ (o : Option ℤ). behind (words_of rest) (option_and_then (appended a) o)) (sym e)
+        ∙ ap (behind (words_of rest)) (sym f))
+
+    pub numbers_more : (z : ℤ) → Some z ≡ number_of word → (b : Arguments) → Some b ≡ appended a z → all ≡ arguments_from b (words_of rest)
+    unfolding arguments_from with_word
+    numbers_more z e b f =
+        inv ∙ ap (arguments_from a) n.words ∙ ap (λ (o : Option ℤ). behind (words_of rest) (option_and_then (appended a) o)) (sym e)
+        ∙ ap (behind (words_of rest)) (sym f)

@@ -1,14 +1,14 @@
-// The numbers of a line behind a place, up to five: the arguments of a call.
+// The numbers of the words of a text, up to five: the arguments of a call.
 #![tactic(auto)]
 
-ghost use Rattle.std.specs.Prelude.{◌≡◌, drop};
+ghost use Rattle.std.specs.Prelude.{◌≡◌};
 ghost use Rattle.words.specs.Words.{words_of};
-ghost use Rattle.arguments.specs.Arguments.{appended, with_word, arguments_of};
+ghost use Rattle.arguments.specs.Arguments.{appended, arguments_of};
 
-use numbers::{Number, number_of};
+use numbers::number_of;
 use words::next;
 
-// The numbers that words stand for, none to five of them; or others: a word that stands for no number, or a sixth word.
+// The numbers that words stand for, none to five of them.
 #[derive(Clone, Copy)]
 pub enum Arguments {
     Zero,
@@ -17,49 +17,32 @@ pub enum Arguments {
     Three(i32, i32, i32),
     Four(i32, i32, i32, i32),
     Five(i32, i32, i32, i32, i32),
-    Invalid,
 }
 
-// One more number.
-fn append(a: Arguments, z: i32) -> Arguments
+// One more number, if there are fewer than five.
+#[tactic(auto, unfolding(crate::specs::Arguments::appended))]
+fn append(a: Arguments, z: i32) -> Option<Arguments>
     ensures { result ≡ appended a z }
 {
     match a {
-        Arguments::Zero => Arguments::One(z),
-        Arguments::One(i) => Arguments::Two(i, z),
-        Arguments::Two(i, j) => Arguments::Three(i, j, z),
-        Arguments::Three(i, j, k) => Arguments::Four(i, j, k, z),
-        Arguments::Four(i, j, k, l) => Arguments::Five(i, j, k, l, z),
-        Arguments::Five(i, j, k, l, m) => Arguments::Invalid,
-        Arguments::Invalid => Arguments::Invalid,
+        Arguments::Zero => Some(Arguments::One(z)),
+        Arguments::One(i) => Some(Arguments::Two(i, z)),
+        Arguments::Two(i, j) => Some(Arguments::Three(i, j, z)),
+        Arguments::Three(i, j, k) => Some(Arguments::Four(i, j, k, z)),
+        Arguments::Four(i, j, k, l) => Some(Arguments::Five(i, j, k, l, z)),
+        Arguments::Five(..) => None,
     }
 }
 
-// One more word.
-fn with_word(a: Arguments, word: &[u8]) -> Arguments
-    ensures { result ≡ with_word a word.now }
+// Returns the numbers of the words of a text, if each word stands for a number and there are five words at most.
+pub fn arguments_of(words: &[u8]) -> Option<Arguments>
+    ensures { result ≡ arguments_of (words_of words.now) }
 {
-    match number_of(word) {
-        Number::NoNumber => Arguments::Invalid,
-        Number::Is(z) => append(a, z),
+    let mut numbers = Arguments::Zero;
+    let mut rest = words;
+    while let Some((word, behind)) = next(rest) {
+        numbers = append(numbers, number_of(word)?)?;
+        rest = behind;
     }
-}
-
-// Returns the numbers of the words from `from` on, none where the line ends before it.
-pub fn arguments_of(line: &[u8], from: usize) -> Arguments
-    ensures { result ≡ arguments_of (words_of (drop from line.now)) }
-{
-    let mut a = Arguments::Zero;
-    let mut at = from;
-    while at < line.len() {
-        let w = next(line, at);
-        let start = w.start;
-        let end = w.end;
-        if start == end {
-            return a;
-        }
-        a = with_word(a, &line[start..end]);
-        at = end;
-    }
-    a
+    Some(numbers)
 }

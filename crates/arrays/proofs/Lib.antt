@@ -1,3 +1,4 @@
+pub mod Alike
 pub mod Beside
 pub mod Members
 pub mod Order

@@ -1,4 +1,3 @@
 -- Laws of items put over a part of an array.
-pub mod Copy
 pub mod Lines
 pub mod Parts

@@ -4,7 +4,7 @@ use Rattle.std.proofs.Math.Seq.{paste}
 
 -- The items stand in an array from place `at` on, the rest is as it was, and r is the place behind them. The array was `before` and
 -- is `after`.
-pub record Pasted (items before after : List ℕ) (at r : ℕ) : Type 0 where
+pub record Pasted {A : Type 0} (items before after : List A) (at r : ℕ) : Type 0 where
   pub next : r ≡ at + length items
   pub is : after ≡ paste before at items (length items)
 

@@ -1,9 +1,7 @@
 -- Lists compared.
-use Rattle.std.specs.Prelude.{Bool, true, false, ◌&&◌, List, [], ◌∷◌, ℕ, eqb}
+use Rattle.std.specs.Prelude.{Bool, List, ℕ, nat_eq}
+use lib.Pointwise.{pointwise}
 
--- Whether two lists are the same.
-unfoldable pub same_list : List ℕ → List ℕ → Bool
-same_list [] [] = true
-same_list [] (b ∷ m) = false
-same_list (a ∷ l) [] = false
-same_list (a ∷ l) (b ∷ m) = eqb a b && same_list l m
+-- Whether two lists are the same: what `==` says of two slices of numbers.
+abbrev pub same_list : List ℕ → List ℕ → Bool
+same_list l m = pointwise nat_eq l m

@@ -11,28 +11,12 @@ pub fn put_byte(out: &mut [u8], at: usize, b: u8) -> usize
     at + 1
 }
 
-// Puts the bytes of another slice from place `at` on. Returns the place behind them.
-pub fn put_bytes(out: &mut [u8], at: usize, items: &[u8]) -> usize
+// Puts the items of another slice from place `at` on. Returns the place behind them.
+pub fn put_items<T: Copy>(out: &mut [T], at: usize, items: &[T]) -> usize
     requires { at + length items.now ≤ length out.old }
     ensures { Pasted items.now out.old out.new at result }
 {
-    let mut i = 0;
-    while i < items.len() {
-        out[at + i] = items[i];
-        i += 1;
-    }
-    at + i
-}
-
-// Puts the numbers of another slice from place `at` on. Returns the place behind them.
-pub fn put_numbers(out: &mut [u64], at: usize, items: &[u64]) -> usize
-    requires { at + length items.now ≤ length out.old }
-    ensures { Pasted items.now out.old out.new at result }
-{
-    let mut i = 0;
-    while i < items.len() {
-        out[at + i] = items[i];
-        i += 1;
-    }
-    at + i
+    let end = at + items.len();
+    out[at..end].copy_from_slice(items);
+    end
 }

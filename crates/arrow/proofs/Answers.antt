@@ -10,18 +10,18 @@ use mir.ValLaws.{to_z-of_z}
 use Rattle.arrays.proofs.Signed.{read, short}
 use Rattle.plane.specs.Point.{Point, point}
 use Rattle.model.specs.Refusal.{first_failed}
-use Rattle.arrow.specs.declared.Indication.TheVariants as indication
+use Rattle.std.proofs.Common.{Result, Ok, Err}
 use Rattle.table.specs.Table.{in_table, entry}
 use Rattle.arrow.specs.Arrow.{is_pitch, pitches, arrow_checks, arrow}
 
 -- An arrow is no refusal, and each has one number.
-pub same_arrow : {i j : ℕ} → indication.Arrow i ≡ indication.Arrow j → i ≡ j
+pub same_arrow : {i j : ℕ} → ◌≡◌ {A = Result ℕ ℕ} (Ok i) (Ok j) → i ≡ j
 same_arrow e = cc
 
-pub same_refusal : {i j : ℕ} → indication.Refused i ≡ indication.Refused j → i ≡ j
+pub same_refusal : {i j : ℕ} → ◌≡◌ {A = Result ℕ ℕ} (Err i) (Err j) → i ≡ j
 same_refusal e = cc
 
-pub arrow_no_refusal : {i j : ℕ} → indication.Arrow i ≡ indication.Refused j → ⊥
+pub arrow_no_refusal : {i j : ℕ} → ◌≡◌ {A = Result ℕ ℕ} (Ok i) (Err j) → ⊥
 arrow_no_refusal e = let z : ◌≡◌ {A = ℕ} 0 1 = cc in omega arith
 
 -- The pitches in x and in y from one point to another.
@@ -32,16 +32,16 @@ abbrev pub y-pitches : Point → Point → ℤ → ℤ
 y-pitches display bay p = pitches display.y bay.y p
 
 module _ (display bay : Point) (p : ℤ) where
-  pub bad_pitch_lem : is_pitch p ≡ false → indication.Refused 13 ≡ arrow display bay p
+  pub bad_pitch_lem : is_pitch p ≡ false → Err 13 ≡ arrow display bay p
   unfolding first_failed arrow_checks arrow
   bad_pitch_lem e = rw e refl
 
-  pub far : is_pitch p ≡ true → in_table (x-pitches display bay p) && in_table (y-pitches display bay p) ≡ false → indication.Refused 14 ≡ arrow display bay p
+  pub far : is_pitch p ≡ true → in_table (x-pitches display bay p) && in_table (y-pitches display bay p) ≡ false → Err 14 ≡ arrow display bay p
   unfolding first_failed arrow_checks arrow
   far e f = rw (e, f) refl
 
   pub near : is_pitch p ≡ true → in_table (x-pitches display bay p) && in_table (y-pitches display bay p) ≡ true
-      → indication.Arrow (entry (x-pitches display bay p) (y-pitches display bay p)) ≡ arrow display bay p
+      → Ok (entry (x-pitches display bay p) (y-pitches display bay p)) ≡ arrow display bay p
   unfolding first_failed arrow_checks arrow
   near e f = rw (e, f) refl
 

@@ -20,8 +20,7 @@ use Rattle.plane.proofs.Whole.{sub_value, abs_value, whole_ext}
 use Rattle.octants.proofs.OneOctant.{octant_is, one_octant}
 use Rattle.octants.proofs.Between.{octant-most, octant_none}
 use Rattle.plane.proofs.Stored.{moved}
-use Rattle.arrow.specs.declared.Indication.{Indication}
-use Rattle.arrow.specs.declared.Indication.TheVariants as indication
+use Rattle.std.proofs.Common.{Result, Ok, Err}
 use Rattle.table.specs.Table.{table_limit, in_table, difference_at, entry_at, arrow_table, offset, entry}
 use Rattle.arrow.specs.Arrow.{is_pitch, arrow_checks, unless, arrow, glyphs, glyph}
 use Rattle.arrow.specs.Claim.{TableOfOctants, TowardZero, ArrowFor, Arrows}
@@ -67,10 +66,10 @@ module _ (display bay : Point) (p : ℤ) where
   abbrev inside : Bool
   inside = in_table (x-pitches display bay p) && in_table (y-pitches display bay p)
 
-  data Seen : Indication → Type 0 where
-    bad_pitch : is_pitch p ≡ false → Seen (indication.Refused 13)
-    too_far : is_pitch p ≡ true → inside ≡ false → Seen (indication.Refused 14)
-    in_the_table : is_pitch p ≡ true → inside ≡ true → Seen (indication.Arrow (entry (x-pitches display bay p) (y-pitches display bay p)))
+  data Seen : Result ℕ ℕ → Type 0 where
+    bad_pitch : is_pitch p ≡ false → Seen (Err 13)
+    too_far : is_pitch p ≡ true → inside ≡ false → Seen (Err 14)
+    in_the_table : is_pitch p ≡ true → inside ≡ true → Seen (Ok (entry (x-pitches display bay p) (y-pitches display bay p)))
 
   seen : Seen (arrow display bay p)
   seen = go (is_pitch p) refl inside refl
@@ -80,13 +79,13 @@ module _ (display bay : Point) (p : ℤ) where
       go true e false f = subst Seen (far display bay p e f) (too_far e f)
       go true e true f = subst Seen (near display bay p e f) (in_the_table e f)
 
-  pub bad_pitch_only : (arrow display bay p ≡ indication.Refused 13) ↔ ¬ (T (le_z (pos 1) p) × T (le_z p (pos 1000)))
+  pub bad_pitch_only : (arrow display bay p ≡ Err 13) ↔ ¬ (T (le_z (pos 1) p) × T (le_z p (pos 1000)))
   bad_pitch_only = (
     λ e h. no_both (from (arrow display bay p) seen e) (and_both (le_z (pos 1) p) (le_z p (pos 1000)) h.0 h.1),
     λ n. sym (bad_pitch_lem display bay p (false_of (is_pitch p) (λ t. n (and_parts (le_z (pos 1) p) (le_z p (pos 1000)) t)))),
   )
     where
-      from : (a : Indication) → Seen a → a ≡ indication.Refused 13 → is_pitch p ≡ false
+      from : (a : Result ℕ ℕ) → Seen a → a ≡ Err 13 → is_pitch p ≡ false
       from a (bad_pitch e) q = e
       from a (too_far e f) q = let z : ◌≡◌ {A = ℕ} 14 13 = cc in absurd (omega arith)
       from a (in_the_table e f) q = let z : ◌≡◌ {A = ℕ} 0 1 = cc in absurd (omega arith)
@@ -94,34 +93,34 @@ module _ (display bay : Point) (p : ℤ) where
       no_both : {b : Bool} → b ≡ false → T b → ⊥
       no_both e t = subst T e t
 
-  pub other_numbers : (n : ℕ) → arrow display bay p ≡ indication.Refused n → (n ≡ 13) ⊎ (n ≡ 14)
+  pub other_numbers : (n : ℕ) → arrow display bay p ≡ Err n → (n ≡ 13) ⊎ (n ≡ 14)
   other_numbers n = from (arrow display bay p) seen
     where
-      from : (a : Indication) → Seen a → a ≡ indication.Refused n → (n ≡ 13) ⊎ (n ≡ 14)
+      from : (a : Result ℕ ℕ) → Seen a → a ≡ Err n → (n ≡ 13) ⊎ (n ≡ 14)
       from a (bad_pitch e) q = let z : 13 ≡ n = cc in inl (sym z)
       from a (too_far e f) q = let z : 14 ≡ n = cc in inr (sym z)
       from a (in_the_table e f) q = let z : ◌≡◌ {A = ℕ} 0 1 = cc in absurd (omega arith)
 
   -- Each number exactly if its test is the first that fails.
-  pub arrow-refused : (n : ℕ) → (arrow display bay p ≡ indication.Refused n) ↔ FirstFailed n (arrow_checks display bay p)
+  pub arrow-refused : (n : ℕ) → (arrow display bay p ≡ Err n) ↔ FirstFailed n (arrow_checks display bay p)
   unfolding arrow
   arrow-refused n =
       let f = first_failed_lem n (arrow_checks display bay p) in
       let u = by_number (first_failed (arrow_checks display bay p)) (entry (x-pitches display bay p) (y-pitches display bay p)) in
       (λ e. f.0 (u.0 e), λ r. u.1 (f.1 r))
     where
-      by_number : (o : Option ℕ) (k : ℕ) → (unless o k ≡ indication.Refused n) ↔ (o ≡ some n)
+      by_number : (o : Option ℕ) (k : ℕ) → (unless o k ≡ Err n) ↔ (o ≡ some n)
       by_number none k =
           (λ e. let z : ◌≡◌ {A = ℕ} 0 1 = cc in absurd (omega arith), λ e. let z : ◌≡◌ {A = ℕ} 0 1 = cc in absurd (omega arith))
       by_number (some m) k = (λ e. cc, λ e. cc)
 
   -- An arrow is 8 at most.
-  pub arrow-answered : ((k : ℕ) × (k ≤ 8) × (arrow display bay p ≡ indication.Arrow k))
-      ⊎ ((n : ℕ) × ((n ≡ 13) ⊎ (n ≡ 14)) × (arrow display bay p ≡ indication.Refused n))
+  pub arrow-answered : ((k : ℕ) × (k ≤ 8) × (arrow display bay p ≡ Ok k))
+      ⊎ ((n : ℕ) × ((n ≡ 13) ⊎ (n ≡ 14)) × (arrow display bay p ≡ Err n))
   arrow-answered = from (arrow display bay p) seen refl
     where
-      from : (a : Indication) → Seen a → arrow display bay p ≡ a
-          → ((k : ℕ) × (k ≤ 8) × (arrow display bay p ≡ indication.Arrow k)) ⊎ ((n : ℕ) × ((n ≡ 13) ⊎ (n ≡ 14)) × (arrow display bay p ≡ indication.Refused n))
+      from : (a : Result ℕ ℕ) → Seen a → arrow display bay p ≡ a
+          → ((k : ℕ) × (k ≤ 8) × (arrow display bay p ≡ Ok k)) ⊎ ((n : ℕ) × ((n ≡ 13) ⊎ (n ≡ 14)) × (arrow display bay p ≡ Err n))
       from a (bad_pitch e) q = inr (13, inl refl, q)
       from a (too_far e f) q = inr (14, inr refl, q)
       from a (in_the_table t f) q =
@@ -136,7 +135,7 @@ module _ (display bay : Point) (n : ℕ) (h : 1 ≤ n) (k : n ≤ 1000) (qx qy :
   pitch : is_pitch (pos n) ≡ true
   pitch = true_of (is_pitch (pos n)) (and_both (le_z (pos 1) (pos n)) (le_z (pos n) (pos 1000)) (le→leb 1 n h) (le→leb n 1000 k))
 
-  within : nat_abs qx ≤ 15 → nat_abs qy ≤ 15 → arrow display bay (pos n) ≡ indication.Arrow (octant qx qy)
+  within : nat_abs qx ≤ 15 → nat_abs qy ≤ 15 → arrow display bay (pos n) ≡ Ok (octant qx qy)
   within a b =
       let s = le→leb (nat_abs qx) 15 a in
       let t = le→leb (nat_abs qy) 15 b in
@@ -144,9 +143,9 @@ module _ (display bay : Point) (n : ℕ) (h : 1 ≤ n) (k : n ≤ 1000) (qx qy :
       ap₂ (λ u v. in_table u && in_table v) (sym (only_quotient _ n qx x)) (sym (only_quotient _ n qy y))
       ∙ true_of (in_table qx && in_table qy) (and_both (in_table qx) (in_table qy) s t) in
       sym (near display bay (pos n) pitch both)
-      ∙ ap indication.Arrow (ap₂ entry (sym (only_quotient _ n qx x)) (sym (only_quotient _ n qy y)) ∙ entry-octant qx qy s t)
+      ∙ ap Ok (ap₂ entry (sym (only_quotient _ n qx x)) (sym (only_quotient _ n qy y)) ∙ entry-octant qx qy s t)
 
-  beyond : ¬ ((nat_abs qx ≤ 15) × (nat_abs qy ≤ 15)) → arrow display bay (pos n) ≡ indication.Refused 14
+  beyond : ¬ ((nat_abs qx ≤ 15) × (nat_abs qy ≤ 15)) → arrow display bay (pos n) ≡ Err 14
   beyond m =
       sym (far display bay (pos n) pitch
       (ap₂ (λ u v. in_table u && in_table v) (sym (only_quotient _ n qx x)) (sym (only_quotient _ n qy y))
@@ -157,10 +156,10 @@ module _ (display bay : Point) (n : ℕ) (h : 1 ≤ n) (k : n ≤ 1000) (qx qy :
   arrow_for_lem =
       record {
         too_far = (λ e s. arrow_no_refusal (sym (within s.0 s.1) ∙ e), beyond);
-        here = λ z. within (small z.0) (small z.1) ∙ ap indication.Arrow (ap₂ octant z.0 z.1 ∙ no_difference);
+        here = λ z. within (small z.0) (small z.1) ∙ ap Ok (ap₂ octant z.0 z.1 ∙ no_difference);
         points = λ a b z j. (
           λ e. subst (λ (m : ℕ). T (in_octant m qx qy)) (same_arrow (sym (within a b) ∙ e)) (one_octant qx qy z).1,
-          λ t. within a b ∙ ap indication.Arrow (octant_is j qx qy t),
+          λ t. within a b ∙ ap Ok (octant_is j qx qy t),
         );
       }
     where

@@ -5,8 +5,7 @@ use Rattle.std.specs.Int.Signed.{le_z, quot_z}
 use Rattle.arrays.specs.Text.{bytes, byte}
 use Rattle.plane.specs.Point.{Point}
 use Rattle.model.specs.Refusal.{Check, check, first_failed}
-use Rattle.arrow.specs.declared.Indication.{Indication}
-use Rattle.arrow.specs.declared.Indication.TheVariants as indication
+use Rattle.std.specs.Prelude.{Result, Ok, Err}
 use Rattle.table.specs.Table.{in_table, entry}
 
 -- A pitch that is taken: 1 to 1,000.
@@ -24,12 +23,12 @@ arrow_checks display bay pitch =
     ∷ check 14 (λ _. in_table (pitches display.x bay.x pitch) && in_table (pitches display.y bay.y pitch)) ∷ []
 
 -- The number of a refusal; else an arrow.
-abbrev pub unless : Option ℕ → ℕ → Indication
-unless none k = indication.Arrow k
-unless (some n) k = indication.Refused n
+abbrev pub unless : Option ℕ → ℕ → Result ℕ ℕ
+unless none k = Ok k
+unless (some n) k = Err n
 
 -- The arrow (SPEC 3.4): the entry of the table for the pitches in x and in y.
-unfoldable pub arrow : Point → Point → ℤ → Indication
+unfoldable pub arrow : Point → Point → ℤ → Result ℕ ℕ
 arrow display bay pitch =
     unless (first_failed (arrow_checks display bay pitch))
     (entry (pitches display.x bay.x pitch) (pitches display.y bay.y pitch))

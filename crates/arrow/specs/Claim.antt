@@ -6,7 +6,7 @@ use Rattle.std.specs.Int.Signed.{le_z}
 use Rattle.arrays.specs.Text.{byte}
 use Rattle.plane.specs.Point.{Point}
 use Rattle.octants.specs.Octant.{in_octant, octant}
-use Rattle.arrow.specs.declared.Indication.TheVariants as indication
+use Rattle.std.specs.Prelude.{Ok, Err}
 use Rattle.table.specs.Table.{arrow_table}
 use Rattle.arrow.specs.Arrow.{arrow, glyph}
 
@@ -31,17 +31,17 @@ pub record TowardZero (d : ℤ) (n : ℕ) (q : ℤ) : Type 0 where
 -- The arrow where the pitch is taken and the quotients are qx and qy (SPEC 3.4): refused by 14 exactly if one of them is more than 15 without
 -- its sign; else 8 for no difference, and for any other the octant that the difference is in.
 pub record ArrowFor (display bay : Point) (pitch qx qy : ℤ) : Type 0 where
-  pub too_far : (arrow display bay pitch ≡ indication.Refused 14) ↔ ¬ ((nat_abs qx ≤ 15) × (nat_abs qy ≤ 15))
-  pub here : NoDifference qx qy → arrow display bay pitch ≡ indication.Arrow 8
-  pub points : nat_abs qx ≤ 15 → nat_abs qy ≤ 15 → ¬ NoDifference qx qy → (k : ℕ) → (arrow display bay pitch ≡ indication.Arrow k) ↔ T (in_octant k qx qy)
+  pub too_far : (arrow display bay pitch ≡ Err 14) ↔ ¬ ((nat_abs qx ≤ 15) × (nat_abs qy ≤ 15))
+  pub here : NoDifference qx qy → arrow display bay pitch ≡ Ok 8
+  pub points : nat_abs qx ≤ 15 → nat_abs qy ≤ 15 → ¬ NoDifference qx qy → (k : ℕ) → (arrow display bay pitch ≡ Ok k) ↔ T (in_octant k qx qy)
 
 -- All of it, for all whole numbers.
 pub record Arrows : Type 0 where
   pub table : TableOfOctants
   -- a refusal has the number 13 or 14: 13 exactly if the pitch is not from 1 to 1,000
   pub bad_pitch : (display bay : Point) (pitch : ℤ)
-      → (arrow display bay pitch ≡ indication.Refused 13) ↔ ¬ (T (le_z (pos 1) pitch) × T (le_z pitch (pos 1000)))
-  pub others : (display bay : Point) (pitch : ℤ) (n : ℕ) → arrow display bay pitch ≡ indication.Refused n → (n ≡ 13) ⊎ (n ≡ 14)
+      → (arrow display bay pitch ≡ Err 13) ↔ ¬ (T (le_z (pos 1) pitch) × T (le_z pitch (pos 1000)))
+  pub others : (display bay : Point) (pitch : ℤ) (n : ℕ) → arrow display bay pitch ≡ Err n → (n ≡ 13) ⊎ (n ≡ 14)
   -- there is one quotient toward zero, and no other, and the arrow is that of the two quotients
   pub quotient : (d : ℤ) (n : ℕ) → 1 ≤ n → (q : ℤ) × TowardZero d n q × ((r : ℤ) → TowardZero d n r → r ≡ q)
   pub arrow_for : (display bay : Point) (n : ℕ) → 1 ≤ n → n ≤ 1000 → (qx qy : ℤ)

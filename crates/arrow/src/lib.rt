@@ -7,28 +7,17 @@ ghost use Rattle.plane.specs.Point.{point};
 ghost use Rattle.table.specs.Table as table;
 ghost use Rattle.arrow.specs.Arrow as arrow;
 
+use refusals::Refusal;
 use table::{LIMIT, LOWEST, ROW, constant};
 
 // The largest pitch; the smallest is 1.
 const PITCH_LIMIT: i32 = 1000;
 
-// The numbers of the refusals (SPEC 8.5): of a pitch, and of a bay too far away.
-const BAD_PITCH: u8 = 13;
-
-const TOO_FAR: u8 = 14;
-
-// What a display indicates for a bay: the number of a refusal, or that of an arrow, 0 to 8.
-#[derive(Clone, Copy)]
-pub enum Indication {
-    Refused(u8),
-    Arrow(u8),
-}
-
 // Whether a pitch is taken.
 fn is_pitch(pitch: i32) -> bool
     ensures { result ≡ arrow.is_pitch pitch }
 {
-    (1 <= pitch) & (pitch <= PITCH_LIMIT)
+    matches!(pitch, 1..=PITCH_LIMIT)
 }
 
 // How many whole pitches it is from one coordinate to another, toward zero.
@@ -36,14 +25,14 @@ fn pitches(from: i16, to: i16, pitch: i32) -> i32
     requires { T (arrow.is_pitch pitch) }
     ensures { result ≡ arrow.pitches from to pitch }
 {
-    (to as i32 - from as i32) / pitch
+    (i32::from(to) - i32::from(from)) / pitch
 }
 
 // Whether the table has a difference.
 fn is_in_table(d: i32) -> bool
     ensures { result ≡ table.in_table d }
 {
-    (LOWEST <= d) & (d <= LIMIT)
+    matches!(d, LOWEST..=LIMIT)
 }
 
 // Where a difference stands in its row, and its row in the table: −15 is the first.
@@ -52,6 +41,7 @@ fn offset(d: i32) -> usize
     ensures value { result ≡ table.offset d }
     ensures upper_bound { result < table.row_length }
 {
+    // Stays: `as`, since the number fits, as is proved; try_from would hand out an error that never comes.
     (d + LIMIT) as usize
 }
 
@@ -65,23 +55,25 @@ fn entry(dx: i32, dy: i32) -> u8
     table[ROW * offset(dy) + offset(dx)]
 }
 
-// Returns the arrow that a display at x, y shows for a bay at u, v on a grid of this pitch (SPEC 3.4), or the number of a refusal (SPEC 8.5).
-pub fn arrow(x: i16, y: i16, u: i16, v: i16, pitch: i32) -> Indication
+// Returns the arrow, 0 to 8, that a display at x, y shows for a bay at u, v on a grid of this pitch (SPEC 3.4), or the number of a refusal (SPEC 8.5).
+pub fn arrow(x: i16, y: i16, u: i16, v: i16, pitch: i32) -> Result<u8, u8>
     ensures { result ≡ arrow.arrow (point x y) (point u v) pitch }
 {
     if !is_pitch(pitch) {
-        return Indication::Refused(BAD_PITCH);
+        return Err(u8::from(Refusal::BadPitch));
     }
     let dx = pitches(x, u, pitch);
     let dy = pitches(y, v, pitch);
-    let near = is_in_table(dx) & is_in_table(dy);
-    if !near {
-        return Indication::Refused(TOO_FAR);
+    if is_in_table(dx) && is_in_table(dy) {
+        Ok(entry(dx, dy))
+    } else {
+        Err(u8::from(Refusal::TooFar))
     }
-    Indication::Arrow(entry(dx, dy))
 }
 
 // Returns the glyph of a number (SPEC 3.5), as its ASCII code.
+// Stays: a match on the number, since the entry for C asks for the glyph of any number (`glyph`).
+#[tactic(auto, unfolding(crate::specs::Arrow::glyph))]
 pub fn glyph(n: u32) -> u8
     ensures { result ≡ arrow.glyph n }
 {
@@ -95,6 +87,6 @@ pub fn glyph(n: u32) -> u8
         6 => b's',
         7 => b'e',
         8 => b'.',
-        9..=4294967295 => b'?',
+        _ => b'?',
     }
 }

@@ -22,7 +22,7 @@ fn number_line(out: &mut [u8], at: usize, n: u8) -> usize
     ensures pasted { Pasted (number_line n) out.old out.new at result }
     ensures upper_bound { result ≤ at + line_room }
 {
-    let next = decimal(out, at, n as u64);
+    let next = decimal(out, at, u64::from(n));
     put_byte(out, next, b'\n')
 }
 
@@ -32,10 +32,8 @@ fn number_lines(numbers: &[u8], out: &mut [u8]) -> usize
     ensures { Pasted (each number_line numbers.now) out.old out.new 0 result }
 {
     let mut next = 0;
-    let mut i = 0;
-    while i < numbers.len() {
-        next = number_line(out, next, numbers[i]);
-        i += 1;
+    for &n in numbers {
+        next = number_line(out, next, n);
     }
     next
 }

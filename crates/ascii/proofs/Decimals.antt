@@ -5,14 +5,12 @@ use mathlib.Core.List.{List, [], ◌∷◌}
 use Prim.Native.Nat.{ℕ, zero, suc, ◌+◌, ◌-◌, ◌*◌, ◌/◌, ◌%◌, ◌≤◌, ◌<◌}
 use native.Mathlib.Omega.{arith}
 use lib.Dec.{ltb, nltb→le}
-use lib.ListN.{length, take, drop, set, length-set, length-drop, drop_of_length-le}
-use lib.Seq.{take_all, drop-cons, drop-set-lt, get_or-set_same}
+use lib.ListN.{length, drop, set, length-set}
+use lib.Seq.{drop-cons, drop-set-lt, get_or-set_same}
 use borrow.Author.Tests.{lt-ltb, le-ltb}
 use Rattle.arrays.specs.Test.{if}
 use Rattle.arrays.proofs.Test.{by_test}
 use Rattle.model.specs.Listing.{digits_from, decimal}
-use Rattle.arrays.specs.Paste.{Pasted}
-use Rattle.arrays.proofs.paste.Parts.{pasted_same}
 
 -- The last digit, and those in front of it where there are more.
 module _ (k n : ℕ) (t : List ℕ) where
@@ -34,10 +32,6 @@ pub record Filled (n : ℕ) (l : List ℕ) (rest i : ℕ) : Type 0 where
   pub within : i ≤ 20
   pub all : digits_from i rest (drop i l) ≡ decimal n
 
-pub filled_none : (n : ℕ) (l : List ℕ) → length l ≡ 20 → Filled n l n 20
-filled_none n l e =
-    record { size = e; within = omega arith; all = ap (digits_from 20 n) (drop_of_length-le l {i = 20} (omega arith)) }
-
 module _ (n : ℕ) (l : List ℕ) (rest i : ℕ) (f : Filled n l rest i) (some : 0 < i) where
   abbrev with_digit : List ℕ
   with_digit = set l (i - 1) (48 + rest % 10)
@@ -57,9 +51,6 @@ module _ (n : ℕ) (l : List ℕ) (rest i : ℕ) (f : Filled n l rest i) (some :
   pub filled_end : rest < 10 → drop (i - 1) with_digit ≡ decimal n
   filled_end h = written ∙ sym (digits_one (i - 1) rest (drop i l) h) ∙ left
 
-  pub filled-size : (l₀ : List ℕ) → length l₀ ≡ 20 → length with_digit ≡ length l₀
-  filled-size l₀ e = length-set l (i - 1) (48 + rest % 10) ∙ f.size ∙ sym e
-
   pub filled_more : 10 ≤ rest → Filled n with_digit (rest / 10) (i - 1)
   filled_more h =
       record {
@@ -69,10 +60,10 @@ module _ (n : ℕ) (l : List ℕ) (rest i : ℕ) (f : Filled n l rest i) (some :
       }
 
 -- No place is left.
-pub filled_full : (n : ℕ) (l : List ℕ) (rest i : ℕ) → Filled n l rest i → i ≤ 0 → drop i l ≡ decimal n
+pub filled_full : (n : ℕ) (l : List ℕ) (rest i : ℕ) → Filled n l rest i → i ≤ 0 → l ≡ decimal n
 filled_full n l rest i f h =
     let e : 0 ≡ i = omega arith in
-    sym (digits_none rest (drop i l)) ∙ ap (λ (k : ℕ). digits_from k rest (drop i l)) e ∙ f.all
+    sym (digits_none rest l) ∙ ap (λ (k : ℕ). digits_from k rest (drop k l)) e ∙ f.all
 
 -- At most k digits.
 pub digits_most : (k n : ℕ) (t : List ℕ) → length (digits_from k n t) ≤ k + length t
@@ -102,11 +93,3 @@ digits_few (suc d) (suc k) n t h =
 pub decimal-few : (n : ℕ) → n < 100000 → length (decimal n) ≤ 5
 unfolding tens
 decimal-few n h = omega (arith, digits_few 4 20 n [] h)
-
--- The digits written as one word.
-pub decimal-put : (l old new : List ℕ) (n r at s : ℕ) → length l ≡ 20 → drop r l ≡ decimal n → Pasted (take (20 - r) (drop r l)) old new at s
-    → Pasted (decimal n) old new at s × (s ≤ at + 20)
-decimal-put l old new n r at s e d p =
-    let all : take (20 - r) (drop r l) ≡ drop r l = take_all (20 - r) (drop r l) (omega (arith, length-drop r l)) in
-    let q : Pasted (decimal n) old new at s = pasted_same (all ∙ d) p in
-    (q, omega (arith, q.next, decimal-most n))

@@ -5,7 +5,7 @@ ghost use Rattle.ascii.specs.Encoding as text;
 ghost use Rattle.ascii.specs.Text.{fitting, file_head_room};
 
 use super::decimal_field;
-use arrays::paste::{put_byte, put_bytes};
+use arrays::paste::{put_byte, put_items};
 
 // Room for what stands in front of a file in its line: a word and its length.
 const HEAD_ROOM: usize = 64;
@@ -34,10 +34,8 @@ fn pairs(bytes: &[u8], out: &mut [u8], at: usize) -> usize
     ensures { Pasted (each text.hex_pair bytes.now) out.old out.new at result }
 {
     let mut next = at;
-    let mut i = 0;
-    while i < bytes.len() {
-        next = pair(out, next, bytes[i]);
-        i += 1;
+    for b in bytes {
+        next = pair(out, next, *b);
     }
     next
 }
@@ -54,25 +52,21 @@ pub fn file_line(file: &[u8], out: &mut [u8]) -> usize
     if (out.len() - HEAD_ROOM) / 2 < file.len() {
         return 0;
     }
-    let a = put_bytes(out, 0, b"file");
+    let a = put_items(out, 0, b"file");
+    // Stays: `as`, since no From takes a usize to a u64.
     let b = decimal_field(out, a, file.len() as u64);
     let c = put_byte(out, b, b' ');
     pairs(file, out, c)
 }
 
-// How many bytes a text has without the line feed that ends it.
-fn body_length(lines: &[u8]) -> usize
-    ensures value { result ≡ text.body_length lines.now }
-    ensures upper_bound { result ≤ length lines.now }
+// A text without the line feed that ends it.
+fn body(lines: &[u8]) -> &[u8]
+    ensures { result.now ≡ take (text.body_length lines.now) lines.now }
 {
-    let n = lines.len();
-    if n == 0 {
-        return 0;
+    match lines {
+        [body @ .., b'\n'] => body,
+        _ => lines,
     }
-    if lines[n - 1] == b'\n' {
-        return n - 1;
-    }
-    n
 }
 
 // A byte of a text, or ` / ` for a line feed.
@@ -82,22 +76,19 @@ fn spread(out: &mut [u8], at: usize, b: u8) -> usize
     ensures upper_bound { result ≤ at + 3 }
 {
     if b == b'\n' {
-        return put_bytes(out, at, b" / ");
+        return put_items(out, at, b" / ");
     }
     put_byte(out, at, b)
 }
 
-// The first n bytes of a text, each line feed as ` / `.
-fn spread_all(lines: &[u8], n: usize, out: &mut [u8]) -> usize
-    requires n_in_bounds { n ≤ length lines.now }
-    requires n_in_bounds_2 { 3 * n ≤ length out.old }
-    ensures { Pasted (each text.spread (take n lines.now)) out.old out.new 0 result }
+// A text at the front of `out`, each line feed as ` / `.
+fn spread_all(lines: &[u8], out: &mut [u8]) -> usize
+    requires { 3 * length lines.now ≤ length out.old }
+    ensures { Pasted (each text.spread lines.now) out.old out.new 0 result }
 {
     let mut next = 0;
-    let mut i = 0;
-    while i < n {
-        next = spread(out, next, lines[i]);
-        i += 1;
+    for b in lines {
+        next = spread(out, next, *b);
     }
     next
 }
@@ -111,5 +102,5 @@ pub fn join_lines(lines: &[u8], out: &mut [u8]) -> usize
     if out.len() / 3 < lines.len() {
         return 0;
     }
-    spread_all(lines, body_length(lines), out)
+    spread_all(body(lines), out)
 }

@@ -9,28 +9,26 @@ ghost use Rattle.model.specs.Listing as model;
 ghost use Rattle.arrays.specs.Paste.{Pasted};
 ghost use Rattle.ascii.specs.Text.{most_digits, signed_room, field_room, signed_field_room, fields_room, refused_room};
 
-use arrays::paste::{put_byte, put_bytes};
+use arrays::paste::{put_byte, put_items};
 
 // The most digits of a number of 64 bits.
 const DIGITS: usize = 20;
 
-// The digits of n in base ten at the end of DIGITS places. Returns where they start.
-fn digits(n: u64, places: &mut [u8]) -> usize
-    requires { length places.old ≡ most_digits }
+// The digits of n in base ten at the end of the places. Returns where they start.
+fn digits(n: u64, places: &mut [u8; DIGITS]) -> usize
     ensures upper_bound { result ≤ most_digits }
     ensures places_after { drop result places.new ≡ model.decimal n }
 {
     let mut rest = n;
-    let mut i = DIGITS;
-    while 0 < i {
-        i -= 1;
+    for i in (0..DIGITS).rev() {
+        // Stays: `as`, since the number fits, as is proved; try_from would hand out an error that never comes.
         places[i] = b'0' + (rest % 10) as u8;
         if rest < 10 {
             return i;
         }
         rest /= 10;
     }
-    i
+    0
 }
 
 // Puts a number in base ten, at most 20 digits, from place `at` on. Returns the place behind it.
@@ -41,14 +39,7 @@ pub fn decimal(out: &mut [u8], at: usize, n: u64) -> usize
 {
     let mut places = [0u8; DIGITS];
     let start = digits(n, &mut places);
-    put_bytes(out, at, &places[start..])
-}
-
-// A whole number without its sign.
-fn magnitude(z: i32) -> u64
-    ensures { result ≡ nat_abs z }
-{
-    if z < 0 { (-1 - z) as u64 + 1 } else { z as u64 }
+    put_items(out, at, &places[start..])
 }
 
 // Puts a whole number in base ten from place `at` on, with a minus sign in front of a negative one. Returns the place behind it.
@@ -57,11 +48,8 @@ pub fn signed(out: &mut [u8], at: usize, z: i32) -> usize
     ensures pasted { Pasted (model.signed_decimal z) out.old out.new at result }
     ensures upper_bound { result ≤ at + signed_room }
 {
-    if z < 0 {
-        let next = put_byte(out, at, b'-');
-        return decimal(out, next, magnitude(z));
-    }
-    decimal(out, at, magnitude(z))
+    let next = if z < 0 { put_byte(out, at, b'-') } else { at };
+    decimal(out, next, u64::from(z.unsigned_abs()))
 }
 
 // Puts a space and a number. Returns the place behind them.
@@ -100,7 +88,7 @@ pub fn refused_line(out: &mut [u8], at: usize, n: u64) -> usize
     requires { at + refused_room ≤ length out.old }
     ensures { Pasted (model.refused_line n) out.old out.new at result }
 {
-    let a = put_bytes(out, at, b"refused");
+    let a = put_items(out, at, b"refused");
     let b = decimal_field(out, a, n);
     put_byte(out, b, b'\n')
 }

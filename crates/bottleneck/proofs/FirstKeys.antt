@@ -7,30 +7,25 @@ use mathlib.Core.List.Memᴰ.{tail}
 use mathlib.Core.List.{List, [], ◌∷◌, ◌++◌, Memᴰ}
 use mathlib.Core.List.Memᴰ
 use mathlib.Core.List.Memᴰ.{not-nil}
-use Prim.Native.Nat.{ℕ, zero, suc, ◌+◌, ◌≤◌, ◌<◌}
+use Prim.Native.Nat.{ℕ, zero, suc, ◌+◌, ◌<◌}
 use native.Mathlib.Numerals.{add-one}
 use native.Mathlib.Omega.{arith}
 use lib.ListN.{length, take, get_or}
 use lib.Seq.{take-suc}
 use Rattle.arrays.specs.Order.{Sorted}
 
--- An element below m is one of the first m.
-pub first_at : (l : List ℕ) (i m : ℕ) → i < m → m ≤ length l → Memᴰ (get_or l i 0) (take m l)
-first_at l i zero h g = absurd (omega arith)
-first_at [] i (suc m) h g = absurd (omega arith)
-first_at (a ∷ l) zero (suc m) h g = head refl
-first_at (a ∷ l) (suc i) (suc m) h g = tail (first_at l i m (omega arith) (omega arith))
+-- An element of a list is one of its members.
+pub first_at : (l : List ℕ) (i : ℕ) → i < length l → Memᴰ (get_or l i 0) l
+first_at [] i h = absurd (omega arith)
+first_at (a ∷ l) zero h = head refl
+first_at (a ∷ l) (suc i) h = tail (first_at l i (omega arith))
 
 -- In a sorted list it comes after those before it.
-pub first-before :
-    (R : ℕ → ℕ → Type 0) (l : List ℕ) (i m : ℕ) → i < m → m ≤ length l → Sorted R (take m l)
-    → (k : ℕ) → Memᴰ k (take i l) → R k (get_or l i 0)
-first-before R l i zero h g s k f = absurd (omega arith)
-first-before R [] i (suc m) h g s k f = absurd (omega arith)
-first-before R (a ∷ l) zero (suc m) h g s k f = absurd (not-nil f)
-first-before R (a ∷ l) (suc i) (suc m) h g s k f =
-    ⊎_elim (λ p. rw p (s.0 (get_or l i 0) (first_at l i m (omega arith) (omega arith))))
-    (first-before R l i m (omega arith) (omega arith) s.1 k) (cases f)
+pub first-before : (R : ℕ → ℕ → Type 0) (l : List ℕ) (i : ℕ) → i < length l → Sorted R l → (k : ℕ) → Memᴰ k (take i l) → R k (get_or l i 0)
+first-before R [] i h s k f = absurd (omega arith)
+first-before R (a ∷ l) zero h s k f = absurd (not-nil f)
+first-before R (a ∷ l) (suc i) h s k f =
+    ⊎_elim (λ p. rw p (s.0 (get_or l i 0) (first_at l i (omega arith)))) (first-before R l i (omega arith) s.1 k) (cases f)
 
 -- The first i + 1 are the first i and the next.
 pub first_more :

@@ -6,7 +6,8 @@ use Prim.Native.Nat.{ℕ, ◌+◌, ◌*◌, ◌≤◌, ◌<◌}
 use native.Mathlib.Decide.{ℕ_discrete}
 use native.Mathlib.Omega.{arith}
 use borrow.Author.Tests.{eq-eqb, ne_eqb}
-use lib.ListN.{length, get_or}
+use lib.ListN.{length, take, get_or}
+use lib.Seq.{get_or-take, length-take-le}
 use Rattle.keys.specs.Keys.{places}
 use Rattle.kruskal.specs.Labels.{moved}
 use Rattle.kruskal.proofs.Labels.{moved_hit, moved_miss}
@@ -38,6 +39,13 @@ merged_cases a b w differ c d old e = go (ℕ_discrete c a) (ℕ_discrete d a)
       dite (ℕ_discrete c b) (λ r. rw (ne_eqb c a p, eq-eqb c b r) (chosen_miss a w d old q)) (λ r. rw (ne_eqb c a p, ne_eqb c b r)),
     )
 
+-- A merge by the labels of the first n numbers alone.
+pub merged_first : (labels : List ℕ) (a b w n : ℕ) (before after : List ℕ) → n ≤ length labels
+    → LabelsMerged (take n labels) a b w (length (take n labels)) before after → LabelsMerged labels a b w n before after
+merged_first labels a b w n before after h m u v hu hv =
+    let all = length-take-le n labels h in
+    rw (get_or-take n labels u 0 hu, get_or-take n labels v 0 hv) at (m u v (rw all hu) (rw all hv))
+
 pub record RowsTo (labels : List ℕ) (a b w n : ℕ) (before after : List ℕ) (i : ℕ) : Type 0 where
   pub within : i ≤ n
   pub size : length after ≡ length before
@@ -48,9 +56,6 @@ pub rows_none : {labels : List ℕ} {a b w n : ℕ} {before : List ℕ} → Rows
 rows_none = record { within = omega arith; size = refl; done = λ u v h g. absurd (omega arith); rest = λ p h. refl }
 
 module _ {labels : List ℕ} {a b w n : ℕ} {before after : List ℕ} {i : ℕ} (r : RowsTo labels a b w n before after i) (few : n ≤ places) where
-  pub rows_all : n ≤ i → LabelsMerged labels a b w n before after
-  rows_all h u v hu hv = r.done u v (omega arith) hv
-
   module _ (h : i < n) where
     -- The next row, whose entries are right and outside of which nothing has changed.
     rows_more :

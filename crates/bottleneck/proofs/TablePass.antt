@@ -12,6 +12,7 @@ use Prim.Native.Nat.{ℕ, ◌+◌, ◌≤◌, ◌<◌}
 use native.Mathlib.Omega.{arith}
 use lib.Dec.{T, ltb, ltb→lt}
 use lib.ListN.{length, take, get_or}
+use lib.Seq.{take_all}
 use Rattle.spanning.specs.Graph.{Conn, stop, In}
 use Rattle.spanning.specs.Bottleneck.{Bottleneck}
 use Rattle.spanning.proofs.Conn.{conn_mono, conn_none}
@@ -25,22 +26,20 @@ use Rattle.bottleneck.proofs.HeaviestEdge.{same_bottleneck, new_bottleneck}
 use Rattle.bottleneck.proofs.Rows.{merged_cases}
 
 -- After the first i keys, which are in `seen`, latest first.
-pub record TablePass (keys : List ℕ) (m n : ℕ) (table labels : List ℕ) (i : ℕ) : Type 0 where
+pub record TablePass (keys : List ℕ) (n : ℕ) (table labels : List ℕ) (i : ℕ) : Type 0 where
   pub seen : List ℕ
-  pub given : FillRequires keys m n entries
-  pub within : i ≤ m
+  pub given : FillRequires keys n entries
   pub size : length table ≡ entries
   pub labelled : Labelled labels seen
   pub same : (k : ℕ) → Memᴰ k seen ↔ Memᴰ k (take i keys)
   pub right : (u v : ℕ) → u < n → v < n → Conn key_graph (In seen) v u → Bottleneck key_graph weight seen u v (entry table u v)
 
 pub pass_none :
-    {keys : List ℕ} {m n size : ℕ} → FillRequires keys m n size → {table labels : List ℕ} → length table ≡ size → Labelled labels []
-    → ((u : ℕ) → u < n → entry table u u ≡ 0) → TablePass keys m n table labels 0
-pass_none {keys} {m} {n} given {table} full l z = record {
+    {keys : List ℕ} {n size : ℕ} → FillRequires keys n size → {table labels : List ℕ} → length table ≡ size → Labelled labels []
+    → ((u : ℕ) → u < n → entry table u u ≡ 0) → TablePass keys n table labels 0
+pass_none {keys} {n} given {table} full l z = record {
   seen = [];
   given = rw given.room at given;
-  within = omega arith;
   size = full ∙ given.room;
   labelled = l;
   same = λ k. (λ f. f, λ f. f);
@@ -49,35 +48,35 @@ pass_none {keys} {m} {n} given {table} full l z = record {
       (λ g. stop p, λ d. subst (λ (b : ℕ). b ≤ x) (sym (z u hu) ∙ ap (entry table u) p) (omega arith));
 }
 
-module _ {keys : List ℕ} {m n : ℕ} {table labels : List ℕ} {i : ℕ} (r : TablePass keys m n table labels i) where
-  given : FillRequires keys m n entries
+module _ {keys : List ℕ} {n : ℕ} {table labels : List ℕ} {i : ℕ} (r : TablePass keys n table labels i) where
+  given : FillRequires keys n entries
   given = r.given
 
-  pub pass_end : m ≤ i → Bottlenecks (take m keys) n table
+  pub pass_end : length keys ≤ i → Bottlenecks keys n table
   pass_end h u v hu hv x =
       let b = r.right u v hu hv (conn_mono from (given.joins u v hu hv)) x in
       (λ l. conn_mono (λ k f. (into k f.0, f.1)) (b.0 l), λ c. b.1 (conn_mono (λ k f. (from k f.0, f.1)) c))
     where
-      e : i ≡ m
-      e = omega arith
+      all : take i keys ≡ keys
+      all = take_all i keys h
 
-      into : (k : ℕ) → Memᴰ k r.seen → Memᴰ k (take m keys)
-      into k f = rw e at ((r.same k).0 f)
+      into : (k : ℕ) → Memᴰ k r.seen → Memᴰ k keys
+      into k f = rw all at ((r.same k).0 f)
 
-      from : (k : ℕ) → Memᴰ k (take m keys) → Memᴰ k r.seen
-      from k f = (r.same k).1 (rw e f)
+      from : (k : ℕ) → Memᴰ k keys → Memᴰ k r.seen
+      from k f = (r.same k).1 (rw all f)
 
-  module _ (h : i < m) where
+  module _ (h : i < length keys) where
     -- The next key is short enough for an entry.
     pub next-short : weight (get_or keys i 0) < 4294967296
-    next-short = given.short (get_or keys i 0) (first_at keys i m h given.within)
+    next-short = given.short (get_or keys i 0) (first_at keys i h)
 
     -- The next key k, between the labels of lo and hi.
     module _ (k : ℕ) {lo hi : ℕ} (hk : k ≡ get_or keys i 0) (el : lo ≡ low k) (eh : hi ≡ high k) where
       heaviest : (f : ℕ) → In r.seen f → weight f ≤ weight k
       heaviest f g =
           weight-le f k (rw hk
-          (ltb→lt f (get_or keys i 0) (first-before (λ (x y : ℕ). T (ltb x y)) keys i m h given.within given.sorted f ((r.same f).0 g))))
+          (ltb→lt f (get_or keys i 0) (first-before (λ (x y : ℕ). T (ltb x y)) keys i h given.sorted f ((r.same f).0 g))))
 
       -- The bottleneck of numbers connected before stays.
       old : (u v : ℕ) → u < n → v < n → get_or labels u 0 ≡ get_or labels v 0 → Bottleneck key_graph weight (k ∷ r.seen) u v (entry table u v)
@@ -90,11 +89,10 @@ module _ {keys : List ℕ} {m n : ℕ} {table labels : List ℕ} {i : ℕ} (r : 
           {table' labels' : List ℕ} → length table' ≡ entries → Labelled labels' (k ∷ r.seen)
           → ((u v : ℕ) → u < n → v < n → get_or labels' u 0 ≡ get_or labels' v 0 → Conn key_graph (In (k ∷ r.seen)) v u
           → Bottleneck key_graph weight (k ∷ r.seen) u v (entry table' u v))
-          → TablePass keys m n table' labels' (i + 1)
+          → TablePass keys n table' labels' (i + 1)
       step full l right = record {
         seen = k ∷ r.seen;
         given = given;
-        within = omega arith;
         size = full;
         labelled = l;
         same = λ f. (
@@ -104,14 +102,14 @@ module _ {keys : List ℕ} {m n : ℕ} {table labels : List ℕ} {i : ℕ} (r : 
         right = λ u v hu hv c. right u v hu hv ((labels_connect l u v (omega arith) (omega arith)).1 c) c;
       }
 
-      pub pass_skip : get_or labels lo 0 ≡ get_or labels hi 0 → TablePass keys m n table labels (i + 1)
+      pub pass_skip : get_or labels lo 0 ≡ get_or labels hi 0 → TablePass keys n table labels (i + 1)
       pass_skip e = step r.size (labels_same r.labelled k el eh e) (λ u v hu hv p c. old u v hu hv p)
 
       pub pass_merge :
           ¬ (get_or labels lo 0 ≡ get_or labels hi 0) → {w : ℕ} → w ≡ weight k → {table' labels' : List ℕ} → length table' ≡ length table
           → LabelsMerged labels (get_or labels lo 0) (get_or labels hi 0) w n table table' → length labels' ≡ length labels
           → ((u : ℕ) → u < places → get_or labels' u 0 ≡ moved (get_or labels lo 0) (get_or labels hi 0) (get_or labels u 0))
-          → TablePass keys m n table' labels' (i + 1)
+          → TablePass keys n table' labels' (i + 1)
       pass_merge differ {w} ew {table'} {labels'} full filled long e =
           step (full ∙ r.size) (labels_merged r.labelled k el eh long e) right
         where

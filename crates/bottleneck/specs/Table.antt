@@ -1,5 +1,5 @@
 -- The table of bottlenecks. What a merge of two labels leaves there, and what filling the table asks and leaves.
-use Rattle.std.specs.Prelude.{◌≡◌, ℕ, ◌+◌, ◌*◌, ◌≤◌, ◌<◌, T, ltb, eqb, length, take, get_or}
+use Rattle.std.specs.Prelude.{◌≡◌, ℕ, ◌+◌, ◌*◌, ◌≤◌, ◌<◌, T, ltb, eqb, get_or}
 use mathlib.Core.List.{List, Memᴰ}
 use Rattle.spanning.specs.Graph.{Conn, In}
 use Rattle.arrays.specs.Order.{Sorted}
@@ -34,14 +34,13 @@ abbrev pub LabelsMerged : List ℕ → ℕ → ℕ → ℕ → ℕ → List ℕ 
 LabelsMerged labels a b w n before after =
     (u v : ℕ) → u < n → v < n → entry after u v ≡ merged a b w (get_or labels u 0) (get_or labels v 0) (entry before u v)
 
--- What filling asks: the first m keys rise, have weights that fit an entry of 32 bits, and connect the first n numbers.
-pub record FillRequires (keys : List ℕ) (m n size : ℕ) : Type 0 where
-  pub within : m ≤ length keys
+-- What filling asks: the keys rise, have weights that fit an entry of 32 bits, and connect the first n numbers.
+pub record FillRequires (keys : List ℕ) (n size : ℕ) : Type 0 where
   pub few : n ≤ places
   pub room : size ≡ entries
-  pub sorted : Sorted (λ (a b : ℕ). T (ltb a b)) (take m keys)
-  pub short : (k : ℕ) → Memᴰ k (take m keys) → weight k < 4294967296
-  pub joins : (u v : ℕ) → u < n → v < n → Conn key_graph (In (take m keys)) v u
+  pub sorted : Sorted (λ (a b : ℕ). T (ltb a b)) keys
+  pub short : (k : ℕ) → Memᴰ k keys → weight k < 4294967296
+  pub joins : (u v : ℕ) → u < n → v < n → Conn key_graph (In keys) v u
 
 -- The table has the bottleneck of each two of the first n numbers over the keys: the entry is at most x exactly if keys no
 -- heavier than x connect the two.

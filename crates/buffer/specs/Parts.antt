@@ -1,5 +1,5 @@
 -- The header and the sections of a file, one behind the other.
-use Rattle.std.specs.Prelude.{Bool, ℕ, ◌+◌, ◌-◌, ◌≤◌, length, take}
+use Rattle.std.specs.Prelude.{Bool, ℕ, ◌+◌, ◌≤◌, length}
 use mathlib.Core.List.{List, ◌++◌, flatten}
 use Rattle.model.specs.State.{max_pins}
 use Rattle.model.specs.Sections.{header, file_size}
@@ -8,22 +8,19 @@ use Rattle.points.specs.Coded.{max_steiner}
 use Rattle.arrays.specs.Paste.{each}
 use Rattle.sections.specs.Bytes.{ends_bytes, code_bytes}
 
--- The file of n pins and m Steiner points kept as codes, and of the edges of their tree kept as numbers, up to the edges; `bare` says that all
+-- The file of pins and Steiner points kept as codes, and of the edges of their tree kept as numbers, up to the edges; `bare` says that all
 -- pins are sensors.
-abbrev pub tree_parts : List ℕ → ℕ → List ℕ → ℕ → List ℕ → Bool → List ℕ
-tree_parts pins n steiner m ends bare =
-    header (sizes_of n m (n + m - 1) bare)
-    ++ (each code_bytes (take n pins) ++ (each code_bytes (take m steiner) ++ each ends_bytes (take (n + m - 1) ends)))
+abbrev pub tree_parts : List ℕ → List ℕ → List ℕ → Bool → List ℕ
+tree_parts pins steiner ends bare =
+    header (sizes_of (length pins) (length steiner) (length ends) bare) ++ (each code_bytes pins ++ (each code_bytes steiner ++ each ends_bytes ends))
 
 -- The whole file, with the kinds of the pins where it has a section of them.
-abbrev pub file_parts : List ℕ → ℕ → List ℕ → ℕ → List ℕ → List ℕ → Bool → List ℕ
-file_parts pins n steiner m ends kinds bare = tree_parts pins n steiner m ends bare ++ flatten (kind_sections bare (take n kinds))
+abbrev pub file_parts : List ℕ → List ℕ → List ℕ → List ℕ → Bool → List ℕ
+file_parts pins steiner ends kinds bare = tree_parts pins steiner ends bare ++ flatten (kind_sections bare kinds)
 
--- What is to be written stands in arrays, and there is room for it.
-pub record PartsFit (pins : List ℕ) (n : ℕ) (steiner : List ℕ) (m : ℕ) (ends : List ℕ) (bare : Bool) (out : List ℕ) : Type 0 where
-  pub pins_few : n ≤ max_pins
-  pub steiner_few : m ≤ max_steiner
-  pub in_pins : n ≤ length pins
-  pub in_steiner : m ≤ length steiner
-  pub in_ends : n + m - 1 ≤ length ends
-  pub room : file_size (sizes_of n m (n + m - 1) bare) ≤ length out
+-- What is to be written is no more than a deck has, and there is room for it.
+pub record PartsFit (pins steiner ends : List ℕ) (bare : Bool) (out : List ℕ) : Type 0 where
+  pub pins_few : length pins ≤ max_pins
+  pub steiner_few : length steiner ≤ max_steiner
+  pub ends_few : length ends ≤ max_pins + max_steiner
+  pub room : file_size (sizes_of (length pins) (length steiner) (length ends) bare) ≤ length out

@@ -3,14 +3,14 @@
 
 pub mod file;
 
-ghost use Rattle.std.specs.Prelude.{◌++◌, ◌+◌, ◌*◌, ◌≤◌, ◌<◌, length, take};
+ghost use Rattle.std.specs.Prelude.{◌++◌, ◌+◌, ◌*◌, ◌≤◌, ◌<◌, length};
 ghost use Rattle.arrays.specs.Number.{bytes4};
 ghost use Rattle.arrays.specs.Paste.{Pasted, each};
 ghost use Rattle.model.specs.Sections.{header_size, pairs_from, header, sum_of, file_size};
 ghost use Rattle.sections.specs.Bytes.{ends_bytes, code_bytes};
 
 use arrays::number::{put2, put4};
-use arrays::paste::{put_byte, put_bytes};
+use arrays::paste::put_items;
 use header::header_size;
 use keys::FACTOR;
 use plane::codes::{x_of, y_of};
@@ -34,12 +34,9 @@ fn put_pairs(sizes: &[usize], start: usize, out: &mut [u8], at: usize) -> usize
 {
     let mut offset = start;
     let mut next = at;
-    let mut k = 0;
-    while k < sizes.len() {
-        let size = sizes[k];
-        next = put_pair(offset, size, out, next);
-        offset += size;
-        k += 1;
+    for size in sizes {
+        next = put_pair(offset, *size, out, next);
+        offset += *size;
     }
     next
 }
@@ -50,7 +47,7 @@ pub fn put_header(sizes: &[usize], out: &mut [u8]) -> usize
     requires sizes_bound { file_size sizes.now < 4294967296 }
     ensures { Pasted (header sizes.now) out.old out.new 0 result }
 {
-    let count = put_bytes(out, 0, b"DECK");
+    let count = put_items(out, 0, b"DECK");
     let first = put2(out, count, sizes.len());
     put_pairs(sizes, header_size(sizes.len()), out, first)
 }
@@ -69,34 +66,32 @@ fn put_edge(k: u64, out: &mut [u8], at: usize) -> usize
     requires { at + 2 ≤ length out.old }
     ensures { Pasted (ends_bytes k) out.old out.new at result }
 {
-    let next = put_byte(out, at, (k / FACTOR % 256) as u8);
-    put_byte(out, next, (k % FACTOR) as u8)
+    // Stays: `as`, since the number fits, as is proved; try_from would hand out an error that never comes.
+    put_items(out, at, &[(k / FACTOR % 256) as u8, (k % FACTOR) as u8])
 }
 
-// Puts the points of the first n codes from place `at` on, four bytes each. Returns the place behind them.
-pub fn put_points(codes: &[u64], n: usize, out: &mut [u8], at: usize) -> usize
-    requires { (n ≤ length codes.now) × (at + 4 * n ≤ length out.old) }
-    ensures { Pasted (each code_bytes (take n codes.now)) out.old out.new at result }
+// Stays: two short loops for points and edges. One function for both takes a closure, whose contract has to say for every item and every
+// buffer where it may be called and what it puts, which is longer than the two loops.
+// Puts the points of these codes from place `at` on, four bytes each. Returns the place behind them.
+pub fn put_points(codes: &[u64], out: &mut [u8], at: usize) -> usize
+    requires { at + 4 * length codes.now ≤ length out.old }
+    ensures { Pasted (each code_bytes codes.now) out.old out.new at result }
 {
     let mut next = at;
-    let mut i = 0;
-    while i < n {
-        next = put_point(codes[i], out, next);
-        i += 1;
+    for code in codes {
+        next = put_point(*code, out, next);
     }
     next
 }
 
-// Puts the first n edges from place `at` on, two bytes each. Returns the place behind them.
-pub fn put_edges(ends: &[u64], n: usize, out: &mut [u8], at: usize) -> usize
-    requires { (n ≤ length ends.now) × (at + 2 * n ≤ length out.old) }
-    ensures { Pasted (each ends_bytes (take n ends.now)) out.old out.new at result }
+// Puts these edges from place `at` on, two bytes each. Returns the place behind them.
+pub fn put_edges(ends: &[u64], out: &mut [u8], at: usize) -> usize
+    requires { at + 2 * length ends.now ≤ length out.old }
+    ensures { Pasted (each ends_bytes ends.now) out.old out.new at result }
 {
     let mut next = at;
-    let mut i = 0;
-    while i < n {
-        next = put_edge(ends[i], out, next);
-        i += 1;
+    for edge in ends {
+        next = put_edge(*edge, out, next);
     }
     next
 }

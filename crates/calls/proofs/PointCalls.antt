@@ -11,15 +11,15 @@ use Rattle.plane.specs.Point.{Point, in_range, lower}
 use Rattle.plane.proofs.Order.{lower-order}
 use Rattle.arrays.specs.Set.{has}
 use Rattle.model.specs.Refusal.{check, first_failed}
-use Rattle.model.specs.State.{State, max_pins, insert, remove}
+use Rattle.model.specs.State.{State, Placed, max_pins, insert, remove}
 use Rattle.model.specs.DeviceKinds.{sensor, is_kind}
-use Rattle.model.specs.Contents.{Contents, following, ValidContents}
+use Rattle.model.specs.Contents.{Contents, following}
 use Rattle.model.specs.Call as call
 use Rattle.arrays.proofs.Set.{has_in}
 use Rattle.working.specs.declared.Working.{Working}
 use Rattle.working.specs.declared.deck.WorkingDeck.{WorkingDeck}
 use Rattle.plane.specs.Code.{point_of, is_code}
-use Rattle.working.specs.InOrder.{InOrder, state_of}
+use Rattle.working.specs.InOrder.{state_of}
 use Rattle.working.specs.WorkingDeck.{contents_of}
 use Rattle.points.proofs.Coded.{pins-count}
 use Rattle.plane.proofs.codes.Points.{code-in_range}
@@ -30,23 +30,23 @@ use Rattle.calls.specs.declared.Reply.TheVariants.{Done}
 use Rattle.calls.specs.Changes.{reply_of, refusing, ChangedBy}
 
 -- A call that the model refuses leaves the deck, and one that it carries out leads to the model's next contents.
-pub refused_is : (d : WorkingDeck) → InOrder d.form → (c : call.Call) (n : ℕ)
+pub refused_is : (d : WorkingDeck) (c : call.Call) (n : ℕ)
     → call.step (contents_of d) c ≡ record { next = contents_of d; reply = call.refused n }
     → (r : Changed) → r ≡ refusing d n → ChangedBy d c r
 unfolding reply_of
-refused_is d p c n e r is =
+refused_is d c n e r is =
     subst⁻¹ (ChangedBy d c) is
-    (record { in_order = p; next = ap (λ (o : call.Outcome). o.next) (sym e); reply = ap (λ (o : call.Outcome). reply_of o.reply) (sym e) })
+    (record { in_order = d.form.in_order; next = ap (λ (o : call.Outcome). o.next) (sym e); reply = ap (λ (o : call.Outcome). reply_of o.reply) (sym e) })
 
-pub done_is : (d : WorkingDeck) (c : call.Call) (k : ℕ) (w : Working) (s : State) → InOrder w × (state_of w ≡ s)
+pub done_is : (d : WorkingDeck) (c : call.Call) (k : ℕ) (w : Working) (s : State) → state_of w ≡ s
     → (r : WorkingDeck) → (r.form ≡ w) × (contents_of r ≡ following k (contents_of d) (state_of w))
     → call.step (contents_of d) c ≡ record { next = following k (contents_of d) s; reply = call.done }
     → ChangedBy d c (record { working = r; reply = Done })
 unfolding reply_of
 done_is d c k w s p r q e =
     record {
-      in_order = subst⁻¹ InOrder q.0 p.0;
-      next = q.1 ∙ ap (following k (contents_of d)) p.1 ∙ ap (λ (o : call.Outcome). o.next) (sym e);
+      in_order = r.form.in_order;
+      next = q.1 ∙ ap (following k (contents_of d)) p ∙ ap (λ (o : call.Outcome). o.next) (sym e);
       reply = ap (λ (o : call.Outcome). reply_of o.reply) (sym e);
     }
 
@@ -109,13 +109,13 @@ module _ (p : Point) (c : Contents) where
   withdraw-done e = ap withdrawing e
 
   -- No pin stands out of range.
-  pub none_outside : ValidContents c → in_range p ≡ false → call.holds_pin p s ≡ false
-  none_outside v e = false_of (call.holds_pin p s) (λ t. subst T e (v.state.placed.pins_range p ((has_in lower lower-order p s.pins).0 t)))
+  pub none_outside : Placed s → in_range p ≡ false → call.holds_pin p s ≡ false
+  none_outside v e = false_of (call.holds_pin p s) (λ t. subst T e (v.pins_range p ((has_in lower lower-order p s.pins).0 t)))
 
 -- What a working form says of its pins.
-module _ (w : Working) (p : InOrder w) where
+module _ (w : Working) where
   pub pin_there_lem : (k : ℕ) → T (is_code k) → has ltb k (take w.points.npins w.points.pins) ≡ call.holds_pin (point_of k) (state_of w)
-  pin_there_lem k t = points_has k t (take w.points.npins w.points.pins) p.arranged.pin_codes.codes
+  pin_there_lem k t = points_has k t (take w.points.npins w.points.pins) w.in_order.arranged.pin_codes.codes
 
   pub pin_count_lem : w.points.npins ≡ length (state_of w).pins
-  pin_count_lem = sym (pins-count w.points p.arranged)
+  pin_count_lem = sym (pins-count w.points w.in_order.arranged)

@@ -5,8 +5,6 @@ use Rattle.model.specs.Call as call
 use Rattle.working.specs.declared.deck.WorkingDeck.{WorkingDeck}
 use Rattle.working.specs.InOrder.{InOrder}
 use Rattle.working.specs.WorkingDeck.{contents_of}
-use Rattle.rounds.specs.declared.Step.{Step}
-use Rattle.rounds.specs.declared.Step.TheVariants as step
 use Rattle.calls.specs.declared.Changed.{Changed}
 use Rattle.calls.specs.declared.Reply.{Reply}
 use Rattle.calls.specs.declared.Reply.TheVariants.{Done, Refused, Finished, Tap, Rounds}
@@ -18,19 +16,6 @@ reply_of (call.refused n) = Refused n
 reply_of (call.answered finished) = Finished
 reply_of (call.answered (tap p fall)) = Tap p.x p.y fall
 reply_of (call.rounds n) = Rounds n
-
--- What a round did, as the reply.
-unfoldable pub step_reply : Step → Reply
-step_reply step.Finished = Finished
-step_reply (step.Tap x y fall) = Tap x y fall
-
--- The number of a refusal, and 0 for any other reply.
-unfoldable pub refusal_number : Reply → ℕ
-refusal_number Done = 0
-refusal_number (Refused n) = n
-refusal_number Finished = 0
-refusal_number (Tap x y fall) = 0
-refusal_number (Rounds n) = 0
 
 -- A refusal hands back the deck it was given.
 abbrev pub refusing : WorkingDeck → ℕ → Changed

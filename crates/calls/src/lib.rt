@@ -5,18 +5,19 @@ ghost use Rattle.std.specs.Prelude.{◌≡◌, T};
 ghost use Rattle.model.specs.Contents.{ValidContents};
 ghost use Rattle.model.specs.Call as call;
 ghost use Rattle.plane.specs.Code.{point_of, is_code};
-ghost use Rattle.working.specs.InOrder.{InOrder};
 ghost use Rattle.working.specs.WorkingDeck.{contents_of};
-ghost use Rattle.calls.specs.Changes.{refusing, refusal_number, step_reply, ChangedBy};
+ghost use Rattle.refusals.specs.Refusals.{number_of};
+ghost use Rattle.calls.specs.Changes.{refusing, ChangedBy};
 
-use plane::codes::{Located, locate};
+use plane::codes::locate;
 use points::MAX_PINS;
 use points::kinds::{LARGEST_KIND, SENSOR};
-use rounds::Step;
-use working::deck::{LONGEST_TAIL, WorkingDeck, follow};
+use refusals::Refusal;
+use working::deck::{LONGEST_TAIL, WorkingDeck};
 
 // What a call replies: done, or a refusal by its number; a round: finished, or the new Steiner point and the whole fall in
 // length; a run to the end: the number of rounds that added a Steiner point.
+// Stays: a refusal by its number, not by its name, since `reply_of`, `called` and `Demand1.file_refused` speak of every number.
 #[derive(Clone, Copy)]
 pub enum Reply {
     Done,
@@ -33,162 +34,124 @@ pub struct Changed {
     pub reply: Reply,
 }
 
-// Returns the number of a refusal, and 0 for any other reply.
-pub fn refusal_number(r: Reply) -> u8
-    ensures { result ≡ refusal_number r }
-{
-    match r {
-        Reply::Done => 0,
-        Reply::Refused(n) => n,
-        Reply::Finished => 0,
-        Reply::Tap(x, y, fall) => 0,
-        Reply::Rounds(n) => 0,
-    }
-}
-
-// What a round did, as the reply.
-fn reply_of(s: Step) -> Reply
-    ensures { result ≡ step_reply s }
-{
-    match s {
-        Step::Finished => Reply::Finished,
-        Step::Tap(x, y, fall) => Reply::Tap(x, y, fall),
-    }
-}
-
 // A refusal.
-fn refuse(d: WorkingDeck, number: u8) -> Changed
-    ensures { result ≡ refusing d number }
+fn refuse(d: WorkingDeck, why: Refusal) -> Changed
+    ensures { result ≡ refusing d (number_of why) }
 {
     Changed {
         working: d,
-        reply: Reply::Refused(number),
+        reply: Reply::Refused(u8::from(why)),
     }
 }
 
 // Adds a pin of a kind at a point in range.
 fn add_at(d: WorkingDeck, k: u64, kind: u32) -> Changed
-    requires in_order { InOrder d.form }
     requires t { T (is_code k) }
     requires valid_contents { ValidContents (contents_of d) }
     ensures { ChangedBy d (call.add (point_of k) kind) result }
 {
-    let pins = d.form.points.pins;
-    let npins = d.form.points.npins;
-    let unknown = (LARGEST_KIND as u32) < kind;
-    let there = sorted::has(&pins, npins, k);
-    let full = MAX_PINS <= npins;
+    let points = &d.form.points;
+    let unknown = u32::from(LARGEST_KIND) < kind;
+    let there = sorted::has(&points.pins[..points.npins], k);
+    let full = MAX_PINS <= points.npins;
     if unknown {
-        return refuse(d, 15);
+        return refuse(d, Refusal::BadKind);
     }
     if there {
-        return refuse(d, 8);
+        return refuse(d, Refusal::AlreadyThere);
     }
     if full {
-        return refuse(d, 10);
+        return refuse(d, Refusal::Full);
     }
+    // Stays: `as`, since the number fits, as is proved; try_from would hand out an error that never comes.
     let given = kind as u8;
     let next = prune::change::insert(d.form, k);
     Changed {
-        working: follow(d, next, given),
+        working: d.follow(next, given),
         reply: Reply::Done,
     }
 }
 
 // Withdraws a pin at a point in range.
 fn withdraw_at(d: WorkingDeck, k: u64) -> Changed
-    requires in_order { InOrder d.form }
     requires t { T (is_code k) }
     ensures { ChangedBy d (call.withdraw (point_of k)) result }
 {
-    let pins = d.form.points.pins;
-    if !sorted::has(&pins, d.form.points.npins, k) {
-        return refuse(d, 9);
+    if !sorted::has(&d.form.points.pins[..d.form.points.npins], k) {
+        return refuse(d, Refusal::NotThere);
     }
     let next = prune::change::remove(d.form, k);
     Changed {
-        working: follow(d, next, SENSOR),
+        working: d.follow(next, SENSOR),
         reply: Reply::Done,
     }
 }
 
 // Adds a pin of a kind. Returns the deck that follows, and the reply: done, or a refusal, in the order 7, 15, 8, 10.
 pub fn add(d: WorkingDeck, x: i32, y: i32, kind: u32) -> Changed
-    requires in_order { InOrder d.form }
     requires valid_contents { ValidContents (contents_of d) }
     ensures { ChangedBy d (call.add (record { x = x; y = y }) kind) result }
 {
     match locate(x, y) {
-        Located::OutOfRange => refuse(d, 7),
-        Located::At(k) => add_at(d, k, kind),
+        None => refuse(d, Refusal::OutOfRange),
+        Some(k) => add_at(d, k, kind),
     }
 }
 
 // Withdraws a pin. Returns the deck that follows, and the reply: done, or refusal 9.
 pub fn withdraw(d: WorkingDeck, x: i32, y: i32) -> Changed
-    requires in_order { InOrder d.form }
-    requires valid_contents { ValidContents (contents_of d) }
     ensures { ChangedBy d (call.withdraw (record { x = x; y = y })) result }
 {
     match locate(x, y) {
-        Located::OutOfRange => refuse(d, 9),
-        Located::At(k) => withdraw_at(d, k),
+        None => refuse(d, Refusal::NotThere),
+        Some(k) => withdraw_at(d, k),
     }
 }
 
 // One round. Returns the deck that follows, and the reply: finished, or the new Steiner point with the fall in length.
-pub fn round(d: WorkingDeck) -> Changed
-    requires in_order { InOrder d.form }
+pub fn round(mut d: WorkingDeck) -> Changed
     requires valid_contents { ValidContents (contents_of d) }
     ensures { ChangedBy d call.one_round result }
 {
-    let t = rounds::round_of(d.form, d.tail);
-    let form = t.working;
-    let step = t.step;
-    let kinds = d.kinds;
-    let tail = d.tail;
-    Changed {
-        working: WorkingDeck { form, kinds, tail },
-        reply: reply_of(step),
+    match rounds::round_of(d.form, d.tail) {
+        None => Changed {
+            working: d,
+            reply: Reply::Finished,
+        },
+        Some(next) => {
+            d.form = next.working;
+            Changed {
+                working: d,
+                reply: Reply::Tap(next.x, next.y, next.fall),
+            }
+        }
     }
 }
 
 // Rounds until one is finished. Returns the deck that they lead to, and how many added a Steiner point.
-pub fn run_to_end(d: WorkingDeck) -> Changed
-    requires in_order { InOrder d.form }
+pub fn run_to_end(mut d: WorkingDeck) -> Changed
     requires valid_contents { ValidContents (contents_of d) }
     ensures { ChangedBy d call.run_to_end result }
 {
-    let e = rounds::finish_of(d.form, d.tail);
-    let form = e.working;
-    let kinds = d.kinds;
+    let end = rounds::finish_of(d.form, d.tail);
+    d.form = end.working;
     Changed {
-        working: WorkingDeck {
-            form,
-            kinds,
-            tail: d.tail,
-        },
-        reply: Reply::Rounds(e.count),
+        working: d,
+        reply: Reply::Rounds(end.count),
     }
 }
 
 // Sets the tail length. Returns the deck with that tail, and the reply: done, or refusal 16.
-pub fn set_tail(d: WorkingDeck, tail: u32) -> Changed
-    requires { InOrder d.form }
+pub fn set_tail(mut d: WorkingDeck, tail: u32) -> Changed
     ensures { ChangedBy d (call.set_tail tail) result }
 {
-    let given = tail as u64;
-    if LONGEST_TAIL < given {
-        return refuse(d, 16);
+    let tail = u64::from(tail);
+    if LONGEST_TAIL < tail {
+        return refuse(d, Refusal::LongTail);
     }
-    let form = d.form;
-    let kinds = d.kinds;
+    d.tail = tail;
     Changed {
-        working: WorkingDeck {
-            form,
-            kinds,
-            tail: given,
-        },
+        working: d,
         reply: Reply::Done,
     }
 }

@@ -20,7 +20,7 @@ use Rattle.arrays.proofs.Test.{and_parts, and_both, by_test}
 use Rattle.plane.specs.Point.{Point, point, lower, Lower, coordinate_in_range, in_range}
 use Rattle.plane.specs.Coordinate.{stored_limit}
 use Rattle.plane.specs.Code.{x_of, located}
-use Rattle.plane.specs.declared.codes.Located.TheVariants.{At}
+use Rattle.std.specs.Prelude.{Some}
 use Rattle.plane.proofs.Stored.{coordinate-stored}
 use Rattle.plane.proofs.codes.Points.{located_is, code-small}
 use Rattle.plane.proofs.Range.{dist_range}
@@ -38,14 +38,14 @@ use Rattle.score.specs.Prepared.{spared_by}
 use Rattle.search.specs.declared.found.Greatest.{Greatest}
 use Rattle.search.specs.Search.{tried, try_all, greatest_at, nothing_found}
 use Rattle.search.proofs.Scan.{try_from}
-use Rattle.columns.specs.declared.Choice.TheVariants as choice
+use Rattle.std.specs.Prelude.{Some, None}
 use Rattle.columns.specs.Column.{candidates_at, most_saving, answer_for, column_answer}
 use Rattle.columns.specs.Found.{choice_of, choice_found}
 use Rattle.columns.proofs.InColumn.{candidates_at_lem}
 use Rattle.columns.proofs.Claims.{ChoiceAt, none_there, chosen-there, choice_at, columns}
 
 -- The x of a code that was located is in range.
-pub located-small : (p : Point) {k : ℕ} → located p ≡ At k → {u : ℕ} → u ≡ x_of k → u ≤ stored_limit
+pub located-small : (p : Point) {k : ℕ} → located p ≡ Some k → {u : ℕ} → u ≡ x_of k → u ≤ stored_limit
 located-small p {k} e is = omega (arith, is, code-small k (located_is p k e).1)
 
 -- The search from a point found finds a point.
@@ -93,7 +93,7 @@ module _ (tail : ℕ) (s : State) (placed : Placed s) where
         let ins = and_parts (coordinate_in_range c.x) (coordinate_in_range c.y) r in
         let x = coordinate-stored c.x ins.0 in
         let y = coordinate-stored c.y ins.1 in
-        λ i. choice.Candidate (x i) (y i) (saving_is i)
+        λ i. Some (record { x = x i; y = y i; saving = saving_is i })
 
   try_any : (l : List Point) → ((c : Point) → Memᴰ c l → Candidate ps c)
       → try_all ps nothing_found l ≡ found_from (most_saving tail (tree_length_with tail ps) ps l)
@@ -116,7 +116,7 @@ module _ (tail : ℕ) (s : State) (placed : Placed s) where
       go (chosen-there c h) = choice_is c h.candidate
 
   -- No candidate is out of range.
-  pub out-column : (x : ℤ) → in_range (point x (pos 0)) ≡ false → choice.Nothing ≡ choice_of (column_answer tail ps x)
+  pub out-column : (x : ℤ) → in_range (point x (pos 0)) ≡ false → None ≡ choice_of (column_answer tail ps x)
   out-column x e =
       ap choice_of (sym (((columns tail ps).empty x).1 (λ d k ex.
       let in-x = (and_parts (coordinate_in_range d.x) (coordinate_in_range d.y) (candidate_range s placed d k)).0 in

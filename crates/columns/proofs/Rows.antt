@@ -7,11 +7,11 @@ use mathlib.Core.List.{List, [], ◌∷◌, map, Memᴰ}
 use Prim.Native.Nat.{ℕ, ◌+◌, ◌<◌}
 use native.Mathlib.Omega.{arith}
 use lib.Dec.{ltb}
-use lib.ListN.{length, take, set}
+use lib.ListN.{length, set}
 use Rattle.arrays.specs.Set.{has, passing}
 use Rattle.arrays.specs.Paste.{Pasted}
 use Rattle.arrays.proofs.paste.Parts.{pasted_none, pasted_one, pasted_same}
-use Rattle.arrays.proofs.paste.Lines.{each_to, each-passing}
+use Rattle.arrays.proofs.paste.Lines.{each_to, each_all, each-passing}
 use Rattle.plane.specs.Point.{Point, lower}
 use Rattle.plane.specs.Coordinate.{coordinate}
 use Rattle.plane.specs.Code.{packed}
@@ -39,9 +39,9 @@ free_are codes ps x (y ∷ rows) h = go (has ltb (packed x y) codes) refl (free_
 abbrev pub free_row : List ℕ → ℕ → ℕ → List ℕ
 free_row codes x y = passing (is_free codes x) (y ∷ [])
 
-pub rows-put : (codes : List ℕ) (x : ℕ) (rows : List ℕ) (count : ℕ) {before after : List ℕ} {at r : ℕ}
-    → Pasted (each_to (free_row codes x) rows count) before after at r → Pasted (passing (is_free codes x) (take count rows)) before after at r
-rows-put codes x rows count p = pasted_same (each-passing (is_free codes x) (take count rows)) p
+pub rows-put : (codes : List ℕ) (x : ℕ) (rows : List ℕ) {before after : List ℕ} {at r : ℕ}
+    → Pasted (each_to (free_row codes x) rows (length rows)) before after at r → Pasted (passing (is_free codes x) rows) before after at r
+rows-put codes x rows p = pasted_same (each_all (free_row codes x) rows ∙ each-passing (is_free codes x) rows) p
 
 -- One row put, where it is held and where it is free.
 module _ (codes : List ℕ) (x y k : ℕ) (is : k ≡ packed x y) (l : List ℕ) (at : ℕ) where

@@ -1,5 +1,5 @@
 -- The command of a name and the numbers behind it (SPEC 9.3, 9.5).
-use Rattle.std.specs.Prelude.{Bool, ◌&&◌, List, ℕ, ℤ, pos, negsuc}
+use Rattle.std.specs.Prelude.{Bool, ◌&&◌, List, ℕ, ℤ, pos, negsuc, Option, None, Some}
 use Rattle.std.specs.Int.Signed.{le_z}
 use Rattle.arrays.specs.Test.{if, if_natural}
 use Rattle.commands.specs.declared.Command.{Command}
@@ -9,7 +9,7 @@ use Rattle.commands.specs.declared.Query.TheVariants.{Length, Counts, Run, Degre
 use Rattle.commands.specs.declared.Direction.TheVariants.{Octant, Arrow, Glyph}
 use Rattle.commands.specs.declared.Command.TheVariants as command
 use Rattle.arguments.specs.declared.Arguments.{Arguments}
-use Rattle.arguments.specs.declared.Arguments.TheVariants.{Zero, One, Two, Three, Four, Five, Invalid}
+use Rattle.arguments.specs.declared.Arguments.TheVariants.{Zero, One, Two, Three, Four, Five}
 use Rattle.arrays.specs.Text.{bytes}
 use Rattle.arrays.specs.Same.{same_list}
 
@@ -39,11 +39,15 @@ with_size w n =
     (λ _. if (same_list w (bytes "run")) (λ _. Ask (Run n))
     (λ _. if (same_list w (bytes "tail")) (λ _. Call (Tail n)) (λ _. Error)))
 
--- A word and a number: `glyph N`, `column X`, and the commands with a size, which is not negative.
+-- A word and a size, which is not negative.
+unfoldable pub with_natural : List ℕ → ℤ → Command
+with_natural w = if_natural (with_size w) Error
+
+-- A word and a number: `glyph N`, `column X`, and the commands with a size.
 unfoldable pub with_number : List ℕ → ℤ → Command
 with_number w i =
     if (same_list w (bytes "glyph")) (λ _. Direct (Glyph i))
-    (λ _. if (same_list w (bytes "column")) (λ _. Ask (Column i)) (λ _. if_natural (with_size w) Error i))
+    (λ _. if (same_list w (bytes "column")) (λ _. Ask (Column i)) (λ _. with_natural w i))
 
 -- A word and two numbers: `add X Y`, which adds a sensor, `withdraw X Y`, `degree X Y`, `octant DX DY`.
 unfoldable pub with_pair : List ℕ → ℤ → ℤ → Command
@@ -68,18 +72,18 @@ unfoldable pub are_short : ℤ → ℤ → ℤ → ℤ → Bool
 are_short x y u v = (is_short x && is_short y) && (is_short u && is_short v)
 
 -- A word and five numbers: `arrow DISPLAYX DISPLAYY BAYX BAYY PITCH`, of which the first four are of 16 bits.
-unfoldable pub with_five : List ℕ → ℤ → ℤ → ℤ → ℤ → ℤ → Command
-with_five w x y u v pitch =
-    if (same_list w (bytes "arrow"))
-    (λ _. if (are_short x y u v) (λ _. Direct (Arrow x y u v pitch)) (λ _. Error))
-    (λ _. Error)
+unfoldable pub with_places : ℤ → ℤ → ℤ → ℤ → ℤ → Command
+with_places x y u v pitch = if (are_short x y u v) (λ _. Direct (Arrow x y u v pitch)) (λ _. Error)
 
--- A name and the numbers behind it; no name has four.
-unfoldable pub of_numbers : List ℕ → Arguments → Command
-of_numbers w Zero = of_one_word w
-of_numbers w (One i) = with_number w i
-of_numbers w (Two i j) = with_pair w i j
-of_numbers w (Three i j k) = with_three w i j k
-of_numbers w (Four i j k l) = Error
-of_numbers w (Five i j k l m) = with_five w i j k l m
-of_numbers w Invalid = Error
+unfoldable pub with_five : List ℕ → ℤ → ℤ → ℤ → ℤ → ℤ → Command
+with_five w x y u v pitch = if (same_list w (bytes "arrow")) (λ _. with_places x y u v pitch) (λ _. Error)
+
+-- A name and the numbers behind it, if they are numbers and five at most; no name has four.
+unfoldable pub of_numbers : List ℕ → Option Arguments → Command
+of_numbers w (Some Zero) = of_one_word w
+of_numbers w (Some (One i)) = with_number w i
+of_numbers w (Some (Two i j)) = with_pair w i j
+of_numbers w (Some (Three i j k)) = with_three w i j k
+of_numbers w (Some (Four i j k l)) = Error
+of_numbers w (Some (Five i j k l m)) = with_five w i j k l m
+of_numbers w None = Error

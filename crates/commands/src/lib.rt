@@ -2,11 +2,10 @@
 #![tactic(auto)]
 
 ghost use Rattle.std.specs.Prelude.{◌≡◌};
-ghost use Rattle.commands.specs.Commands.{of_numbers, of_one_word, with_number, with_size, with_pair, with_three};
-ghost use Rattle.commands.specs.Commands.{question_word, with_kind, is_short, are_short, with_five};
+ghost use Rattle.commands.specs.Commands.{of_numbers, of_one_word, with_number, with_natural, with_size, with_pair, with_three};
+ghost use Rattle.commands.specs.Commands.{question_word, with_kind, with_places, with_five};
 
 use arguments::Arguments;
-use arrays::same::same_bytes;
 
 // A call that changes the deck.
 #[derive(Clone, Copy)]
@@ -38,6 +37,7 @@ pub enum Direction {
     Glyph(i32),
 }
 
+// Stays: an Option of a command is no plainer, since a blank line and an error stand beside the commands (Names in script/specs/Claim.antt).
 // What a line asks for: nothing, as it is empty or a comment; no command; a file to read, which `bytes_of` gives; a file to write,
 // into so many bytes; a call; a question on the deck; a question on directions; the listing.
 #[derive(Clone, Copy)]
@@ -56,157 +56,146 @@ pub enum Command {
 pub const LONGEST_FILE: u32 = 856;
 
 // The kind of a device where a line names none: a sensor.
+// Stays: a number, since a script may ask for any kind, and `add` refuses it (15).
 const SENSOR: u32 = 0;
 
-// The smallest and the largest number of 16 bits.
-const SMALLEST_SHORT: i32 = -32768;
-
-const LARGEST_SHORT: i32 = 32767;
-
 // Returns the command of a name and the numbers behind it.
-pub fn of_numbers(name: &[u8], a: Arguments) -> Command
+#[tactic(auto, unfolding(crate::specs::Commands::of_numbers))]
+pub fn of_numbers(name: &[u8], a: Option<Arguments>) -> Command
     ensures { result ≡ of_numbers name.now a }
 {
     match a {
-        Arguments::Zero => by_name(name),
-        Arguments::One(i) => with_number(name, i),
-        Arguments::Two(i, j) => with_pair(name, i, j),
-        Arguments::Three(i, j, k) => with_three(name, i, j, k),
-        Arguments::Four(i, j, k, l) => Command::Error,
-        Arguments::Five(i, j, k, l, m) => with_five(name, i, j, k, l, m),
-        Arguments::Invalid => Command::Error,
+        Some(Arguments::Zero) => by_name(name),
+        Some(Arguments::One(i)) => with_number(name, i),
+        Some(Arguments::Two(i, j)) => with_pair(name, i, j),
+        Some(Arguments::Three(i, j, k)) => with_three(name, i, j, k),
+        Some(Arguments::Five(i, j, k, l, m)) => with_five(name, i, j, k, l, m),
+        Some(Arguments::Four(..)) | None => Command::Error,
     }
 }
 
 // The command of one word.
+#[tactic(auto, using(crate::proofs::Tests::compared), unfolding(crate::specs::Commands::of_one_word))]
 fn by_name(name: &[u8]) -> Command
     ensures { result ≡ of_one_word name.now }
 {
-    if same_bytes(name, b"write") {
-        return Command::Write(LONGEST_FILE);
+    match name {
+        b"write" => Command::Write(LONGEST_FILE),
+        b"round" => Command::Call(Change::Round),
+        b"finish" => Command::Call(Change::Finish),
+        b"list" => Command::List,
+        _ => question_word(name),
     }
-    if same_bytes(name, b"round") {
-        return Command::Call(Change::Round);
-    }
-    if same_bytes(name, b"finish") {
-        return Command::Call(Change::Finish);
-    }
-    if same_bytes(name, b"list") {
-        return Command::List;
-    }
-    question_word(name)
 }
 
 // The question of one word.
+#[tactic(auto, using(crate::proofs::Tests::compared), unfolding(crate::specs::Commands::question_word))]
 fn question_word(name: &[u8]) -> Command
     ensures { result ≡ question_word name.now }
 {
-    if same_bytes(name, b"length") {
-        return Command::Ask(Query::Length);
+    match name {
+        b"length" => Command::Ask(Query::Length),
+        b"counts" => Command::Ask(Query::Counts),
+        b"kinds" => Command::Ask(Query::Kinds),
+        _ => Command::Error,
     }
-    if same_bytes(name, b"counts") {
-        return Command::Ask(Query::Counts);
-    }
-    if same_bytes(name, b"kinds") {
-        return Command::Ask(Query::Kinds);
-    }
-    Command::Error
 }
 
 // The command of a word and one number.
+#[tactic(auto, using(crate::proofs::Tests::compared), unfolding(crate::specs::Commands::with_number))]
 fn with_number(name: &[u8], i: i32) -> Command
     ensures { result ≡ with_number name.now i }
 {
-    if same_bytes(name, b"glyph") {
-        return Command::Direct(Direction::Glyph(i));
+    match name {
+        b"glyph" => Command::Direct(Direction::Glyph(i)),
+        b"column" => Command::Ask(Query::Column(i)),
+        _ => with_natural(name, i),
     }
-    if same_bytes(name, b"column") {
-        return Command::Ask(Query::Column(i));
+}
+
+// The command of a word and one number, which is not negative.
+#[tactic(auto, unfolding(crate::specs::Commands::with_natural))]
+fn with_natural(name: &[u8], i: i32) -> Command
+    ensures { result ≡ with_natural name.now i }
+{
+    match u32::try_from(i) {
+        Ok(n) => with_size(name, n),
+        Err(_) => Command::Error,
     }
-    if i < 0 {
-        return Command::Error;
-    }
-    with_size(name, i as u32)
 }
 
 // The command of a word and a size.
+#[tactic(auto, using(crate::proofs::Tests::compared), unfolding(crate::specs::Commands::with_size))]
 fn with_size(name: &[u8], n: u32) -> Command
     ensures { result ≡ with_size name.now n }
 {
-    if same_bytes(name, b"write") {
-        return Command::Write(n);
+    match name {
+        b"write" => Command::Write(n),
+        b"run" => Command::Ask(Query::Run(n)),
+        b"tail" => Command::Call(Change::Tail(n)),
+        _ => Command::Error,
     }
-    if same_bytes(name, b"run") {
-        return Command::Ask(Query::Run(n));
-    }
-    if same_bytes(name, b"tail") {
-        return Command::Call(Change::Tail(n));
-    }
-    Command::Error
 }
 
 // The command of a word and two numbers.
+#[tactic(auto, using(crate::proofs::Tests::compared), unfolding(crate::specs::Commands::with_pair))]
 fn with_pair(name: &[u8], i: i32, j: i32) -> Command
     ensures { result ≡ with_pair name.now i j }
 {
-    if same_bytes(name, b"add") {
-        return Command::Call(Change::Add(i, j, SENSOR));
+    match name {
+        b"add" => Command::Call(Change::Add(i, j, SENSOR)),
+        b"withdraw" => Command::Call(Change::Withdraw(i, j)),
+        b"degree" => Command::Ask(Query::Degree(i, j)),
+        b"octant" => Command::Direct(Direction::Octant(i, j)),
+        _ => Command::Error,
     }
-    if same_bytes(name, b"withdraw") {
-        return Command::Call(Change::Withdraw(i, j));
-    }
-    if same_bytes(name, b"degree") {
-        return Command::Ask(Query::Degree(i, j));
-    }
-    if same_bytes(name, b"octant") {
-        return Command::Direct(Direction::Octant(i, j));
-    }
-    Command::Error
 }
 
 // The command `add` with a kind, which is not negative.
+#[tactic(auto, unfolding(crate::specs::Commands::with_kind))]
 fn with_kind(x: i32, y: i32, kind: i32) -> Command
     ensures { result ≡ with_kind x y kind }
 {
-    if kind < 0 {
-        return Command::Error;
+    match u32::try_from(kind) {
+        Ok(kind) => Command::Call(Change::Add(x, y, kind)),
+        Err(_) => Command::Error,
     }
-    Command::Call(Change::Add(x, y, kind as u32))
 }
 
 // The command of a word and three numbers.
+#[tactic(auto, using(crate::proofs::Tests::compared), unfolding(crate::specs::Commands::with_three))]
 fn with_three(name: &[u8], x: i32, y: i32, kind: i32) -> Command
     ensures { result ≡ with_three name.now x y kind }
 {
-    if same_bytes(name, b"add") {
-        return with_kind(x, y, kind);
+    match name {
+        b"add" => with_kind(x, y, kind),
+        _ => Command::Error,
     }
-    Command::Error
 }
 
-// Whether 16 bits hold a number.
-fn is_short(z: i32) -> bool
-    ensures { result ≡ is_short z }
+// The command `arrow` with places of 16 bits and a pitch.
+#[tactic(auto, unfolding(crate::specs::Commands::with_places, crate::specs::Commands::are_short, crate::specs::Commands::is_short))]
+fn with_places(x: i32, y: i32, u: i32, v: i32, pitch: i32) -> Command
+    ensures { result ≡ with_places x y u v pitch }
 {
-    (SMALLEST_SHORT <= z) & (z <= LARGEST_SHORT)
-}
-
-// Whether 16 bits hold each of four numbers.
-fn are_short(x: i32, y: i32, u: i32, v: i32) -> bool
-    ensures { result ≡ are_short x y u v }
-{
-    (is_short(x) & is_short(y)) & (is_short(u) & is_short(v))
+    match (
+        i16::try_from(x),
+        i16::try_from(y),
+        i16::try_from(u),
+        i16::try_from(v),
+    ) {
+        (Ok(x), Ok(y), Ok(u), Ok(v)) => Command::Direct(Direction::Arrow(x, y, u, v, pitch)),
+        _ => Command::Error,
+    }
 }
 
 // The command of a word and five numbers.
+#[tactic(auto, using(crate::proofs::Tests::compared), unfolding(crate::specs::Commands::with_five))]
 fn with_five(name: &[u8], x: i32, y: i32, u: i32, v: i32, pitch: i32) -> Command
     ensures { result ≡ with_five name.now x y u v pitch }
 {
-    if !same_bytes(name, b"arrow") {
-        return Command::Error;
+    match name {
+        b"arrow" => with_places(x, y, u, v, pitch),
+        _ => Command::Error,
     }
-    if !are_short(x, y, u, v) {
-        return Command::Error;
-    }
-    Command::Direct(Direction::Arrow(x as i16, y as i16, u as i16, v as i16, pitch))
 }

@@ -1,3 +1,3 @@
 -- What the proofs of `search_all`, `greatest_in_column` and `best` use, and those of the rounds and of one column.
 pub mod Candidates
-pub mod Sum
+pub mod First

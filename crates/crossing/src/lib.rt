@@ -1,11 +1,11 @@
 // The best crossing of a round: of the candidates (SPEC 4.4) the lowest that makes the tree shortest, if it makes it shorter at all; and that of one column.
 //
-// The points are the first n of two slices of stored coordinates, lower first, and the keys of their tree the first m of `keys`.
+// The points are two slices of stored coordinates, lower first, and `keys` has the keys of their tree.
 #![tactic(auto)]
 
 pub mod prepare;
 
-ghost use Rattle.std.specs.Prelude.{◌≡◌, map, ◌≤◌, ◌<◌, take};
+ghost use Rattle.std.specs.Prelude.{◌≡◌, map, ◌≤◌, ◌<◌, length};
 ghost use Rattle.plane.specs.Coordinate.{coordinate};
 ghost use Rattle.model.specs.Tail.{longest_tail};
 ghost use Rattle.model.specs.Round as round;
@@ -14,82 +14,77 @@ ghost use Rattle.search.specs.Search.{TreeGiven, points_of, answer_of, try_all, 
 
 use plane::PLACES;
 use prepare::{lines, prepare};
+use regions::nearest::Points;
 use regions::rows::blank;
 use score::gain::FAR;
-use search::found::{Best, Greatest};
+use search::found::{Crossing, Greatest};
 use search::{all_columns, column};
 
 // The best crossing of a tree of at least one point, by the search over all crossings. A crossing brings one run more, with its two tails, and has to
 // spare them too: that is the bar that the search starts from.
-fn search_all(xs: &[u16], ys: &[u16], n: usize, keys: &[u64], m: usize, tail: u64) -> Best
-    requires { TreeGiven xs.now ys.now n keys.now m × (0 < n) × (tail ≤ longest_tail) }
-    ensures { result ≡ answer_of (round.best tail (points_of xs.now ys.now n)) }
+fn search_all(xs: &[u16], ys: &[u16], keys: &[u64], tail: u64) -> Option<Crossing>
+    requires { TreeGiven xs.now ys.now keys.now × (0 < length xs.now) × (tail ≤ longest_tail) }
+    ensures { result ≡ answer_of (round.best tail (points_of xs.now ys.now)) }
 {
     let mut columns = [0u16; PLACES];
-    let width = lines(xs, n, &mut columns);
-    let mut rows = [0u16; PLACES];
-    let count = lines(ys, n, &mut rows);
+    let width = lines(xs, &mut columns);
+    let mut lines_of_rows = [0u16; PLACES];
+    let count = lines(ys, &mut lines_of_rows);
+    let rows = &lines_of_rows[..count];
     let mut table = blank();
     let mut gaps = blank();
     let mut ranks = [0usize; PLACES];
-    prepare(
-        xs, ys, n, keys, m, &rows, count, &mut table, &mut gaps, &mut ranks,
-    );
-    all_columns(
+    prepare(xs, ys, keys, rows, &mut table, &mut gaps, &mut ranks);
+    let points = Points {
         xs,
-        n,
-        &table,
-        &gaps,
-        &ranks,
-        &columns,
-        width,
-        &rows,
-        count,
-        Greatest {
-            gain: FAR + 2 * tail,
-            best: Best::Nothing,
-        },
-    )
-    .best
+        gaps: &gaps,
+        ranks: &ranks,
+        rows,
+    };
+    let bar = Greatest {
+        gain: FAR + 2 * tail,
+        best: None,
+    };
+    all_columns(&points, &table, &columns[..width], bar).best
 }
 
-// Returns the crossing of x with one of the first `count` rows that has the greatest gain, the lowest of several, with that gain; nothing where there is no
+// Returns the crossing of x with one of the rows that has the greatest gain, the lowest of several, with that gain; none where there is no
 // row. Every crossing gains more than 0, so that one is found whatever it saves.
-pub fn greatest_in_column(
-    xs: &[u16],
+pub fn greatest_in_column<'a>(
+    xs: &'a [u16],
     ys: &[u16],
-    n: usize,
     keys: &[u64],
-    m: usize,
     x: u16,
-    rows: &[u16],
-    count: usize,
+    rows: &'a [u16],
 ) -> Greatest
-    requires { TreeGiven xs.now ys.now n keys.now m × (0 < n) × RowsGiven rows.now count }
-    ensures value { result ≡ try_all (points_of xs.now ys.now n) nothing_found
-        (round.column (coordinate x) (map coordinate (take count rows.now))) }
+    requires { TreeGiven xs.now ys.now keys.now × (0 < length xs.now) × RowsGiven rows.now }
+    ensures value { result ≡ try_all (points_of xs.now ys.now) nothing_found (round.column (coordinate x) (map coordinate rows.now)) }
     ensures gain_le_most_gain { result.gain ≤ most_gain }
 {
     let mut table = blank();
     let mut gaps = blank();
     let mut ranks = [0usize; PLACES];
-    prepare(
-        xs, ys, n, keys, m, rows, count, &mut table, &mut gaps, &mut ranks,
-    );
+    prepare(xs, ys, keys, rows, &mut table, &mut gaps, &mut ranks);
+    let points = Points {
+        xs,
+        gaps: &gaps,
+        ranks: &ranks,
+        rows,
+    };
     let start = Greatest {
         gain: 0,
-        best: Best::Nothing,
+        best: None,
     };
-    column(xs, n, &table, &gaps, &ranks, x, rows, count, start)
+    column(&points, &table, x, start)
 }
 
-// Returns the crossing with the greatest saving, the lowest of several, or that none saves more than 0, with tails.
-pub fn best(xs: &[u16], ys: &[u16], n: usize, keys: &[u64], m: usize, tail: u64) -> Best
-    requires { TreeGiven xs.now ys.now n keys.now m × (tail ≤ longest_tail) }
-    ensures { result ≡ answer_of (round.best tail (points_of xs.now ys.now n)) }
+// Returns the crossing with the greatest saving, the lowest of several, or none where none saves more than 0, with tails.
+pub fn best(xs: &[u16], ys: &[u16], keys: &[u64], tail: u64) -> Option<Crossing>
+    requires { TreeGiven xs.now ys.now keys.now × (tail ≤ longest_tail) }
+    ensures { result ≡ answer_of (round.best tail (points_of xs.now ys.now)) }
 {
-    if n == 0 {
-        return Best::Nothing;
+    if xs.is_empty() {
+        return None;
     }
-    search_all(xs, ys, n, keys, m, tail)
+    search_all(xs, ys, keys, tail)
 }

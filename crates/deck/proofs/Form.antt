@@ -6,7 +6,7 @@ use lib.Dec.{T, eqb, eqb→eq, eqb_refl}
 use lib.ListN.{length, take}
 use Rattle.arrays.specs.Same.{same_list}
 use Rattle.arrays.proofs.Test.{and_parts, and_both}
-use Rattle.arrays.proofs.same.Alike.{same_refl, same_eq}
+use Rattle.arrays.proofs.Alike.{same_refl, same_eq}
 use Rattle.model.specs.State.{max_pins}
 use Rattle.model.specs.Contents.{Contents, with_kinds, with_tail, ValidContents, valid_contents}
 use Rattle.model.proofs.DeviceKinds.{valid_contents_is}

@@ -1,6 +1,5 @@
 // Check 11: whether a deck is sound, with the deck in working form where it is.
-ghost use Rattle.std.specs.Prelude.{◌≡◌, Bool, ◌&&◌, ◌≤◌, take};
-ghost use Rattle.arrays.specs.Same.{same_list};
+ghost use Rattle.std.specs.Prelude.{◌≡◌, ◌↔◌, ◌≤◌, IsTrue, take};
 ghost use Rattle.arrays.specs.Set.{all};
 ghost use Rattle.model.specs.State.{max_pins};
 ghost use Rattle.model.specs.DeviceKinds.{is_kind};
@@ -16,114 +15,67 @@ use points::kinds::{LARGEST_KIND, all_within, in_front};
 use working::Working;
 use working::deck::{LONGEST_TAIL, WorkingDeck};
 
-// Whether points are those of a valid state, with their working form where they are.
-#[derive(Clone, Copy)]
-pub struct Formed {
-    pub ok: bool,
-    pub form: Working,
-}
-
-// Whether a deck is sound, with the deck in working form where it is.
-#[derive(Clone, Copy)]
-pub struct Checked {
-    pub ok: bool,
-    pub working: WorkingDeck,
-}
-
-// Whether the first n kinds of a deck are kinds.
-fn knows_kinds(d: Deck, n: usize) -> bool
-    requires { n ≤ max_pins }
-    ensures { result ≡ all is_kind (take n d.kinds) }
+// Whether the kinds of a deck's pins are kinds.
+fn knows_kinds(d: &Deck) -> bool
+    requires { d.now.points.npins ≤ max_pins }
+    ensures { result ≡ all is_kind (take d.now.points.npins d.now.kinds) }
 {
-    let kinds = d.kinds;
-    all_within(&kinds[..n], LARGEST_KIND)
+    all_within(&d.kinds[..d.points.npins], LARGEST_KIND)
 }
 
 // Whether the kinds and the ends of two decks are the same in every place.
-fn same_rest(d: Deck, e: Deck) -> bool
-    ensures { result ≡ same_list d.kinds e.kinds && same_list d.ends e.ends }
+fn same_rest(d: &Deck, e: &Deck) -> bool
+    ensures { IsTrue result ↔ ((d.now.kinds ≡ e.now.kinds) × (d.now.ends ≡ e.now.ends)) }
 {
-    let kinds = d.kinds;
-    let other_kinds = e.kinds;
-    let ends = d.ends;
-    let other_ends = e.ends;
-    arrays::same::same_bytes(&kinds, &other_kinds) & arrays::same::same_numbers(&ends, &other_ends)
+    d.kinds == e.kinds && d.ends == e.ends
 }
 
-// Returns the deck of a deck in working form.
-pub fn deck_of(w: WorkingDeck) -> Deck
-    requires { work.InOrder w.form }
-    ensures { result ≡ deck_of (workingDeck.contents_of w) }
-{
-    let all = w.kinds;
-    let ends = edge_numbers(w.form);
-    let points = w.form.points;
-    let kinds = in_front(&all[..points.npins]);
-    Deck {
-        points,
-        kinds,
-        tail: w.tail,
-        ends,
+// The deck of a deck in working form.
+impl From<WorkingDeck> for Deck {
+    ghost from_gives = { λ w d. d ≡ deck_of (workingDeck.contents_of w) };
+
+    fn from(w: WorkingDeck) -> Deck {
+        let points = w.form.points;
+        let kinds = in_front(&w.kinds[..points.npins]);
+        let ends = edge_numbers(w.form);
+        Deck {
+            points,
+            kinds,
+            tail: w.tail,
+            ends,
+        }
     }
 }
 
-// The answer for points that are not those of a valid state; their working form means nothing.
-fn no_form() -> Formed
-    ensures { result.ok ≡ Bool.false }
-{
-    Formed {
-        ok: false,
-        form: working::arrange(Points::empty()),
-    }
-}
-
-// Returns whether the points are those of a valid state, and then their working form.
-pub fn form_of(q: Points) -> Formed
+// Returns the working form of points, none where they are not those of a valid state.
+pub fn form_of(q: Points) -> Option<Working>
     ensures { Forms (valid_points q) q result }
 {
     if !points::check::is_arranged(q) {
-        return no_form();
+        return None;
     }
     let w = working::arrange(q);
     if prune::lowest_weak(w) < w.points.nsteiner {
-        return no_form();
+        return None;
     }
-    Formed { ok: true, form: w }
+    Some(w)
 }
 
-// The answer for a deck that is not sound; the deck in it means nothing.
-fn unsound() -> Checked
-    ensures { result.ok ≡ Bool.false }
-{
-    Checked {
-        ok: false,
-        working: working::deck::empty(),
-    }
-}
-
-// Check 11: returns whether the deck is that of valid contents, places that are not used included, and then the deck in working form.
-pub fn check(d: Deck) -> Checked
+// Check 11: returns the deck in working form where it is that of valid contents, places that are not used included; none where it is not.
+pub fn check(d: Deck) -> Option<WorkingDeck>
     ensures { Checks (sound d) d result }
 {
     if LONGEST_TAIL < d.tail {
-        return unsound();
+        return None;
     }
-    let f = form_of(d.points);
-    if !f.ok {
-        return unsound();
+    let form = form_of(d.points)?;
+    if !knows_kinds(&d) {
+        return None;
     }
-    if !knows_kinds(d, d.points.npins) {
-        return unsound();
-    }
-    let form = f.form;
-    let kinds = d.kinds;
-    let tail = d.tail;
+    let Deck { kinds, tail, .. } = d;
     let w = WorkingDeck { form, kinds, tail };
-    if !same_rest(d, deck_of(w)) {
-        return unsound();
+    if !same_rest(&d, &Deck::from(w)) {
+        return None;
     }
-    Checked {
-        ok: true,
-        working: w,
-    }
+    Some(w)
 }

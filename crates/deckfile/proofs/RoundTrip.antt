@@ -1,11 +1,12 @@
 -- The claims on files: each follows from the model's, since a deck read is that of the contents read, and a deck written is sound.
 use mathlib.Core.Path.{◌≡◌, refl, sym, ap, ◌∙◌, subst, subst⁻¹}
-use mathlib.Core.Logic.{◌⊎◌, inl, inr, ⊎_elim}
+use mathlib.Core.Logic.{inl, inr, ⊎_elim}
 use mathlib.Core.Bool.{Bool, true, false, not}
 use mathlib.Core.List.{List, ◌++◌}
 use Prim.Native.Nat.{ℕ, ◌≤◌}
 use native.Mathlib.Omega.{arith}
 use lib.Dec.{T, not_T, leb, leb→le, eqb, eqb→eq}
+use Rattle.std.specs.Prelude.{Result, Ok, Err}
 use lib.ListN.{length, take, drop}
 use lib.Seq.{take_at}
 use Rattle.arrays.specs.Test.{if}
@@ -28,7 +29,6 @@ use Rattle.deck.specs.declared.Outcome.{Outcome}
 use Rattle.calls.specs.declared.Reply.TheVariants as reply
 use Rattle.deck.specs.Form.{deck_of, contents_of, without_tail, Sound, sound}
 use Rattle.deck.proofs.Form.{contents-deck, deck-sound, sound_is, sound-arranged}
-use Rattle.deckfile.specs.declared.Written.TheVariants.{Refused, Length}
 use Rattle.deckfile.specs.Reading.{read_outcome, reading, accepted_deck}
 use Rattle.deckfile.specs.Writing.{written, buffer_after}
 use Rattle.deckfile.specs.RoundTrip.{ReadSound, ReadUntailed, SoundFits, WrittenRead, FullWrittenBack, PlainWrittenFull, SectionsWritten, WrittenSections}
@@ -85,12 +85,12 @@ pub record Wrote (d : Deck) (l : List ℕ) (n : ℕ) : Type 0 where
   pub count : n ≡ length (file_of (contents_of d))
   pub front : buffer_after d l ≡ file_of (contents_of d) ++ drop (length (file_of (contents_of d))) l
 
-pub wrote : (d : Deck) (l : List ℕ) (n : ℕ) → written d l ≡ Length n → Wrote d l n
+pub wrote : (d : Deck) (l : List ℕ) (n : ℕ) → written d l ≡ Ok n → Wrote d l n
 unfolding written buffer_after
 wrote d l n e = go (sound d) refl (leb (length (file_of (contents_of d))) (length l)) refl e
   where
     go : (x : Bool) → sound d ≡ x → (y : Bool) → leb (length (file_of (contents_of d))) (length l) ≡ y
-        → if x (λ _. if y (λ _. Length (length (file_of (contents_of d)))) (λ _. Refused 12)) (λ _. Refused 11) ≡ Length n → Wrote d l n
+        → ◌≡◌ {A = Result ℕ ℕ} (if x (λ _. if y (λ _. Ok (length (file_of (contents_of d)))) (λ _. Err 12)) (λ _. Err 11)) (Ok n) → Wrote d l n
     go true p true q r =
         let s : Sound d = (sound_is d).0 (subst⁻¹ T p tt) in
         record { sound = s; count = cc; front = (write-fits d l s (leb→le (length (file_of (contents_of d))) (length l) (subst⁻¹ T q tt))).1 }
@@ -125,7 +125,7 @@ full_back b d l h e full k =
     let same : file_of (contents_of d) ≡ b =
     ap file_of (from_contents b d v) ∙ full_written_back_lem b v.contents h v.read (⊎_elim inl (λ m. inr (from_few b d v m)) full) in
     let w = write-fits d l s (subst⁻¹ (λ (f : List ℕ). length f ≤ length l) same k) in
-    (w.0 ∙ ap (λ (f : List ℕ). Length (length f)) same, w.1 ∙ ap (λ (f : List ℕ). f ++ drop (length f) l) same)
+    (w.0 ∙ ap (λ (f : List ℕ). Ok (length f)) same, w.1 ∙ ap (λ (f : List ℕ). f ++ drop (length f) l) same)
 
 -- The file of two pins or more has edges.
 not_plain : (c : Contents) → ValidContents c → 2 ≤ length c.state.pins → T (not (plain (file_of c)))

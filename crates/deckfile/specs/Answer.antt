@@ -1,11 +1,9 @@
 -- What an entry for other programs answers, and what it leaves in the caller's buffer, by the model alone: a deck is read, a list of
 -- calls is made on it, and it is written.
-use Rattle.std.specs.Prelude.{◌≡◌, List, ◌++◌, ℕ, ◌≤◌, ◌<◌, length, drop}
+use Rattle.std.specs.Prelude.{◌≡◌, List, ◌++◌, ℕ, Result, Ok, Err, ◌≤◌, ◌<◌, length, drop}
 use Rattle.model.specs.Contents.{Contents}
 use Rattle.model.specs.Call.{Call, contents_after}
 use Rattle.model.specs.File.{Read, deck, refusal, file_of}
-use Rattle.deckfile.specs.declared.Written.{Written}
-use Rattle.deckfile.specs.declared.Written.TheVariants.{Refused, Length}
 use Rattle.deckfile.specs.Writing.{stored}
 
 -- A deck read, changed by calls and written into the buffer l: what `refused` says of the refusal, or `done` of the file.
@@ -22,9 +20,9 @@ abbrev pub answer_buffer : Read → List Call → List ℕ → List ℕ
 answer_buffer r calls l = read_and_written r calls l (λ _. l) (λ file. file ++ drop (length file) l)
 
 -- What writing answers, as one number: the length written, or the refusal's number.
-unfoldable pub written_number : Written → ℕ
-written_number (Refused n) = n
-written_number (Length n) = n
+unfoldable pub written_number : Result ℕ ℕ → ℕ
+written_number (Err n) = n
+written_number (Ok n) = n
 
 -- The claim on an entry (SPEC 10), for every start (a file read, or no file), every list of calls and every buffer.
 pub record Entered (r : Read) (calls : List Call) (l : List ℕ) : Type 0 where

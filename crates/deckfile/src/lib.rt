@@ -8,20 +8,20 @@ mod reader;
 ghost use Rattle.std.specs.Prelude.{◌≡◌};
 ghost use Rattle.model.specs.Contents.{ValidContents};
 ghost use Rattle.model.specs.File.{read_file};
-ghost use Rattle.working.specs.InOrder.{InOrder};
 ghost use Rattle.working.specs.WorkingDeck.{contents_of};
 ghost use Rattle.deckfile.specs.Reading.{reading};
 ghost use Rattle.deckfile.specs.ReadWorking.{ReadTo};
 ghost use Rattle.deckfile.specs.Writing.{stored_answer, stored_buffer, written, buffer_after};
 
-use calls::Changed;
-use deck::changes::outcome_of;
+use calls::Reply;
 use deck::check::check;
 use deck::{Deck, Outcome};
 use header::{PINS, POINT_SIZE, is_headed, is_laid_out, is_whole, size};
 use points::MAX_PINS;
 use reader::{refuse, working_of_file};
+use refusals::Refusal;
 use sections::codes::decode_points;
+use sections::file::FileBytes;
 use working::deck::WorkingDeck;
 use writer::{file_length, put_file};
 
@@ -31,68 +31,66 @@ pub const LONGEST: usize = header::LONGEST;
 // Room to read a file: one byte more, so that a longer one is seen.
 pub const READ_ROOM: usize = LONGEST + 1;
 
-// What writing answers: a refusal by its number, or the length of the file.
-#[derive(Clone, Copy)]
-pub enum Written {
-    Refused(u8),
-    Length(usize),
-}
-
-// Reads a file. Returns its deck in working form and the reply: done, or a refusal, in the order 1 to 6 and 15, with an empty deck.
+// Reads a file. Returns its deck in working form, or the number of the refusal, in the order 1 to 6 and 15.
 #[inline(never)]
-pub fn read_working(file: &[u8]) -> Changed
+pub fn read_working(file: &[u8]) -> Result<WorkingDeck, u8>
     ensures { ReadTo (read_file file.now) result }
 {
     if !is_headed(file) {
-        return refuse(1);
+        return refuse(Refusal::NotADeckFile);
     }
     if !is_laid_out(file) {
-        return refuse(2);
+        return refuse(Refusal::WrongLayout);
     }
     if !is_whole(file) {
-        return refuse(3);
+        return refuse(Refusal::CutSection);
     }
     if MAX_PINS < size(file, PINS) / POINT_SIZE {
-        return refuse(4);
+        return refuse(Refusal::TooManyPins);
     }
-    let found = decode_points(file);
-    if !found.ok {
-        return refuse(5);
-    }
-    working_of_file(file, found)
+    let checked = FileBytes { bytes: file };
+    let Some(found) = decode_points(&checked) else {
+        return refuse(Refusal::BadPoints);
+    };
+    working_of_file(&checked, &found)
 }
 
 // Reads a file. Returns its deck and the reply: done, or a refusal, in the order 1 to 6 and 15, with an empty deck.
 pub fn read(file: &[u8]) -> Outcome
     ensures { result ≡ reading file.now }
 {
-    outcome_of(read_working(file))
+    match read_working(file) {
+        Ok(working) => Outcome {
+            next: Deck::from(working),
+            reply: Reply::Done,
+        },
+        Err(n) => Outcome {
+            next: Deck::empty(),
+            reply: Reply::Refused(n),
+        },
+    }
 }
 
 // Writes the file of a deck in working form to the front of a buffer. Returns its length, or refusal 12 where there is no room; a refusal
 // keeps every byte.
-pub fn write_working(w: WorkingDeck, out: &mut [u8]) -> Written
-    requires in_order { InOrder w.form }
-    requires valid_contents { ValidContents (contents_of w) }
+pub fn write_working(w: WorkingDeck, out: &mut [u8]) -> Result<usize, u8>
+    requires { ValidContents (contents_of w) }
     ensures value { result ≡ stored_answer (contents_of w) out.old }
     ensures out_after { out.new ≡ stored_buffer (contents_of w) out.old }
 {
-    let n = file_length(w);
-    if out.len() < n {
-        return Written::Refused(12);
+    if out.len() < file_length(w) {
+        return Err(u8::from(Refusal::NoRoom));
     }
-    put_file(w, out);
-    Written::Length(n)
+    Ok(put_file(w, out))
 }
 
 // Writes the file of a deck to the front of a buffer. Returns its length, or a refusal, in the order 11, 12; a refusal keeps every byte.
-pub fn write(d: Deck, out: &mut [u8]) -> Written
+pub fn write(d: Deck, out: &mut [u8]) -> Result<usize, u8>
     ensures value { result ≡ written d out.old }
     ensures out_after { out.new ≡ buffer_after d out.old }
 {
-    let c = check(d);
-    if !c.ok {
-        return Written::Refused(11);
-    }
-    write_working(c.working, out)
+    let Some(w) = check(d) else {
+        return Err(u8::from(Refusal::NotSound));
+    };
+    write_working(w, out)
 }

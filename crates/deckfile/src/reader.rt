@@ -1,69 +1,52 @@
 // The deck in working form that a file shows: checks 6 and 15.
-ghost use Rattle.std.specs.Prelude.{◌≡◌, ◌*◌, ◌≤◌, T, length};
+ghost use Rattle.std.specs.Prelude.{◌≡◌, ◌*◌, ◌≤◌};
 ghost use Rattle.arrays.specs.Same.{same_list};
-ghost use Rattle.model.specs.State.{Valid, placed, max_pins};
+ghost use Rattle.model.specs.State.{Valid, max_pins};
 ghost use Rattle.model.specs.Sections as model;
-ghost use Rattle.model.specs.File.{deck, refusal, most_sections, kinds_place, file_state, run_section, all_kinds};
-ghost use Rattle.points.specs.Coded.{max_steiner, padded};
-ghost use Rattle.working.specs.InOrder.{InOrder, state_of};
-ghost use Rattle.working.specs.WorkingDeck.{contents_of};
-ghost use Rattle.sections.specs.Layout.{Sections, FewPins};
+ghost use Rattle.model.specs.File.{most_sections, kinds_place, file_state, run_section};
+ghost use Rattle.points.specs.Coded.{max_steiner};
+ghost use Rattle.working.specs.InOrder.{state_of};
+ghost use Rattle.refusals.specs.Refusals.{number_of};
 ghost use Rattle.sections.specs.Codes.{Decodes};
-ghost use Rattle.deckfile.specs.ReadWorking.{ReadTo, WorkingFor, kinds_answer, last_answer};
+ghost use Rattle.deckfile.specs.ReadWorking.{ReadTo, WorkingFor, KindsFor, kinds_answer, last_answer};
 
-use arrays::paste::put_numbers;
-use calls::{Changed, Reply};
-use deck::check::{Formed, form_of};
+use arrays::paste::put_items;
+use deck::check::form_of;
 use edges::edge_numbers;
 use header::{
     EDGE_SIZE, EDGES, KINDS, PINS, POINT_SIZE, STEINER, has_kinds, is_plain, offset, size,
 };
 use points::kinds::{LARGEST_KIND, SENSOR, all_within, in_front};
 use points::{MAX_PINS, MAX_STEINER, PLACES, Points};
+use refusals::Refusal;
 use sections::codes::FilePoints;
 use sections::edges::same_edges;
+use sections::file::FileBytes;
 use working::Working;
 use working::deck::WorkingDeck;
 
 // The bytes that the most Steiner points of a deck take.
 const STEINER_ROOM: usize = MAX_STEINER * POINT_SIZE;
 
-// Returns a refusal: an empty deck, and the number.
-pub fn refuse(number: u8) -> Changed
-    ensures { ReadTo (refusal number) result }
+// Returns a refusal by its number.
+pub fn refuse(why: Refusal) -> Result<WorkingDeck, u8>
+    ensures { result ≡ Err (number_of why) }
 {
-    Changed {
-        working: working::deck::empty(),
-        reply: Reply::Refused(number),
-    }
-}
-
-fn accept(w: WorkingDeck) -> Changed
-    requires { InOrder w.form }
-    ensures { ReadTo (deck (contents_of w)) result }
-{
-    Changed {
-        working: w,
-        reply: Reply::Done,
-    }
+    Err(u8::from(why))
 }
 
 // The working form of a file's points, if they are those of a valid state. A valid state has at most MAX_STEINER Steiner points.
-fn points_working(b: &[u8], found: FilePoints) -> Formed
-    requires sections { Sections b.now }
-    requires decodes { Decodes b.now found }
-    requires t { T (placed (file_state b.now)) }
-    requires b_bound { model.size b.now 1 ≤ 4 * max_steiner }
-    ensures { WorkingFor (file_state b.now) result }
+fn points_working(file: &FileBytes, found: &FilePoints) -> Option<Working>
+    requires decodes { Decodes file.now.bytes.now found.now }
+    requires b_bound { model.size file.now.bytes.now 1 ≤ 4 * max_steiner }
+    ensures { WorkingFor (file_state file.now.bytes.now) result }
 {
-    let n = size(b, PINS) / POINT_SIZE;
-    let m = size(b, STEINER) / POINT_SIZE;
-    let pins = found.pins;
-    let all = found.steiner;
+    let n = size(file.bytes, PINS) / POINT_SIZE;
+    let m = size(file.bytes, STEINER) / POINT_SIZE;
     let mut steiner = [0u64; PLACES];
-    put_numbers(&mut steiner, 0, &all[..m]);
+    put_items(&mut steiner, 0, &found.steiner[..m]);
     form_of(Points {
-        pins,
+        pins: found.pins,
         npins: n,
         steiner,
         nsteiner: m,
@@ -71,67 +54,51 @@ fn points_working(b: &[u8], found: FilePoints) -> Formed
 }
 
 // Whether the third section holds the edges of a working form.
-fn has_edges(b: &[u8], w: Working) -> bool
-    requires sections { Sections b.now }
-    requires in_order { InOrder w }
-    requires valid { Valid (state_of w) }
-    ensures { result ≡ same_list (model.section b.now 2) (run_section (state_of w)) }
+fn has_edges(file: &FileBytes, w: Working) -> bool
+    requires { Valid (state_of w) }
+    ensures { result ≡ same_list (model.section file.now.bytes.now 2) (run_section (state_of w)) }
 {
-    if size(b, EDGES) != EDGE_SIZE * w.nkeys {
+    let n = size(file.bytes, EDGES);
+    if n != EDGE_SIZE * w.nkeys {
         return false;
     }
+    let at = offset(file.bytes, EDGES);
     let ends = edge_numbers(w);
-    same_edges(b, offset(b, EDGES), &ends, w.nkeys)
+    same_edges(&file.bytes[at..at + n], &ends[..w.nkeys])
 }
 
-// Check 15 on a section of kinds, for n pins: whether it has one for each, all of them kinds and not sensors alone.
-fn has_all_kinds(b: &[u8], n: usize) -> bool
-    requires sections { Sections b.now }
-    requires b_value { model.section_count b.now ≡ most_sections }
-    ensures { result ≡ all_kinds (model.section b.now kinds_place) n }
+// Check 15 on a section of kinds, for n pins: returns the kinds at the front of an array, if there is one for each pin, and all of them are
+// kinds and not sensors alone.
+fn kinds_of(file: &FileBytes, n: usize) -> Option<[u8; MAX_PINS]>
+    requires b_value { model.section_count file.now.bytes.now ≡ most_sections }
+    requires few { n ≤ max_pins }
+    ensures { KindsFor (model.section file.now.bytes.now kinds_place) n result }
 {
-    if size(b, KINDS) != n {
-        return false;
+    if size(file.bytes, KINDS) != n {
+        return None;
     }
-    let at = offset(b, KINDS);
-    let kinds = &b[at..at + n];
-    if !all_within(kinds, LARGEST_KIND) {
-        return false;
+    let at = offset(file.bytes, KINDS);
+    let kinds = &file.bytes[at..at + n];
+    if !all_within(kinds, LARGEST_KIND) || all_within(kinds, SENSOR) {
+        return None;
     }
-    !all_within(kinds, SENSOR)
+    Some(in_front(kinds))
 }
 
-// The section of kinds, for n pins, at the front of an array.
-fn kinds_of(b: &[u8], n: usize) -> [u8; MAX_PINS]
-    requires sections { Sections b.now }
-    requires b_value { model.section_count b.now ≡ most_sections }
-    requires n_value { (n ≡ length (model.section b.now kinds_place)) × (n ≤ max_pins) }
-    ensures { result ≡ padded max_pins (model.section b.now kinds_place) }
+// Check 15: returns the deck of the file, whose working form is given, without tails, or refusal 15.
+fn with_kinds(file: &FileBytes, w: Working) -> Result<WorkingDeck, u8>
+    requires { state_of w ≡ file_state file.now.bytes.now }
+    ensures { ReadTo (kinds_answer file.now.bytes.now) result }
 {
-    let at = offset(b, KINDS);
-    in_front(&b[at..at + n])
-}
-
-// Check 15: returns the deck of the file, whose working form is given, without tails, and done, or refusal 15.
-fn with_kinds(b: &[u8], w: Working) -> Changed
-    requires sections { Sections b.now }
-    requires in_order { InOrder w }
-    requires w_value { state_of w ≡ file_state b.now }
-    ensures { ReadTo (kinds_answer b.now) result }
-{
-    if !has_kinds(b) {
-        return accept(WorkingDeck {
-            form: w,
-            kinds: [SENSOR; MAX_PINS],
-            tail: 0,
-        });
-    }
-    let n = w.points.npins;
-    if !has_all_kinds(b, n) {
-        return refuse(15);
-    }
-    let kinds = kinds_of(b, n);
-    accept(WorkingDeck {
+    let kinds = if has_kinds(file.bytes) {
+        let Some(kinds) = kinds_of(file, w.points.npins) else {
+            return refuse(Refusal::BadKind);
+        };
+        kinds
+    } else {
+        [SENSOR; MAX_PINS]
+    };
+    Ok(WorkingDeck {
         form: w,
         kinds,
         tail: 0,
@@ -139,26 +106,19 @@ fn with_kinds(b: &[u8], w: Working) -> Changed
 }
 
 // Checks 6 and 15: a file that is not plain has the edges of its deck, and every file shows the points of a valid state; then the kinds.
-// Returns the deck of the file and done, or the refusal.
-pub fn working_of_file(b: &[u8], found: FilePoints) -> Changed
-    requires sections { Sections b.now }
-    requires few_pins { FewPins b.now }
-    requires decodes { Decodes b.now found }
-    requires t { T (placed (file_state b.now)) }
-    ensures { ReadTo (last_answer b.now) result }
+// Returns the deck of the file, or the refusal.
+pub fn working_of_file(file: &FileBytes, found: &FilePoints) -> Result<WorkingDeck, u8>
+    requires { Decodes file.now.bytes.now found.now }
+    ensures { ReadTo (last_answer file.now.bytes.now) result }
 {
-    if STEINER_ROOM < size(b, STEINER) {
-        return refuse(6);
+    if STEINER_ROOM < size(file.bytes, STEINER) {
+        return refuse(Refusal::WrongTree);
     }
-    let c = points_working(b, found);
-    if !c.ok {
-        return refuse(6);
+    let Some(form) = points_working(file, found) else {
+        return refuse(Refusal::WrongTree);
+    };
+    if !is_plain(file.bytes) && !has_edges(file, form) {
+        return refuse(Refusal::WrongTree);
     }
-    if is_plain(b) {
-        return with_kinds(b, c.form);
-    }
-    if !has_edges(b, c.form) {
-        return refuse(6);
-    }
-    with_kinds(b, c.form)
+    with_kinds(file, form)
 }

@@ -10,6 +10,7 @@ use std::io;
 use streams::read_full;
 use text::list_file;
 
+// Stays: a refusal goes to standard output here; `printing::print_for_file` sends one to standard error.
 fn main(rt: HostRuntime) -> io::Result<()> {
     let mut file = [0u8; READ_ROOM];
     let n = read_full(&mut rt.stdin(), &mut file)?;

@@ -6,7 +6,7 @@ ghost use Rattle.arrays.specs.Paste.{Pasted};
 ghost use Rattle.ascii.specs.Text.{fitting};
 ghost use Rattle.listing.specs.Whole.{listing_room};
 
-use calls::{refusal_number, run_to_end};
+use calls::run_to_end;
 use listing::LISTING_ROOM;
 
 // The text for a file at the front of `out`, which has to have room for LISTING_ROOM bytes. Returns its length; 0 where there is no room.
@@ -17,12 +17,8 @@ pub fn list_file(file: &[u8], out: &mut [u8]) -> usize
     if out.len() < LISTING_ROOM {
         return 0;
     }
-    let c = deckfile::read_working(file);
-    let reply = c.reply;
-    let n = refusal_number(reply);
-    if n != 0 {
-        return listing::list_refusal(n, out);
+    match deckfile::read_working(file) {
+        Ok(deck) => listing::list_working(run_to_end(deck).working, out),
+        Err(n) => listing::list_refusal(n, out),
     }
-    let e = run_to_end(c.working);
-    listing::list_working(e.working, out)
 }

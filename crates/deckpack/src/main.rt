@@ -2,14 +2,11 @@
 // and on standard error the line of the first fault.
 #![tactic(auto)]
 
-mod bytes;
-
 ghost use Rattle.packing.specs.Held.{Packs};
 
-use bytes::{Reader, finish, take_all};
-use lines::INPUT_ROOM;
+use lines::Line;
+use packing::Packing;
 use packing::text::{FAULT_ROOM, fault_line, packed_file};
-use packing::{Packing, start};
 use plain_file::PLAIN_ROOM;
 use std::io;
 use std::io::{Read, Stderr, Stdout};
@@ -25,8 +22,7 @@ fn print(p: Packing, to: Stdout, faults: Stderr) -> io::Result<()>
     let n = packed_file(p, &mut file);
     to.write_all(&file[..n])?;
     let mut text = [0u8; FAULT_ROOM];
-    let fault = p.fault;
-    let m = fault_line(fault, &mut text);
+    let m = fault_line(p.fault, &mut text);
     faults.write_all(&text[..m])
 }
 
@@ -34,18 +30,16 @@ fn print(p: Packing, to: Stdout, faults: Stderr) -> io::Result<()>
 // fails ends the program with that error.
 fn main(rt: HostRuntime) -> io::Result<()> {
     let mut input = rt.stdin();
-    let mut line = [0u8; INPUT_ROOM];
+    let mut packing = packing::start();
+    let mut line = Line::new();
     let mut chunk = [0u8; CHUNK];
-    let mut r = Reader {
-        packing: start(),
-        size: 0,
-    };
     for _ in 0..u64::MAX {
         let n = input.read(&mut chunk)?;
         if n == 0 {
             break;
         }
-        r = take_all(r, &mut line, &chunk[..n]);
+        line.take_all(&chunk[..n], &mut packing);
     }
-    print(finish(r, &line), rt.stdout(), rt.stderr())
+    line.finish(&mut packing);
+    print(packing, rt.stdout(), rt.stderr())
 }

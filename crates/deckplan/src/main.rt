@@ -4,19 +4,12 @@
 
 mod text;
 
-use deckfile::{LONGEST, READ_ROOM};
+use deckfile::LONGEST;
+use printing::print_for_file;
 use std::io;
-use streams::read_full;
 use text::plan_file;
 
 fn main(rt: HostRuntime) -> io::Result<()> {
-    let mut file = [0u8; READ_ROOM];
-    let n = read_full(&mut rt.stdin(), &mut file)?;
     let mut out = [0u8; LONGEST];
-    let p = plan_file(&file[..n], &mut out);
-    if p.refused {
-        rt.stderr().write_all(&out[..p.size])
-    } else {
-        rt.stdout().write_all(&out[..p.size])
-    }
+    print_for_file(rt.stdin(), rt.stdout(), rt.stderr(), &mut out, plan_file)
 }

@@ -1,7 +1,7 @@
 // What the program prints for a file.
 ghost use Rattle.streams.specs.Counts.{IsPrefixLen};
 ghost use Rattle.model.specs.File.{read_file, longest};
-ghost use Rattle.listing.specs.Printed.{Prints};
+ghost use Rattle.listing.specs.Printed.{Prints, printed_size};
 ghost use Rattle.deckplan.specs.Plan.{planned_file};
 
 use deckfile::LONGEST;
@@ -13,23 +13,16 @@ use planner::planner_plan;
 // refusal. A number below SHORTEST is that of a refusal.
 pub fn plan_file(file: &[u8], out: &mut [u8]) -> Printed
     ensures prints { Prints longest planned_file (read_file file.now) out.old out.new result }
-    ensures prefix_len { IsPrefixLen result.size out.new }
+    ensures prefix_len { IsPrefixLen (printed_size result) out.new }
 {
     if out.len() < LONGEST {
-        return Printed {
-            refused: false,
-            size: 0,
-        };
+        return Ok(0);
     }
     let n = planner_plan(file, out);
+    // Stays: a test of the number, since the planner answers the number that C gets (SPEC 10.1).
     if n < SHORTEST {
-        return Printed {
-            refused: true,
-            size: list_refusal(n as u8, out),
-        };
+        // Stays: `as`, since the number fits, as is proved; try_from would hand out an error that never comes.
+        return Err(list_refusal(n as u8, out));
     }
-    Printed {
-        refused: false,
-        size: n,
-    }
+    Ok(n)
 }

@@ -16,7 +16,8 @@ use Rattle.model.specs.State.{points}
 use Rattle.model.specs.Choice.{saved, Chosen}
 use Rattle.model.specs.Choice as model
 use Rattle.model.specs.Call as call
-use Rattle.columns.specs.declared.Choice.TheVariants.{Nothing, Candidate}
+use Rattle.std.specs.Prelude.{Some, None}
+use Rattle.columns.specs.declared.Candidate.{Candidate}
 use Rattle.columns.specs.Column.{ColumnAnswer, no_candidate, chosen, column_answer, ChosenAt}
 use Rattle.columns.specs.Found.{choice_of}
 use Rattle.columns.proofs.Claims as claims
@@ -31,17 +32,18 @@ use Rattle.demands.specs.Columns.{Names, DeckColumns}
 use Rattle.demands.proofs.Method.{answered, round_of}
 
 -- The answer as an enum says which it is.
-names_is : (a : ColumnAnswer) (u y v : ℤ) → (Column (choice_of a) ≡ Column (Candidate u y v)) ↔ (a ≡ chosen (point u y) v)
+names_is : (a : ColumnAnswer) (u y v : ℤ) → (Column (choice_of a) ≡ Column (Some (record { x = u; y = y; saving = v }))) ↔ (a ≡ chosen (point u y) v)
 names_is no_candidate u y v = (
   λ e. let z : ◌≡◌ {A = ℕ} 0 1 = cc in absurd (omega arith),
   λ e. let z : ◌≡◌ {A = ℕ} 0 1 = cc in absurd (omega arith),
 )
 names_is (chosen c n) u y v = (
-  λ e. let ex : c.x ≡ u = cc in let ey : c.y ≡ y = cc in let en : n ≡ v = cc in λ i. chosen (record { x = ex i; y = ey i }) (en i),
+  λ e. let same : ◌≡◌ {A = Candidate} (record { x = c.x; y = c.y; saving = n }) (record { x = u; y = y; saving = v }) = cc in
+      ap (λ (k : Candidate). chosen (point k.x k.y) k.saving) same,
   λ e. ap (λ (a : ColumnAnswer). Column (choice_of a)) e,
 )
 
-empty_is : (a : ColumnAnswer) → (Column (choice_of a) ≡ Column Nothing) ↔ (a ≡ no_candidate)
+empty_is : (a : ColumnAnswer) → (Column (choice_of a) ≡ Column None) ↔ (a ≡ no_candidate)
 empty_is no_candidate = (λ _. refl, λ _. refl)
 empty_is (chosen c n) = (
   λ e. let z : ◌≡◌ {A = ℕ} 0 1 = cc in absurd (omega arith),
@@ -71,7 +73,7 @@ module _ (d : Deck) (s : Sound d) where
       let a = names_is (column_answer d.tail ps x) u y v in
       (λ e. n.0 (a.0 (sym (answered d s (of_column x)) ∙ e)), λ h. answered d s (of_column x) ∙ a.1 (n.1 h))
 
-  emptied : (x : ℤ) → (asked d (of_column x) ≡ Column Nothing) ↔ ((c : Point) → model.Candidate ps c → ¬ (c.x ≡ x))
+  emptied : (x : ℤ) → (asked d (of_column x) ≡ Column None) ↔ ((c : Point) → model.Candidate ps c → ¬ (c.x ≡ x))
   emptied x =
       let n = (claims.columns d.tail ps).empty x in
       let a = empty_is (column_answer d.tail ps x) in

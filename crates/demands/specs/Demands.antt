@@ -2,7 +2,7 @@
 -- `written` and `buffer_after` (deckfile::write), `called` (each call on a deck), `asked` (each question), `answer_number` and `answer_buffer`
 -- (planner_plan and replay_calls), `arrow`, `glyph` and `arrow_table` (the functions of crate arrow), `indication_number` (display_arrow). That every
 -- function ends, and touches nothing else, is part of what is proved of each.
-use Rattle.std.specs.Prelude.{◌≡◌, ◌⊎◌, ◌↔◌, ℕ, ◌-◌, ◌≤◌, ◌<◌, T, ℤ, length, drop}
+use Rattle.std.specs.Prelude.{◌≡◌, ◌⊎◌, ◌↔◌, ℕ, ◌-◌, ◌≤◌, ◌<◌, T, ℤ, length, drop, Ok, Err}
 use Rattle.std.proofs.Math.Option.{some}
 use mathlib.Core.List.{List, ◌++◌, Memᴰ}
 use Rattle.plane.specs.Point.{Point}
@@ -13,7 +13,6 @@ use Rattle.model.specs.Call as call
 use Rattle.model.specs.Listing.{listing, refused_line, listing_of_file}
 use Rattle.model.specs.File.{deck, refusal, FileNumber, shows_kinds, ShowsKinds, file_checks, read_file, file_of}
 use Rattle.model.specs.Refusal.{FirstFailed}
-use Rattle.arrow.specs.declared.Indication.TheVariants as indication
 use Rattle.arrow.specs.Arrow.{arrow_checks, arrow}
 use Rattle.arrow.specs.Claim.{Arrows}
 use Rattle.deck.specs.declared.Deck.{Deck}
@@ -25,7 +24,6 @@ use Rattle.deck.specs.Calls.{deck_outcome, refused_outcome, called}
 use Rattle.questions.specs.Answers.{Question, of_counts, of_edge, of_degree, answer_to}
 use Rattle.deck.specs.Questions.{asked}
 use Rattle.deck.specs.Session.{deck_after, replies, reckoned}
-use Rattle.deckfile.specs.declared.Written.TheVariants as writing
 use Rattle.deckfile.specs.Reading.{reading, accepted_deck, refused_file}
 use Rattle.deckfile.specs.Writing.{written, buffer_after}
 use Rattle.deckfile.specs.RoundTrip.{ReadUntailed, WrittenRead, FullWrittenBack, PlainWrittenFull, WrittenSections, SoundFits}
@@ -56,9 +54,9 @@ FileAnswer o = ((c : Contents) × ValidContents c × (o ≡ accepted_deck (deck_
 
 -- What is shown for a bay (SPEC 3.4, 8.5): an arrow from 0 to 8, or 13 or 14, and each of these exactly if its test is the first that fails.
 pub record ArrowAnswer (display bay : Point) (pitch : ℤ) : Type 0 where
-  pub answered : ((k : ℕ) × (k ≤ 8) × (arrow display bay pitch ≡ indication.Arrow k))
-      ⊎ ((n : ℕ) × ((n ≡ 13) ⊎ (n ≡ 14)) × (arrow display bay pitch ≡ indication.Refused n))
-  pub refused : (n : ℕ) → (arrow display bay pitch ≡ indication.Refused n) ↔ FirstFailed n (arrow_checks display bay pitch)
+  pub answered : ((k : ℕ) × (k ≤ 8) × (arrow display bay pitch ≡ Ok k))
+      ⊎ ((n : ℕ) × ((n ≡ 13) ⊎ (n ≡ 14)) × (arrow display bay pitch ≡ Err n))
+  pub refused : (n : ℕ) → (arrow display bay pitch ≡ Err n) ↔ FirstFailed n (arrow_checks display bay pitch)
 
 -- Demand 1: every file and every call is taken, or refused by a number of SPEC 8, and then the deck and the buffer are as SPEC 8.1 and 8.4
 -- say.
@@ -70,16 +68,16 @@ pub record Demand1 : Type 0 where
   -- any deck that is not sound: 11 before all else, and the deck or the buffer as it was
   pub unsound_call : (d : Deck) (c : call.Call) → ¬ Sound d → called d c ≡ refused_outcome d 11
   pub unsound_question : (d : Deck) (q : Question) → ¬ Sound d → asked d q ≡ question.Refused 11
-  pub unsound_writing : (d : Deck) (l : List ℕ) → ¬ Sound d → (written d l ≡ writing.Refused 11) × (buffer_after d l ≡ l)
+  pub unsound_writing : (d : Deck) (l : List ℕ) → ¬ Sound d → (written d l ≡ Err 11) × (buffer_after d l ≡ l)
   -- any other: the next deck is sound, and a refused call hands back the deck unchanged
   pub next_sound : (d : Deck) → Sound d → (c : call.Call) → Sound (called d c).next
   pub refused_call : (d : Deck) → Sound d → (c : call.Call) (n : ℕ) → (called d c).reply ≡ reply.Refused n
       → ((called d c).next ≡ d) × InCase (contents_of d) c n
   -- any buffer: shorter than the file, it is refused by 12 and keeps every byte; else every byte past the file is kept
-  pub short_buffer : (d : Deck) (l : List ℕ) → Sound d → length l < length (file_of (contents_of d)) → (written d l ≡ writing.Refused 12)
+  pub short_buffer : (d : Deck) (l : List ℕ) → Sound d → length l < length (file_of (contents_of d)) → (written d l ≡ Err 12)
       × (buffer_after d l ≡ l)
   pub long_buffer : (d : Deck) (l : List ℕ) → Sound d → length (file_of (contents_of d)) ≤ length l
-      → (written d l ≡ writing.Length (length (file_of (contents_of d))))
+      → (written d l ≡ Ok (length (file_of (contents_of d))))
       × (buffer_after d l ≡ file_of (contents_of d) ++ drop (length (file_of (contents_of d))) l)
   -- any display, any bay and any pitch
   pub arrow : (display bay : Point) (pitch : ℤ) → ArrowAnswer display bay pitch

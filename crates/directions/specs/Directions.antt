@@ -5,8 +5,7 @@ use Rattle.arrays.specs.Text.{byte, bytes}
 use Rattle.plane.specs.Point.{point}
 use Rattle.octants.specs.Octant.{octant_count, octant}
 use Rattle.model.specs.Listing.{field, decimal, refused_word}
-use Rattle.arrow.specs.declared.Indication.{Indication}
-use Rattle.arrow.specs.declared.Indication.TheVariants as indication
+use Rattle.std.specs.Prelude.{Result, Ok, Err}
 use Rattle.arrow.specs.Arrow.{arrow, glyph}
 use Rattle.commands.specs.declared.Direction.{Direction}
 use Rattle.commands.specs.declared.Direction.TheVariants as direction
@@ -31,9 +30,9 @@ abbrev pub arrow_text : ℕ → List ℕ
 arrow_text n = arrow_word ++ (field (decimal n) ++ field (glyph n ∷ []))
 
 -- The line of what a display shows.
-unfoldable pub indication_text : Indication → List ℕ
-indication_text (indication.Refused n) = number_text refused_word n
-indication_text (indication.Arrow n) = arrow_text n
+unfoldable pub indication_text : Result ℕ ℕ → List ℕ
+indication_text (Err n) = number_text refused_word n
+indication_text (Ok n) = arrow_text n
 
 -- A glyph: `glyph G`.
 abbrev pub glyph_text : ℕ → List ℕ

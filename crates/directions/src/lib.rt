@@ -7,8 +7,7 @@ ghost use Rattle.ascii.specs.Text.{fitting};
 ghost use Rattle.ascii.specs.Line.{line_room, number_text};
 ghost use Rattle.directions.specs.Directions.{octant_word, arrow_room, octant_text, arrow_text, indication_text, glyph_of, glyph_text, direction_text};
 
-use arrays::paste::{put_byte, put_bytes};
-use arrow::Indication;
+use arrays::paste::{put_byte, put_items};
 use ascii::decimal_field;
 use ascii::line::{LINE_ROOM, error_line, number_line};
 use commands::Direction;
@@ -29,24 +28,24 @@ fn arrow_line(out: &mut [u8], n: u8) -> usize
     requires { arrow_room ≤ length out.old }
     ensures { Pasted (arrow_text n) out.old out.new 0 result }
 {
-    let g = arrow::glyph(n as u32);
-    let a = put_bytes(out, 0, b"arrow");
-    let b = decimal_field(out, a, n as u64);
+    let g = arrow::glyph(u32::from(n));
+    let a = put_items(out, 0, b"arrow");
+    let b = decimal_field(out, a, u64::from(n));
     let c = put_byte(out, b, b' ');
     put_byte(out, c, g)
 }
 
 // Puts the line of an arrow, or of its refusal, at the front of `out`, which has to have room for 128 bytes. Returns its length; 0 where there is
 // no room.
-fn indication_line(indication: Indication, out: &mut [u8]) -> usize
+fn indication_line(indication: Result<u8, u8>, out: &mut [u8]) -> usize
     ensures { Pasted (fitting line_room out.old (indication_text indication)) out.old out.new 0 result }
 {
     if out.len() < LINE_ROOM {
         return 0;
     }
     match indication {
-        Indication::Refused(n) => number_line(out, b"refused", n as u64),
-        Indication::Arrow(n) => arrow_line(out, n),
+        Ok(n) => arrow_line(out, n),
+        Err(n) => number_line(out, b"refused", u64::from(n)),
     }
 }
 
@@ -57,7 +56,7 @@ fn glyph_line(g: u8, out: &mut [u8]) -> usize
     if out.len() < LINE_ROOM {
         return 0;
     }
-    let a = put_bytes(out, 0, b"glyph ");
+    let a = put_items(out, 0, b"glyph ");
     put_byte(out, a, g)
 }
 
@@ -69,17 +68,18 @@ fn octant_answer(x: i32, y: i32, out: &mut [u8]) -> usize
     if k == NO_OCTANT {
         return error_line(out);
     }
-    octant_line(k as u64, out)
+    octant_line(u64::from(k), out)
 }
 
 // The glyph of any number of 32 bits.
+#[tactic(auto, unfolding(crate::specs::Directions::glyph_of))]
 fn glyph_of(n: i32) -> u8
     ensures { result ≡ glyph_of n }
 {
-    if n < 0 {
-        return b'?';
+    match u32::try_from(n) {
+        Ok(n) => arrow::glyph(n),
+        Err(_) => b'?',
     }
-    arrow::glyph(n as u32)
 }
 
 // Puts the line of the answer at the front of `out`, which has to have room for 128 bytes. Returns its length; 0 where there is no room.

@@ -5,40 +5,39 @@ use Prim.Native.Nat.{ℕ, ◌≤◌}
 use native.Mathlib.Omega.{arith}
 use lib.IntN.{ℤ}
 use Rattle.plane.specs.Point.{Point}
-use Rattle.arrow.specs.declared.Indication.{Indication}
-use Rattle.arrow.specs.declared.Indication.TheVariants as indication
+use Rattle.std.proofs.Common.{Result, Ok, Err}
 use Rattle.arrow.specs.Arrow.{arrow}
 use Rattle.arrow.proofs.Answers.{same_arrow, same_refusal, arrow_no_refusal}
 use Rattle.arrow.proofs.Claim.{arrow-answered}
 use Rattle.display.specs.Entry.{indication_number, Numbered}
 
 -- The three clauses of any answer.
-abbrev Says : Indication → Type 0
+abbrev Says : Result ℕ ℕ → Type 0
 Says a =
-    ((k : ℕ) → (a ≡ indication.Arrow k) ↔ ((indication_number a ≡ k) × (k ≤ 8)))
-    × ((n : ℕ) → (a ≡ indication.Refused n) ↔ ((indication_number a ≡ n) × (13 ≤ n)))
+    ((k : ℕ) → (a ≡ Ok k) ↔ ((indication_number a ≡ k) × (k ≤ 8)))
+    × ((n : ℕ) → (a ≡ Err n) ↔ ((indication_number a ≡ n) × (13 ≤ n)))
     × ((indication_number a ≤ 8) ⊎ (13 ≤ indication_number a))
 
-says_arrow : (a : Indication) (k : ℕ) → k ≤ 8 → a ≡ indication.Arrow k → Says a
+says_arrow : (a : Result ℕ ℕ) (k : ℕ) → k ≤ 8 → a ≡ Ok k → Says a
 unfolding indication_number
 says_arrow a k h e =
     let number : indication_number a ≡ k = ap indication_number e in (
       λ j. (
         λ f. let z = same_arrow (sym e ∙ f) in (number ∙ z, omega (arith, z, h)),
-        λ r. e ∙ ap indication.Arrow (sym number ∙ r.0),
+        λ r. e ∙ ap Ok (sym number ∙ r.0),
       ),
       λ n. (λ f. absurd (arrow_no_refusal (sym e ∙ f)), λ r. absurd (omega (arith, h, number, r.0, r.1))),
       inl (omega (arith, h, number)),
     )
 
-says_refusal : (a : Indication) (n : ℕ) → 13 ≤ n → a ≡ indication.Refused n → Says a
+says_refusal : (a : Result ℕ ℕ) (n : ℕ) → 13 ≤ n → a ≡ Err n → Says a
 unfolding indication_number
 says_refusal a n h e =
     let number : indication_number a ≡ n = ap indication_number e in (
       λ k. (λ f. absurd (arrow_no_refusal (sym f ∙ e)), λ r. absurd (omega (arith, h, number, r.0, r.1))),
       λ j. (
         λ f. let z = same_refusal (sym e ∙ f) in (number ∙ z, omega (arith, z, h)),
-        λ r. e ∙ ap indication.Refused (sym number ∙ r.0),
+        λ r. e ∙ ap Err (sym number ∙ r.0),
       ),
       inr (omega (arith, h, number)),
     )

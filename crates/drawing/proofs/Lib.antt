@@ -1,4 +1,3 @@
 pub mod Claim
 pub mod Examples
-pub mod Parts
 pub mod Symbols

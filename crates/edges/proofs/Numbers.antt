@@ -47,7 +47,7 @@ use Rattle.points.specs.Coded.{padded, places}
 use Rattle.points.proofs.Codes.{drop_zeros}
 use Rattle.working.specs.declared.Working.{Working}
 use Rattle.edges.specs.declared.CodedEdge.{CodedEdge}
-use Rattle.working.specs.InOrder.{InOrder, state_of}
+use Rattle.working.specs.InOrder.{state_of}
 use Rattle.edges.specs.Edges.{edge_numbers, edge_row, edge_of, EdgeAt}
 use Rattle.working.proofs.InOrder.{all_codes_lem, all_points, arranged-placed}
 
@@ -70,14 +70,14 @@ item_at f [] r i h = absurd (omega arith)
 item_at f (a ∷ l) r zero h = (a, refl, head refl, refl)
 item_at f (a ∷ l) r (suc i) h = let m = item_at f l r i (omega arith) in (m.0, m.1, later m.2, m.3)
 
-module _ (w : Working) (p : InOrder w) where
+module _ (w : Working) where
   -- The ends of the keys, least first.
   ends_are : set_of ltb (map ends_of (take w.nkeys w.keys)) ≡ edge_numbers (state_of w)
   unfolding listed
   ends_are =
-      ap (λ (l : List ℕ). set_of ltb (map ends_of l)) p.tree
-      ∙ sym (ends-listed (held w.xs w.ys) w.npoints (omega (arith, p.few)) p.rises)
-      ∙ ap (λ l. map (ends_at l) (set_of listed_before (mst l))) p.points
+      ap (λ (l : List ℕ). set_of ltb (map ends_of l)) w.in_order.tree
+      ∙ sym (ends-listed (held w.xs w.ys) w.npoints (omega (arith, w.in_order.few)) w.in_order.rises)
+      ∙ ap (λ l. map (ends_at l) (set_of listed_before (mst l))) w.in_order.points
 
   pub row_is : (ends : List ℕ) (r : ℕ) → Pasted (set_of ltb (map ends_of (take w.nkeys w.keys))) (replicate places 0) ends 0 r
       → ends ≡ edge_row (state_of w)
@@ -88,14 +88,15 @@ module _ (w : Working) (p : InOrder w) where
   -- The total of the keys is the length of the tree without tails.
   total_is : total weight (take w.nkeys w.keys) ≡ tree_length (points (state_of w))
   total_is =
-      ap (total weight) p.tree ∙ rising-total (held w.xs w.ys) w.npoints (omega (arith, p.few)) p.rises ∙ ap tree_length p.points
+      ap (total weight) w.in_order.tree ∙ rising-total (held w.xs w.ys) w.npoints (omega (arith, w.in_order.few)) w.in_order.rises
+      ∙ ap tree_length w.in_order.points
 
   -- How many edges there are.
   pub edge_count_lem : w.nkeys ≡ edge_count (state_of w)
   edge_count_lem =
       let at = held w.xs w.ys in
-      p.key_count ∙ sym (length-map (tree_keys at w.npoints) (edgeOfKey at))
-      ∙ ap length (tree_keys-mst at w.npoints (omega (arith, p.few)) p.rises) ∙ ap (λ l. length (mst l)) p.points
+      w.in_order.key_count ∙ sym (length-map (tree_keys at w.npoints) (edgeOfKey at))
+      ∙ ap length (tree_keys-mst at w.npoints (omega (arith, w.in_order.few)) w.in_order.rises) ∙ ap (λ l. length (mst l)) w.in_order.points
 
   -- With two tails for each key it is the length, which fits.
   pub length_is_lem : (tail : ℕ) → total weight (take w.nkeys w.keys) + 2 * tail * w.nkeys ≡ tree_length_with tail (points (state_of w))
@@ -105,31 +106,31 @@ module _ (w : Working) (p : InOrder w) where
 
   pub length-fits : (tail : ℕ) → tail ≤ longest_tail → tree_length_with tail (points (state_of w)) ≤ longest_tree
   length-fits tail h =
-      let placed = arranged-placed w.points p.arranged in
-      length-bound tail h (points (state_of w)) (points-rise (state_of w) placed.steiner_rise) (omega (arith, p.few, p.count))
+      let placed = arranged-placed w.points w.in_order.arranged in
+      length-bound tail h (points (state_of w)) (points-rise (state_of w) placed.steiner_rise) (omega (arith, w.in_order.few, w.in_order.count))
       (λ q i. ⊎_elim (placed.pins_range q) (placed.steiner_range q) ((points_in_lem (state_of w) q).0 i))
 
   pub listed-length : length (listed (state_of w)) ≡ w.nkeys
-  listed-length = listed-count (state_of w) (arranged-placed w.points p.arranged) ∙ sym edge_count_lem
+  listed-length = listed-count (state_of w) (arranged-placed w.points w.in_order.arranged) ∙ sym edge_count_lem
 
   -- What stands at the number of a point is a code.
   held-code : (n : ℕ) → n < w.npoints → T (is_code (get_or w.codes n 0))
   held-code n h =
       let codes = take w.npoints w.codes in
-      let here : map point_of codes ≡ points (state_of w) = ap (map point_of) p.codes ∙ all_points w.points p.arranged in
-      let long : length codes ≡ w.npoints = sym (length-map codes point_of) ∙ ap length here ∙ sym p.count in
+      let here : map point_of codes ≡ points (state_of w) = ap (map point_of) w.in_order.codes ∙ all_points w.points w.in_order.arranged in
+      let long : length codes ≡ w.npoints = sym (length-map codes point_of) ∙ ap length here ∙ sym w.in_order.count in
       subst (λ (k : ℕ). T (is_code k)) (get_or-take w.npoints w.codes n 0 h)
-      (all_codes_lem w.points p.arranged _
-      (subst (λ (l : List ℕ). Memᴰ (get_or codes n 0) l) p.codes (get_in codes n (omega (arith, long, h)))))
+      (all_codes_lem w.points w.in_order.arranged _
+      (subst (λ (l : List ℕ). Memᴰ (get_or codes n 0) l) w.in_order.codes (get_in codes n (omega (arith, long, h)))))
 
   -- The code of a point stands at its number.
   below : (q : Point) → Memᴰ q (points (state_of w)) → number_of (points (state_of w)) q < w.npoints
-  below q m = omega (arith, number-below (points (state_of w)) q m, p.count)
+  below q m = omega (arith, number-below (points (state_of w)) q m, w.in_order.count)
 
   code_at : (q : Point) → Memᴰ q (points (state_of w)) → point_of (get_or w.codes (number_of (points (state_of w)) q) 0) ≡ q
   code_at q m =
       let codes = take w.npoints w.codes in
-      let here : map point_of codes ≡ points (state_of w) = ap (map point_of) p.codes ∙ all_points w.points p.arranged in
+      let here : map point_of codes ≡ points (state_of w) = ap (map point_of) w.in_order.codes ∙ all_points w.points w.in_order.arranged in
       ap point_of (sym (get_or-take w.npoints w.codes (number_of (points (state_of w)) q) 0 (below q m)))
       ∙ ap (λ (ps : List Point). point_of (get_or codes (number_of ps q) 0)) (sym here)
       ∙ number-point codes q (subst⁻¹ (λ (ps : List Point). Memᴰ q ps) here m)
@@ -139,14 +140,14 @@ module _ (w : Working) (p : InOrder w) where
     ends : Memᴰ e.lo (points (state_of w)) × Memᴰ e.hi (points (state_of w))
     unfolding planar listed
     ends =
-        (mst-run-tree (points (state_of w)) (points-rise (state_of w) (arranged-placed w.points p.arranged).steiner_rise)).tree.ends e
+        (mst-run-tree (points (state_of w)) (points-rise (state_of w) (arranged-placed w.points w.in_order.arranged).steiner_rise)).tree.ends e
         ((set_of_in listed_before listed-order (mst (points (state_of w))) e).0 i)
 
     low : both / 128 ≡ number_of (points (state_of w)) e.lo
-    low = omega (arith, is, below e.lo ends.0, below e.hi ends.1, p.few)
+    low = omega (arith, is, below e.lo ends.0, below e.hi ends.1, w.in_order.few)
 
     high : both % 128 ≡ number_of (points (state_of w)) e.hi
-    high = omega (arith, is, below e.lo ends.0, below e.hi ends.1, p.few)
+    high = omega (arith, is, below e.lo ends.0, below e.hi ends.1, w.in_order.few)
 
     within : (both / 128 < w.npoints) × (both % 128 < w.npoints)
     within = (omega (arith, low, below e.lo ends.0), omega (arith, high, below e.hi ends.1))

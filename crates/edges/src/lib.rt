@@ -6,7 +6,7 @@ ghost use Rattle.plane.specs.Point.{dist};
 ghost use Rattle.plane.specs.Code.{point_of};
 ghost use Rattle.model.specs.State.{points};
 ghost use Rattle.model.specs.Tail.{longest_tail, tree_length_with};
-ghost use Rattle.working.specs.InOrder.{InOrder, state_of};
+ghost use Rattle.working.specs.InOrder.{state_of};
 ghost use Rattle.edges.specs.Edges.{edge_row, EdgeAt};
 
 use keys::FACTOR;
@@ -24,23 +24,19 @@ pub struct CodedEdge {
 
 // Returns the length of the tree: its distances together, and two tails for each edge.
 pub fn length_of(w: Working, tail: u64) -> u64
-    requires in_order { InOrder w }
     requires tail_le_longest_tail { tail ≤ longest_tail }
     ensures { result ≡ tree_length_with tail (points (state_of w)) }
 {
-    let keys = w.keys;
-    let distances = tree::list::total_of(&keys, w.nkeys);
-    distances + 2 * tail * (w.nkeys as u64)
+    // Stays: `as`, since no From takes a usize to a u64.
+    tree::list::total_of(&w.keys[..w.nkeys]) + 2 * tail * (w.nkeys as u64)
 }
 
 // Returns the edges of the tree in the listing order, each by the numbers of its two ends in one, with zeros behind.
 pub fn edge_numbers(w: Working) -> [u64; PLACES]
-    requires { InOrder w }
     ensures { result ≡ edge_row (state_of w) }
 {
-    let keys = w.keys;
     let mut ends = [0u64; PLACES];
-    tree::list::listing(&keys, w.nkeys, &mut ends);
+    tree::list::listing(&w.keys[..w.nkeys], &mut ends);
     ends
 }
 
@@ -48,12 +44,11 @@ pub fn edge_numbers(w: Working) -> [u64; PLACES]
 fn distance_of(a: u64, b: u64) -> u64
     ensures { result ≡ dist (point_of a) (point_of b) }
 {
-    plane::distance(x_of(a), y_of(a), x_of(b), y_of(b)) as u64
+    u64::from(plane::distance(x_of(a), y_of(a), x_of(b), y_of(b)))
 }
 
 // Returns the edge at a place of the listing order, from the numbers of all edges, with the tails in its length.
 pub fn edge_at(w: Working, ends: &[u64; PLACES], i: usize, tail: u64) -> CodedEdge
-    requires in_order { InOrder w }
     requires ends_value { ends.now ≡ edge_row (state_of w) }
     requires i_lt_nkeys { i < w.nkeys }
     requires tail_le_longest_tail { tail ≤ longest_tail }
@@ -61,6 +56,7 @@ pub fn edge_at(w: Working, ends: &[u64; PLACES], i: usize, tail: u64) -> CodedEd
 {
     let codes = w.codes;
     let both = ends[i];
+    // Stays: `as`, since no From takes a u64 to a usize.
     let low = codes[(both / FACTOR) as usize];
     let high = codes[(both % FACTOR) as usize];
     CodedEdge {

@@ -1,120 +1,69 @@
--- The least and the greatest of stored coordinates, found from the last one up: one more in front is compared with those behind it. By the order of
--- stored coordinates, which is that of the coordinates.
-use mathlib.Core.Path.{◌≡◌, refl, sym, ap, ◌∙◌}
-use mathlib.Core.Bool.{Bool, true, false}
-use mathlib.Core.List.{List, [], ◌∷◌, map}
-use Prim.Native.Nat.{ℕ, suc, ◌-◌, ◌≤◌, ◌<◌, min, max}
-use native.Mathlib.Decide.{dec_le}
+-- The least and the greatest of stored coordinates: one of them that is at most each, and one that is at least each. By the order of stored coordinates,
+-- which is that of the coordinates.
+use Rattle.std.specs.Prelude.{Option, Some, None, MatchOption, IfSome}
+use Rattle.std.specs.Option.{unwrap_or}
+use mathlib.Core.Path.{◌≡◌, refl, subst, subst⁻¹}
+use mathlib.Core.Logic.{⊎_elim}
+use mathlib.Core.List.Memᴰ.{cases_cons, head, tail, not-nil}
+use mathlib.Core.List.{List, [], ◌∷◌, map, Memᴰ}
+use Prim.Native.Nat.{ℕ, zero, suc, ◌≤◌, ◌<◌}
 use native.Mathlib.Omega.{arith}
+use lib.Dec.{T}
 use lib.IntN.{ℤ}
-use lib.ListN.{length, take, drop, get_or, length-map, length-drop, drop_of_length-le, get_or-map}
-use lib.Seq.{drop-cons, length-take-le, get_or-take}
+use lib.ListN.{length, get_or}
 use lib.Signed.{le_z}
-use Rattle.arrays.specs.Test.{if}
-use Rattle.arrays.proofs.Test.{true_of, false_of}
-use Rattle.plane.specs.Coordinate.{base, coordinate}
-use Rattle.plane.specs.Box.{extreme}
-use Rattle.plane.proofs.Whole.{atmost_value, value_atmost}
+use Rattle.plane.specs.Coordinate.{coordinate}
+use Rattle.plane.specs.Box.{least, greatest}
+use Rattle.plane.proofs.Box.{reaches_ends}
+use Rattle.plane.proofs.Whole.{whole_ext, atmost_value, value_atmost}
 use Rattle.plane.proofs.Stored.{coordinate_value}
 use Rattle.frame.specs.Frame.{lowest, highest}
 
+-- The one number of a list that is at most each of it, and the one that is at least each.
+lowest_is : (l : List ℤ) (m : ℤ) → Memᴰ m l → ((z : ℤ) → Memᴰ z l → T (le_z m z)) → m ≡ lowest l
+unfolding lowest
+lowest_is [] m i h = absurd (not-nil i)
+lowest_is (a ∷ l) m i h =
+    let e = reaches_ends a l in
+    whole_ext m (least a l) (omega (arith, atmost_value m (least a l) (h (least a l) e.lowest), atmost_value (least a l) m (e.between m i).0))
+
+highest_is : (l : List ℤ) (m : ℤ) → Memᴰ m l → ((z : ℤ) → Memᴰ z l → T (le_z z m)) → m ≡ highest l
+unfolding highest
+highest_is [] m i h = absurd (not-nil i)
+highest_is (a ∷ l) m i h =
+    let e = reaches_ends a l in
+    whole_ext m (greatest a l) (omega (arith, atmost_value (greatest a l) m (h (greatest a l) e.highest), atmost_value m (greatest a l) (e.between m i).1))
+
 -- Stored coordinates are in the order of the coordinates.
-order_yes : (a b : ℕ) → a ≤ b → le_z (coordinate a) (coordinate b) ≡ true
-order_yes a b h =
-    true_of (le_z (coordinate a) (coordinate b))
-    (value_atmost (coordinate a) (coordinate b) (omega (arith, coordinate_value a, coordinate_value b)))
+order : (a b : ℕ) → a ≤ b → T (le_z (coordinate a) (coordinate b))
+order a b h = value_atmost (coordinate a) (coordinate b) (omega (arith, coordinate_value a, coordinate_value b))
 
-order_no : (a b : ℕ) → b < a → le_z (coordinate a) (coordinate b) ≡ false
-order_no a b h =
-    false_of (le_z (coordinate a) (coordinate b))
-    (λ t. omega (arith, atmost_value (coordinate a) (coordinate b) t, coordinate_value a, coordinate_value b))
+-- What stands at a place is a member, and what holds at each place holds of each member.
+member : (l : List ℕ) (k : ℕ) → k < length l → Memᴰ (coordinate (get_or l k 0)) (map coordinate l)
+member [] k h = absurd (omega arith)
+member (a ∷ l) zero h = head refl
+member (a ∷ l) (suc k) h = tail (member l k (omega arith))
 
-abbrev chosen : ℕ → ℕ → Bool → ℤ
-chosen a b t = if t (λ _. coordinate a) (λ _. coordinate b)
+each : (P : ℤ → Type 0) (l : List ℕ) → ((k : ℕ) → k < length l → P (coordinate (get_or l k 0))) → (z : ℤ) → Memᴰ z (map coordinate l) → P z
+each P [] h z i = absurd (not-nil i)
+each P (a ∷ l) h z i =
+    ⊎_elim (λ e. subst⁻¹ P e (h 0 (omega arith))) (each P l (λ k p. h (suc k) (omega arith)) z) (cases_cons i)
 
-smaller_is : (a b : ℕ) → coordinate (min a b) ≡ chosen a b (le_z (coordinate a) (coordinate b))
-smaller_is a b = go (dec_le a b)
-  where
-    go : Dec (a ≤ b) → coordinate (min a b) ≡ chosen a b (le_z (coordinate a) (coordinate b))
-    go (yes h) = let e : min a b ≡ a = omega arith in ap coordinate e ∙ ap (chosen a b) (sym (order_yes a b h))
-    go (no h) = let e : min a b ≡ b = omega arith in ap coordinate e ∙ ap (chosen a b) (sym (order_no a b (omega arith)))
+-- The least of some numbers and the greatest, by what the searches for them say; coordinate 0 where there is none.
+pub least-end : (l : List ℕ) (r : Option ℕ) → MatchOption r (length l ≡ 0) (λ m. (k : ℕ) → k < length l → m ≤ get_or l k 0)
+    → IfSome r (λ m. (k : ℕ) × (k < length l) × (get_or l k 0 ≡ m)) → coordinate (unwrap_or r 30000) ≡ lowest (map coordinate l)
+unfolding lowest coordinate
+least-end [] None e i = refl
+least-end (a ∷ l) None e i = absurd (omega arith)
+least-end l (Some m) h i =
+    lowest_is (map coordinate l) (coordinate m) (subst (λ (u : ℕ). Memᴰ (coordinate u) (map coordinate l)) i.2 (member l i.0 i.1))
+    (each (λ (z : ℤ). T (le_z (coordinate m) z)) l (λ k p. order m (get_or l k 0) (h k p)))
 
-larger_is : (a b : ℕ) → coordinate (max a b) ≡ chosen a b (le_z (coordinate b) (coordinate a))
-larger_is a b = go (dec_le b a)
-  where
-    go : Dec (b ≤ a) → coordinate (max a b) ≡ chosen a b (le_z (coordinate b) (coordinate a))
-    go (yes h) = let e : max a b ≡ a = omega arith in ap coordinate e ∙ ap (chosen a b) (sym (order_yes b a h))
-    go (no h) = let e : max a b ≡ b = omega arith in ap coordinate e ∙ ap (chosen a b) (sym (order_no b a (omega arith)))
-
--- One more in front of some.
-lowest_more : (a : ℤ) (l : List ℤ) → 0 < length l → lowest (a ∷ l) ≡ (let m = lowest l in if (le_z a m) (λ _. a) (λ _. m))
-unfolding lowest extreme
-lowest_more a [] h = absurd (omega arith)
-lowest_more a (b ∷ l) h = refl
-
-highest_more : (a : ℤ) (l : List ℤ) → 0 < length l → highest (a ∷ l) ≡ (let m = highest l in if (le_z m a) (λ _. a) (λ _. m))
-unfolding highest extreme
-highest_more a [] h = absurd (omega arith)
-highest_more a (b ∷ l) h = refl
-
--- The coordinates of the first n places.
-abbrev pub first_of : List ℕ → ℕ → List ℤ
-first_of values n = map coordinate (take n values)
-
--- Of those from place i on the least and the greatest are low and high, in stored form.
-pub record ReachFrom (values : List ℕ) (n i low high : ℕ) : Type 0 where
-  pub within : i < n
-  pub stored : (low < base) × (high < base)
-  pub least : coordinate low ≡ lowest (drop i (first_of values n))
-  pub greatest : coordinate high ≡ highest (drop i (first_of values n))
-
-module _ (values : List ℕ) (n : ℕ) (fits : n ≤ length values) where
-  abbrev l : List ℤ
-  l = first_of values n
-
-  count : length l ≡ n
-  count = length-map (take n values) coordinate ∙ length-take-le n values fits
-
-  cut : (i : ℕ) → i < n → drop i l ≡ coordinate (get_or values i 0) ∷ drop (suc i) l
-  cut i h =
-      drop-cons l i (coordinate 0) (omega (arith, count))
-      ∙ ap (λ (z : ℤ). z ∷ drop (suc i) l) (get_or-map coordinate (take n values) i 0 ∙ ap coordinate (get_or-take n values i 0 h))
-
-  -- The last one alone, and one more in front.
-  pub reach_last : ¬ (n ≡ 0) → (v : ℕ) → (v ≡ get_or values (n - 1) 0) × (v < base) → ReachFrom values n (n - 1) v v
-  unfolding lowest highest extreme
-  reach_last h v e =
-      let end : length l ≤ suc (n - 1) = omega (arith, count) in
-      let one = cut (n - 1) (omega arith) ∙ (λ i. coordinate (sym e.0 i) ∷ drop_of_length-le l end i) in
-      record { within = omega arith; stored = (e.1, e.1); least = sym (ap lowest one); greatest = sym (ap highest one) }
-
-  pub reach_more : (i low high v low' high' : ℕ) → ReachFrom values n i low high → 0 < i → (v ≡ get_or values (i - 1) 0) × (v < base) → low' ≡ min v low
-      → high' ≡ max v high → ReachFrom values n (i - 1) low' high'
-  reach_more i low high v low' high' r p e el eh =
-      let place : suc (i - 1) ≡ i = omega arith in
-      let some : 0 < length (drop i l) = omega (arith, length-drop i l, count, r.within) in
-      let one = cut (i - 1) (omega (arith, r.within)) ∙ (λ j. coordinate (sym e.0 j) ∷ drop (place j) l) in
-      record {
-        within = omega (arith, r.within);
-        stored = (omega (arith, el, r.stored), omega (arith, eh, e.1, r.stored));
-        least =
-            ap coordinate el ∙ smaller_is v low
-            ∙ ap (λ (z : ℤ). if (le_z (coordinate v) z) (λ _. coordinate v) (λ _. z)) r.least
-            ∙ sym (ap lowest one ∙ lowest_more (coordinate v) (drop i l) some);
-        greatest =
-            ap coordinate eh ∙ larger_is v high
-            ∙ ap (λ (z : ℤ). if (le_z z (coordinate v)) (λ _. coordinate v) (λ _. z)) r.greatest
-            ∙ sym (ap highest one ∙ highest_more (coordinate v) (drop i l) some);
-      }
-
-  -- The first one is reached.
-  pub reach_all : (i low high : ℕ) → ReachFrom values n i low high → i ≤ 0 → (coordinate low ≡ lowest l) × (coordinate high ≡ highest l)
-  reach_all i low high r h =
-      let e : i ≡ 0 = omega arith in
-      (r.least ∙ ap (λ (k : ℕ). lowest (drop k l)) e, r.greatest ∙ ap (λ (k : ℕ). highest (drop k l)) e)
-
--- There is none.
-pub reach_none : (values : List ℕ) (n : ℕ) → n ≡ 0
-    → (coordinate 30000 ≡ lowest (map coordinate (take n values))) × (coordinate 30000 ≡ highest (map coordinate (take n values)))
-unfolding lowest highest coordinate
-reach_none values n e = rw e (refl, refl)
+pub greatest-end : (l : List ℕ) (r : Option ℕ) → MatchOption r (length l ≡ 0) (λ m. (k : ℕ) → k < length l → get_or l k 0 ≤ m)
+    → IfSome r (λ m. (k : ℕ) × (k < length l) × (get_or l k 0 ≡ m)) → coordinate (unwrap_or r 30000) ≡ highest (map coordinate l)
+unfolding highest coordinate
+greatest-end [] None e i = refl
+greatest-end (a ∷ l) None e i = absurd (omega arith)
+greatest-end l (Some m) h i =
+    highest_is (map coordinate l) (coordinate m) (subst (λ (u : ℕ). Memᴰ (coordinate u) (map coordinate l)) i.2 (member l i.0 i.1))
+    (each (λ (z : ℤ). T (le_z z (coordinate m))) l (λ k p. order (get_or l k 0) m (h k p)))

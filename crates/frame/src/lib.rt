@@ -1,14 +1,13 @@
 // The frame of a picture (SPEC 9.9): the box around the points of a deck, and where in the picture a point is drawn.
 #![tactic(auto)]
 
-ghost use Rattle.std.specs.Prelude.{◌≡◌, map, ◌≤◌, ◌<◌, length, take};
+ghost use Rattle.std.specs.Prelude.{◌≡◌, ◌≤◌, length, MatchOption, IfSome, EachIndex, SomeIndex, slice_index};
 ghost use Rattle.arrays.specs.Tab.{tab};
-ghost use Rattle.plane.specs.Coordinate.{base, coordinate};
-ghost use Rattle.frame.specs.Frame.{lowest, highest, most_side, box_of, long_side, across_at, down_at};
+ghost use Rattle.plane.specs.Coordinate.{coordinate};
+ghost use Rattle.frame.specs.Frame.{most_side, box_of, long_side, across_at, down_at};
 ghost use Rattle.frame.specs.Stored.{stored_point, box_in};
 
 use plane::apart;
-use plane::numbers::{larger, smaller};
 
 // The stored form of coordinate 0.
 const ORIGIN: u16 = 30000;
@@ -21,13 +20,6 @@ const MIDDLE: u64 = 220;
 
 const MARGIN: u64 = 20;
 
-// The least and the greatest of some coordinates, in stored form.
-#[derive(Clone, Copy)]
-struct Reach {
-    low: u16,
-    high: u16,
-}
-
 // The box around points: its left and its upper side, in stored form, its width and its height.
 #[derive(Clone, Copy)]
 pub struct Frame {
@@ -37,76 +29,60 @@ pub struct Frame {
     pub height: u16,
 }
 
-// A stored coordinate as a wider number.
-fn wide(u: u16) -> u64
-    ensures { (result ≡ u) × (result < base) }
+// The least of some coordinates.
+fn least(values: &[u16]) -> Option<u16>
+    ensures bound { MatchOption result (length values.now ≡ 0) (λ m. EachIndex values.now (λ k. m ≤ slice_index values.now k)) }
+    ensures member { IfSome result (λ m. SomeIndex values.now (λ k. slice_index values.now k ≡ m)) }
 {
-    u as u64
+    values.iter().copied().min()
 }
 
-// The least and the greatest of the first n coordinates, ORIGIN both where there is none.
-fn reach_of(values: &[u16], n: usize) -> Reach
-    requires { n ≤ length values.now }
-    ensures low_value { coordinate result.low ≡ lowest (map coordinate (take n values.now)) }
-    ensures high_value { coordinate result.high ≡ highest (map coordinate (take n values.now)) }
+// The greatest of some coordinates.
+fn greatest(values: &[u16]) -> Option<u16>
+    ensures bound { MatchOption result (length values.now ≡ 0) (λ m. EachIndex values.now (λ k. slice_index values.now k ≤ m)) }
+    ensures member { IfSome result (λ m. SomeIndex values.now (λ k. slice_index values.now k ≡ m)) }
 {
-    if n == 0 {
-        return Reach {
-            low: ORIGIN,
-            high: ORIGIN,
-        };
+    values.iter().copied().max()
+}
+
+impl Frame {
+    // Returns the frame of some points, given by their x and by their y.
+    pub fn around(xs: &[u16], ys: &[u16]) -> Self
+        requires { length xs.now ≡ length ys.now }
+        ensures { box_in result ≡ box_of (tab (stored_point xs.now ys.now) (length xs.now)) }
+    {
+        let left = least(xs).unwrap_or(ORIGIN);
+        let right = greatest(xs).unwrap_or(ORIGIN);
+        let bottom = least(ys).unwrap_or(ORIGIN);
+        let top = greatest(ys).unwrap_or(ORIGIN);
+        Frame {
+            left,
+            top,
+            width: apart(left, right),
+            height: apart(bottom, top),
+        }
     }
-    let mut i = n - 1;
-    let mut low = wide(values[i]);
-    let mut high = low;
-    while 0 < i {
-        i -= 1;
-        let value = wide(values[i]);
-        low = smaller(value, low);
-        high = larger(value, high);
+
+    // Returns the longer side of the box, 1 at least: all sizes in the picture are multiples of it.
+    pub fn long_side(self) -> u64
+        ensures value { result ≡ long_side (box_in self) }
+        ensures lower_bound { (self.width ≤ result) × (result ≤ most_side) }
+    {
+        u64::from(self.width.max(self.height).max(1))
     }
-    Reach {
-        low: low as u16,
-        high: high as u16,
+
+    // Returns how far from the left side of the picture a point with this stored x is drawn.
+    pub fn across(self, x: u16) -> u64
+        ensures { result ≡ across_at (box_in self) (coordinate x) }
+    {
+        let from_left = u64::from(apart(self.left, x));
+        MIDDLE * self.long_side() - SCALE / 2 * u64::from(self.width) + SCALE * from_left
     }
-}
 
-// Returns the frame of the first n points.
-pub fn frame_of(xs: &[u16], ys: &[u16], n: usize) -> Frame
-    requires { (n ≤ length xs.now) × (n ≤ length ys.now) }
-    ensures { box_in result ≡ box_of (tab (stored_point xs.now ys.now) n) }
-{
-    let x = reach_of(xs, n);
-    let y = reach_of(ys, n);
-    Frame {
-        left: x.low,
-        top: y.high,
-        width: apart(x.low, x.high),
-        height: apart(y.low, y.high),
+    // Returns how far from the upper side of the picture a point with this stored y is drawn.
+    pub fn down(self, y: u16) -> u64
+        ensures { result ≡ down_at (box_in self) (coordinate y) }
+    {
+        MARGIN * self.long_side() + SCALE * u64::from(apart(y, self.top))
     }
-}
-
-// Returns the longer side of the box, 1 at least: all sizes in the picture are multiples of it.
-pub fn long_side(f: Frame) -> u64
-    ensures value { result ≡ long_side (box_in f) }
-    ensures lower_bound { (f.width ≤ result) × (result ≤ most_side) }
-{
-    larger(1, larger(f.width as u64, f.height as u64))
-}
-
-// Returns how far from the left side of the picture a point with this stored x is drawn.
-pub fn across(f: Frame, x: u16) -> u64
-    ensures { result ≡ across_at (box_in f) (coordinate x) }
-{
-    let left = f.left;
-    let width = f.width as u64;
-    MIDDLE * long_side(f) - SCALE / 2 * width + SCALE * (apart(left, x) as u64)
-}
-
-// Returns how far from the upper side of the picture a point with this stored y is drawn.
-pub fn down(f: Frame, y: u16) -> u64
-    ensures { result ≡ down_at (box_in f) (coordinate y) }
-{
-    let top = f.top;
-    MARGIN * long_side(f) + SCALE * (apart(y, top) as u64)
 }

@@ -20,6 +20,7 @@ const COUNT: usize = 4;
 
 const PAIRS: usize = COUNT + COUNT_SIZE;
 
+// Stays: numbers and no enum, since the loop over a header counts through them and `model.offset b k` of the definitions takes them.
 // The sections by their numbers, and the fewest and the most that there are: a deck of sensors alone does without the kinds.
 pub const PINS: usize = 0;
 
@@ -80,17 +81,9 @@ pub fn size(b: &[u8], k: usize) -> usize
 pub fn is_headed(b: &[u8]) -> bool
     ensures { result ≡ headed b.now }
 {
-    if b.len() < SHORTEST {
-        return false;
-    }
-    if LONGEST < b.len() {
-        return false;
-    }
-    if !arrays::same::same_bytes(&b[..COUNT], b"DECK") {
-        return false;
-    }
-    let n = number2(b, COUNT);
-    (FEWEST_SECTIONS <= n) & (n <= MOST_SECTIONS)
+    (SHORTEST..=LONGEST).contains(&b.len())
+        && arrays::same::same(&b[..COUNT], b"DECK")
+        && (FEWEST_SECTIONS..=MOST_SECTIONS).contains(&number2(b, COUNT))
 }
 
 // Check 2 (SPEC 8.2): returns whether there are bytes for all the pairs, and the sections follow the header and one another, up to the end
@@ -104,13 +97,11 @@ pub fn is_laid_out(b: &[u8]) -> bool
     if b.len() < at {
         return false;
     }
-    let mut k = 0;
-    while k < n {
+    for k in 0..n {
         if offset(b, k) != at {
             return false;
         }
         at += size(b, k);
-        k += 1;
     }
     at == b.len()
 }
@@ -120,13 +111,9 @@ pub fn is_whole(b: &[u8]) -> bool
     requires { shortest ≤ length b.now }
     ensures { result ≡ whole b.now }
 {
-    if size(b, PINS) % POINT_SIZE != 0 {
-        return false;
-    }
-    if size(b, STEINER) % POINT_SIZE != 0 {
-        return false;
-    }
-    size(b, EDGES) % EDGE_SIZE == 0
+    size(b, PINS) % POINT_SIZE == 0
+        && size(b, STEINER) % POINT_SIZE == 0
+        && size(b, EDGES) % EDGE_SIZE == 0
 }
 
 // Returns whether the file has a section of kinds (SPEC 7.8).
@@ -142,8 +129,5 @@ pub fn is_plain(b: &[u8]) -> bool
     requires { shortest ≤ length b.now }
     ensures { result ≡ plain b.now }
 {
-    if size(b, STEINER) != 0 {
-        return false;
-    }
-    size(b, EDGES) == 0
+    size(b, STEINER) == 0 && size(b, EDGES) == 0
 }

@@ -8,11 +8,13 @@ ghost use Rattle.keys.specs.Keys as spec;
 use plane::PLACES;
 
 // The number of a point is less than this, a factor of keys; what stands above the two numbers of a key.
+// Stays: `as`, since a constant calls no From.
 pub const FACTOR: u64 = PLACES as u64;
 
 const PAIRS: u64 = FACTOR * FACTOR;
 
 // Larger than every key, since the longest edge has 17 bits and two numbers have 14.
+// Stays: a number and no Option, since the least of keys is taken in the search for the nearest points (`octant_keys` holds it).
 pub const NO_KEY: u64 = 4294967295;
 
 // Returns the key of an edge of length d between the points i and j, i the smaller.
@@ -20,13 +22,15 @@ pub fn key(d: u32, i: usize, j: usize) -> u64
     requires { (d ≤ spec.longest_edge) × (i < spec.places) × (j < spec.places) }
     ensures { result ≡ spec.key d i j }
 {
-    (d as u64 * FACTOR + i as u64) * FACTOR + j as u64
+    // Stays: `as`, since no From takes a usize to a u64.
+    (u64::from(d) * FACTOR + i as u64) * FACTOR + j as u64
 }
 
 // Returns the smaller of the two numbers of a key.
 pub fn low(k: u64) -> usize
     ensures { result ≡ spec.low k }
 {
+    // Stays: `as`, since no From takes a u64 to a usize.
     (k / FACTOR % FACTOR) as usize
 }
 
@@ -34,6 +38,7 @@ pub fn low(k: u64) -> usize
 pub fn high(k: u64) -> usize
     ensures { result ≡ spec.high k }
 {
+    // Stays: `as`, since no From takes a u64 to a usize.
     (k % FACTOR) as usize
 }
 

@@ -2,7 +2,7 @@
 // were kept before. Each of the numbers below PLACES has a label, and two numbers are connected exactly if they have the same one.
 #![tactic(auto)]
 
-ghost use Rattle.std.specs.Prelude.{◌≡◌, [], ℕ, ◌≤◌, ◌<◌, length, take, get_or};
+ghost use Rattle.std.specs.Prelude.{◌≡◌, [], ℕ, ◌≤◌, ◌<◌, length, get_or};
 ghost use Rattle.spanning.specs.Kruskal.{kruskal};
 ghost use Rattle.keys.specs.Keys.{places, key_graph};
 ghost use Rattle.arrays.specs.Paste.{Pasted};
@@ -23,10 +23,8 @@ pub fn relabel(labels: &mut [u8], a: u8, b: u8)
     requires { length labels.old ≡ places }
     ensures { (u : ℕ) → u < places → get_or labels.new u 0 ≡ moved a b (get_or labels.old u 0) }
 {
-    let mut i = 0;
-    while i < PLACES {
-        labels[i] = choice(labels[i], a, b);
-        i += 1;
+    for label in labels.iter_mut() {
+        *label = choice(*label, a, b);
     }
 }
 
@@ -35,34 +33,26 @@ pub fn separate(labels: &mut [u8])
     requires { length labels.old ≡ places }
     ensures { (u : ℕ) → u < places → get_or labels.new u 0 ≡ u }
 {
-    let mut i = 0;
-    let mut own: u8 = 0;
-    while i < PLACES {
-        labels[i] = own;
-        own += 1;
-        i += 1;
+    for (i, label) in labels.iter_mut().enumerate() {
+        // Stays: `as`, since the number fits, as is proved; try_from would hand out an error that never comes.
+        *label = i as u8;
     }
 }
 
-// Writes those of the first `count` keys that Kruskal's method keeps to the front of `out`, in their order, and returns their number.
+// Writes those of the keys that Kruskal's method keeps to the front of `out`, in their order, and returns their number.
 // The keys need be in no order here.
-pub fn span(keys: &[u64], count: usize, out: &mut [u64]) -> usize
-    requires { (count ≤ length keys.now) × (count ≤ length out.old) }
-    ensures { Pasted (kruskal key_graph [] (take count keys.now)) out.old out.new 0 result }
+pub fn span(keys: &[u64], out: &mut [u64]) -> usize
+    requires { length keys.now ≤ length out.old }
+    ensures { Pasted (kruskal key_graph [] keys.now) out.old out.new 0 result }
 {
     let mut labels = [0u8; PLACES];
     separate(&mut labels);
     let mut n = 0;
-    let mut i = 0;
-    while i < count {
-        let k = keys[i];
-        let lo = low(k);
-        let hi = high(k);
-        let a = labels[lo];
-        let b = labels[hi];
-        i += 1;
+    for key in keys {
+        let a = labels[low(*key)];
+        let b = labels[high(*key)];
         if a != b {
-            out[n] = k;
+            out[n] = *key;
             n += 1;
             relabel(&mut labels, a, b);
         }

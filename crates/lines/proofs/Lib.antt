@@ -1,4 +1,3 @@
 -- Laws of lines.
-pub mod Bytes
 pub mod Input
 pub mod Taking

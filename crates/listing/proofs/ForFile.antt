@@ -1,6 +1,6 @@
 -- What is printed for a file, by whether there is room, and by what reading it gave.
+use Rattle.std.specs.Prelude.{Ok, Err}
 use mathlib.Core.Path.{◌≡◌, sym, ap}
-use mathlib.Core.Bool.{false, true}
 use mathlib.Core.List.{List}
 use Prim.Native.Nat.{ℕ, ◌≤◌, ◌<◌}
 use native.Mathlib.Omega.{arith}
@@ -17,12 +17,12 @@ use Rattle.listing.specs.Printed.{is_refused, printed_text, Prints}
 
 module _ (room : ℕ) (text : Contents → List ℕ) (read : Read) (before : List ℕ) where
   -- No room.
-  pub prints_none : length before < room → Prints room text read before before (record { refused = false; size = 0 })
+  pub prints_none : length before < room → Prints room text read before before (Ok 0)
   prints_none h = record { stream = λ k. absurd (omega arith); put = front_none room before (printed_text text read) h }
 
   -- The line of a refusal, for which there is room too.
   pub prints_refusal : (n : ℕ) {after : List ℕ} {r : ℕ} → read ≡ refusal n → room ≤ length before → line_room ≤ room
-      → Pasted (fitting line_room before (refused_line n)) before after 0 r → Prints room text read before after (record { refused = true; size = r })
+      → Pasted (fitting line_room before (refused_line n)) before after 0 r → Prints room text read before after (Err r)
   prints_refusal n {after} {r} e h k p =
       record {
         stream = λ _. sym (ap is_refused e);
@@ -33,6 +33,6 @@ module _ (room : ℕ) (text : Contents → List ℕ) (read : Read) (before : Lis
 
   -- The text of a deck.
   pub prints_deck : (c : Contents) {after : List ℕ} {r : ℕ} → read ≡ deck c → Pasted (fitting room before (text c)) before after 0 r
-      → Prints room text read before after (record { refused = false; size = r })
+      → Prints room text read before after (Ok r)
   prints_deck c e p =
       record { stream = λ _. sym (ap is_refused e); put = pasted_same (ap (λ (d : Read). fitting room before (printed_text text d)) (sym e)) p }

@@ -1,6 +1,6 @@
 -- The text of a deck by whether it is sound, and the listing of a deck in working form from its four parts.
 use mathlib.Core.Path.{◌≡◌, refl, sym, ap}
-use mathlib.Core.Bool.{Bool, true, false}
+use mathlib.Core.Bool.{Bool, true}
 use mathlib.Core.List.{List, ◌++◌}
 use Prim.Native.Nat.{ℕ}
 use lib.ListN.{get_or}
@@ -24,9 +24,6 @@ use Rattle.listing.specs.Whole.{deck_text}
 
 pub text-sound : (d : Deck) → sound d ≡ true → listing (contents_of d) ≡ deck_text d
 text-sound d e = ap (λ (b : Bool). if b (λ _. listing (contents_of d)) (λ _. refused_line 11)) (sym e)
-
-pub text_unsound : (d : Deck) → sound d ≡ false → refused_line 11 ≡ deck_text d
-text_unsound d e = ap (λ (b : Bool). if b (λ _. listing (contents_of d)) (λ _. refused_line 11)) (sym e)
 
 -- The head line and the line of kinds, by what was measured.
 abbrev head_text : Measures → List ℕ

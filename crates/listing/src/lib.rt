@@ -6,7 +6,7 @@ ghost use Rattle.model.specs.State.{Valid};
 ghost use Rattle.model.specs.Contents.{ValidContents};
 ghost use Rattle.model.specs.Listing as model;
 ghost use Rattle.arrays.specs.Paste.{Pasted};
-ghost use Rattle.working.specs.InOrder.{InOrder, state_of};
+ghost use Rattle.working.specs.InOrder.{state_of};
 ghost use Rattle.working.specs.WorkingDeck.{contents_of};
 ghost use Rattle.ascii.specs.Text.{fitting};
 ghost use Rattle.ascii.specs.Line.{line_room};
@@ -17,6 +17,7 @@ use ascii::refused_line;
 use deck::Deck;
 use deck::check::check;
 use measures::{kind_lengths, measure};
+use refusals::Refusal;
 use rows::{numbers_line, run_lines, tap_lines};
 use working::Working;
 use working::deck::WorkingDeck;
@@ -25,29 +26,22 @@ use working::deck::WorkingDeck;
 // point.
 pub const LISTING_ROOM: usize = 8704;
 
-// What a program prints for a deck file: so many bytes, on standard error where the file was refused, else on standard output.
-#[derive(Clone, Copy)]
-pub struct Printed {
-    pub refused: bool,
-    pub size: usize,
-}
+// What a program prints for a deck file: so many bytes on standard output, or, where the file was refused, so many on standard error.
+pub type Printed = Result<usize, usize>;
 
 // The tap lines of a working form.
 fn write_taps(w: Working, out: &mut [u8], at: usize) -> usize
     requires at_in_bounds { at + 1148 ≤ length out.old }
-    requires in_order { InOrder w }
     requires valid { Valid (state_of w) }
     ensures pasted { Pasted (model.tap_lines (state_of w).steiner) out.old out.new at result }
     ensures upper_bound { result ≤ at + 1116 }
 {
-    let steiner = w.points.steiner;
-    tap_lines(out, at, &steiner, w.points.nsteiner)
+    tap_lines(out, at, &w.points.steiner[..w.points.nsteiner])
 }
 
 // The listing of a deck in working form at the front of `out`, which has to have room for LISTING_ROOM bytes. Returns its length; 0 where
 // there is no room.
 pub fn list_working(d: WorkingDeck, out: &mut [u8]) -> usize
-    requires in_order { InOrder d.form }
     requires valid_contents { ValidContents (contents_of d) }
     ensures { Pasted (fitting listing_room out.old (model.listing (contents_of d))) out.old out.new 0 result }
 {
@@ -70,11 +64,10 @@ pub fn list(d: Deck, out: &mut [u8]) -> usize
     if out.len() < LISTING_ROOM {
         return 0;
     }
-    let c = check(d);
-    if !c.ok {
-        return refused_line(out, 0, 11);
-    }
-    list_working(c.working, out)
+    let Some(w) = check(d) else {
+        return refused_line(out, 0, u64::from(u8::from(Refusal::NotSound)));
+    };
+    list_working(w, out)
 }
 
 // The line of a refusal at the front of `out`, which has to have room for LINE_ROOM bytes. Returns its length; 0 where there is no room.
@@ -84,5 +77,5 @@ pub fn list_refusal(n: u8, out: &mut [u8]) -> usize
     if out.len() < LINE_ROOM {
         return 0;
     }
-    refused_line(out, 0, n as u64)
+    refused_line(out, 0, u64::from(n))
 }

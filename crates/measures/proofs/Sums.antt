@@ -14,13 +14,12 @@ use Rattle.plane.specs.Edge.{Edge, edge_length}
 use Rattle.plane.proofs.codes.Sets.{points-beside}
 use Rattle.model.specs.DeviceKinds.{sensor, largest_kind}
 use Rattle.model.specs.Contents.{Contents, kind_at, ValidContents}
-use Rattle.model.specs.Tail.{longest_tail}
 use Rattle.model.specs.Question.{listed}
 use Rattle.model.specs.KindLength.{run_kind, length_in, kind_lengths}
 use Rattle.model.proofs.KindLength.{share, length_none, length_behind, run_kind-known}
 use Rattle.working.specs.declared.deck.WorkingDeck.{WorkingDeck}
 use Rattle.edges.specs.declared.CodedEdge.{CodedEdge}
-use Rattle.working.specs.InOrder.{InOrder, state_of}
+use Rattle.working.specs.InOrder.{state_of}
 use Rattle.working.specs.WorkingDeck.{contents_of}
 use Rattle.edges.specs.Edges.{edge_of, EdgeAt}
 use Rattle.edges.proofs.Numbers.{near-codes, edges_more, listed-length}
@@ -64,22 +63,22 @@ module _ (d : WorkingDeck) where
       }
 
   -- The kind by the codes of the ends is that of the edge.
-  pub kind_is : (p : InOrder d.form) (v : ValidContents c) {i r : ℕ} {e : CodedEdge}
-      → EdgeAt d.tail (state_of d.form) i e → r ≡ coded_kind e d.form.points.pins d.kinds d.form.points.npins
+  pub kind_is : (v : ValidContents c) {i r : ℕ} {e : CodedEdge}
+      → EdgeAt d.tail (state_of d.form) i e → r ≡ coded_kind e (take d.form.points.npins d.form.points.pins) (take d.form.points.npins d.kinds)
       → (r ≡ run_kind c (edge_of e)) × (r ≤ largest_kind)
   unfolding run_kind
-  kind_is p v {e = e} at is =
+  kind_is v {e = e} at is =
       let same = is ∙ (λ j. max (end e.low at.coded.0 j) (end e.high at.coded.1 j)) in
       (same, omega (arith, same, run_kind-known c v (edge_of e)))
     where
       end : (k : ℕ) → T (is_code k)
           → beside ltb sensor k (take d.form.points.npins d.form.points.pins) (take d.form.points.npins d.kinds) ≡ kind_at c (point_of k)
-      end k t = points-beside sensor k t _ p.arranged.pin_codes.codes _
+      end k t = points-beside sensor k t _ d.form.in_order.arranged.pin_codes.codes _
 
-  module _ (sums : List ℕ) (i r : ℕ) (e : CodedEdge) (so : SumsTo d sums i) (at : EdgeAt d.tail (state_of d.form) i e)
-      (is : r ≡ run_kind c (edge_of e)) (known : r ≤ largest_kind) (tailed : d.tail ≤ longest_tail) where
+  module _ (v : ValidContents c) (sums : List ℕ) (i r : ℕ) (e : CodedEdge) (so : SumsTo d sums i) (at : EdgeAt d.tail (state_of d.form) i e)
+      (is : r ≡ run_kind c (edge_of e)) (known : r ≤ largest_kind) where
     short : e.length ≤ 132070
-    short = omega (arith, at.measured, near-codes (edge_length (edge_of e)) e.low e.high refl, tailed)
+    short = omega (arith, at.measured, near-codes (edge_length (edge_of e)) e.low e.high refl, v.tailed)
 
     pub sum_fits : get_or sums r 0 + e.length ≤ 132070 * (i + 1)
     sum_fits =
@@ -103,5 +102,5 @@ module _ (d : WorkingDeck) where
           most = λ k. omega (arith, more k, so.most k, share_most k, short);
         }
 
-  pub sums_all : InOrder d.form → {sums : List ℕ} {i : ℕ} → SumsTo d sums i → d.form.nkeys ≤ i → sums ≡ kind_lengths c
-  sums_all p {i = i} so h = so.are ∙ ap (sums_of c) (take_all i runs (omega (arith, listed-length d.form p, h)))
+  pub sums_all : {sums : List ℕ} {i : ℕ} → SumsTo d sums i → d.form.nkeys ≤ i → sums ≡ kind_lengths c
+  sums_all {i = i} so h = so.are ∙ ap (sums_of c) (take_all i runs (omega (arith, listed-length d.form, h)))

@@ -23,7 +23,7 @@ use Rattle.model.proofs.Prune.{points-rise}
 use Rattle.model.proofs.Bounds.{points-count, edges_fewer}
 use Rattle.model.proofs.Bytes.{points-section, section_points_lem, section-length}
 use Rattle.model.proofs.FileSize.{file_size_lem, listed-count, runs-length}
-use Rattle.arrays.proofs.same.Alike.{same_refl, same_eq}
+use Rattle.arrays.proofs.Alike.{same_refl, same_eq}
 use Rattle.model.proofs.Sections.{laid_out_is, follow-within, section-within, Laid, file_laid, shows-follow, part_bytes, part_length}
 use Rattle.model.proofs.Sections.{sections_from, file_made}
 use Rattle.model.proofs.FileValid.{Headed, headed_is, Accepted, accepted, accept, file-valid}

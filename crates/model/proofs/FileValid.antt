@@ -17,7 +17,7 @@ use Rattle.model.specs.State.{max_pins, Placed, Valid, placed, valid}
 use Rattle.model.specs.DeviceKinds.{is_kind, sensors}
 use Rattle.model.specs.Contents.{Contents, with_kinds, ValidContents}
 use Rattle.arrays.specs.Same.{same_list}
-use Rattle.arrays.proofs.same.Alike.{same_refl, same_eq}
+use Rattle.arrays.proofs.Alike.{same_refl, same_eq}
 use Rattle.model.specs.Sections.{magic, count_place, section_count, section, offset, size, laid_out}
 use Rattle.model.specs.File.{fewest_sections, most_sections, shortest, longest, headed, whole, plain, has_kinds, kinds_place, all_kinds, shows_kinds}
 use Rattle.model.specs.File.{deck, file_checks, read_file, file_state, file_contents, points_of, run_section}

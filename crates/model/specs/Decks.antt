@@ -47,7 +47,7 @@ play c (k ∷ ks) =
 
 -- What reading a list of bytes gives.
 unfoldable pub reads : List ℕ → Read
-unfolding play rising all placed valid signed16 word16 follow laid_out section_of number_of run_bytes same_list points_of read_by read_file
+unfolding play rising all placed valid signed16 word16 follow laid_out section_of number_of run_bytes points_of read_by read_file
 reads b = read_file b
 
 -- The half perimeter of the box around points, worked out.

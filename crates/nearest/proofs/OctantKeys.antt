@@ -2,18 +2,22 @@
 use mathlib.Core.Path.{◌≡◌, refl, sym, ap, ap₂, ◌∙◌}
 use mathlib.Core.Bool.{Bool, true, false}
 use mathlib.Core.List.{List, [], ◌∷◌}
-use Prim.Native.Nat.{ℕ, suc, ◌+◌, ◌≤◌, ◌<◌, min}
+use Prim.Native.Nat.{ℕ, zero, suc, ◌+◌, ◌≤◌, ◌<◌, min}
 use native.Mathlib.Numerals.{add-one}
 use native.Mathlib.Omega.{arith}
 use lib.Dec.{T, T_not}
-use lib.ListN.{length, get_or, set}
+use lib.ListN.{length, take, get_or, set}
+use lib.Seq.{get_or-take}
 use lib.IntN.{ℤ, ◌-ℤ◌}
 use Rattle.plane.specs.Point.{Point, dist}
+use Rattle.plane.specs.Stored.{point_at}
 use Rattle.octants.specs.Octant.{conditions, in_octant, first_true, octant}
 use Rattle.octants.specs.Nearest.{in_octant_of}
+use Rattle.arrays.specs.Test.{if}
 use Rattle.arrays.proofs.Test.{by_test}
 use Rattle.octants.proofs.OneOctant.{octant_is}
-use Rattle.keys.specs.Keys.{key, least_key}
+use Rattle.keys.specs.Held.{held}
+use Rattle.keys.specs.Keys.{key, least_key, octant_keys}
 use Rattle.arrays.specs.Tab.{tab}
 use Rattle.arrays.proofs.Tab.{tab_get, tab_same, tab-set}
 
@@ -51,6 +55,20 @@ module _ (at : ℕ → Point) (c : Point) (n j v : ℕ) (is : octant ((at j).x -
 
   pub octants_same : 8 ≤ v → tab (λ (o : ℕ). least_key at c n o j) 8 ≡ tab (λ (o : ℕ). least_key at c n o (suc j)) 8
   octants_same h = tab_same _ _ 8 (λ i l. sym (least_other i (λ e. omega arith)))
+
+-- What is said of the first n points is said by their places alone.
+least_same : (at at' : ℕ → Point) (c : Point) (n o j : ℕ) → ((i : ℕ) → i < j → at i ≡ at' i) → least_key at c n o j ≡ least_key at' c n o j
+unfolding least_key
+least_same at at' c n o zero h = refl
+least_same at at' c n o (suc j) h =
+    ap₂ (λ (p : Point) (r : ℕ). if (in_octant_of o c p) (λ _. min (key (dist p c) j n) r) (λ _. r)) (h j (omega arith))
+    (least_same at at' c n o j (λ i l. h i (omega arith)))
+
+pub octant_keys-first : (xs ys : List ℕ) (c : Point) (n : ℕ) → octant_keys (held (take n xs) (take n ys)) c n ≡ octant_keys (held xs ys) c n
+unfolding octant_keys
+octant_keys-first xs ys c n =
+    tab_same _ _ 8 (λ o _. least_same (held (take n xs) (take n ys)) (held xs ys) c n o n
+    (λ i h. ap₂ point_at (get_or-take n xs i 0 h) (get_or-take n ys i 0 h)))
 
 -- One step of the search: the point j is in octant v, with the key k, and the table b becomes b'.
 module _ (at : ℕ → Point) (c : Point) (n j v : ℕ) (is : v ≡ octant ((at j).x -ℤ c.x) ((at j).y -ℤ c.y))

@@ -1,9 +1,7 @@
 -- Whole numbers of 32 bits, signed, as words (SPEC 9.3).
-use Rattle.std.specs.Prelude.{Bool, true, false, ◌&&◌, List, [], ◌∷◌, ℕ, ◌+◌, ◌*◌, ◌-◌, leb, eqb, pos, neg_ℤ}
+use Rattle.std.specs.Prelude.{Bool, true, false, ◌&&◌, List, [], ◌∷◌, ℕ, ◌+◌, ◌*◌, ◌-◌, leb, eqb, Option, None, Some, ℤ, pos, neg_ℤ}
 use Rattle.arrays.specs.Test.{if}
 use Rattle.arrays.specs.Text.{byte}
-use Rattle.numbers.specs.declared.Number.{Number}
-use Rattle.numbers.specs.declared.Number.TheVariants.{NoNumber, Is}
 
 -- Whether every byte is a digit, 0 to 9.
 unfoldable pub are_digits : List ℕ → Bool
@@ -20,9 +18,9 @@ abbrev pub is_magnitude : ℕ → List ℕ → Bool
 is_magnitude most [] = false
 is_magnitude most (b ∷ l) = are_digits (b ∷ l) && leb (value_from 0 (b ∷ l)) most
 
--- Its value, and `most` + 1 where it is none.
-unfoldable pub magnitude_of : ℕ → List ℕ → ℕ
-magnitude_of most l = if (is_magnitude most l) (λ _. value_from 0 l) (λ _. most + 1)
+-- Its value, if it is so.
+unfoldable pub magnitude_of : ℕ → List ℕ → Option ℕ
+magnitude_of most l = if (is_magnitude most l) (λ _. Some (value_from 0 l)) (λ _. None)
 
 -- The largest number of 32 bits with a sign, and the smallest without its sign.
 abbrev pub largest : ℕ
@@ -32,9 +30,9 @@ abbrev pub smallest : ℕ
 smallest = 2147483648
 
 -- The number of a word: digits, with a minus sign before them or with none, of a value that 32 bits hold.
-unfoldable pub number_of : List ℕ → Number
-number_of [] = NoNumber
+unfoldable pub number_of : List ℕ → Option ℤ
+number_of [] = None
 number_of (b ∷ l) =
     if (eqb b (byte "-"))
-    (λ _. if (is_magnitude smallest l) (λ _. Is (neg_ℤ (pos (value_from 0 l)))) (λ _. NoNumber))
-    (λ _. if (is_magnitude largest (b ∷ l)) (λ _. Is (pos (value_from 0 (b ∷ l)))) (λ _. NoNumber))
+    (λ _. if (is_magnitude smallest l) (λ _. Some (neg_ℤ (pos (value_from 0 l)))) (λ _. None))
+    (λ _. if (is_magnitude largest (b ∷ l)) (λ _. Some (pos (value_from 0 (b ∷ l)))) (λ _. None))

@@ -9,39 +9,25 @@ const LARGEST: u64 = 2147483647;
 
 const SMALLEST: u64 = LARGEST + 1;
 
-// A word as a number: none, or its value.
-#[derive(Clone, Copy)]
-pub enum Number {
-    NoNumber,
-    Is(i32),
-}
-
-// The value of one or more digits, or `most` + 1 where there are none, or others beside them, or the value is more than `most`.
-fn magnitude(digits: &[u8], most: u64) -> u64
+// The value of one or more digits, if there is no other byte beside them and the value is at most `most`.
+fn magnitude(digits: &[u8], most: u64) -> Option<u64>
     requires { most ≤ smallest }
     ensures { result ≡ magnitude_of most digits.now }
 {
-    let none = most + 1;
-    if digits.len() == 0 {
-        return none;
+    if digits.is_empty() {
+        return None;
     }
-    let mut v: u64 = 0;
-    let mut i = 0;
-    while i < digits.len() {
-        let b = digits[i];
-        if b < b'0' {
-            return none;
+    let mut value: u64 = 0;
+    for b in digits {
+        if !b.is_ascii_digit() {
+            return None;
         }
-        if b'9' < b {
-            return none;
+        value = 10 * value + u64::from(*b - b'0');
+        if value > most {
+            return None;
         }
-        v = 10 * v + (b - b'0') as u64;
-        if most < v {
-            return none;
-        }
-        i += 1;
     }
-    v
+    Some(value)
 }
 
 // The negative of a magnitude.
@@ -49,34 +35,17 @@ fn negated(m: u64) -> i32
     requires { m ≤ smallest }
     ensures { result ≡ neg_ℤ (pos m) }
 {
-    (0 - m as i64) as i32
+    // Stays: `as`, since the number fits, as is proved; try_from would hand out an error that never comes.
+    -(m as i64) as i32
 }
 
-// A magnitude as a signed number.
-fn positive(m: u64) -> i32
-    requires { m ≤ largest }
-    ensures { result ≡ pos m }
-{
-    m as i32
-}
-
-// Returns the number that a word stands for, or that it stands for none.
-pub fn number_of(word: &[u8]) -> Number
+// Returns the number that a word stands for, if it stands for one.
+pub fn number_of(word: &[u8]) -> Option<i32>
     ensures { result ≡ number_of word.now }
 {
-    if word.len() == 0 {
-        return Number::NoNumber;
+    match word {
+        [b'-', digits @ ..] => Some(negated(magnitude(digits, SMALLEST)?)),
+        // Stays: `as`, since the number fits, as is proved; try_from would hand out an error that never comes.
+        digits => Some(magnitude(digits, LARGEST)? as i32),
     }
-    if word[0] == b'-' {
-        let m = magnitude(&word[1..], SMALLEST);
-        if SMALLEST < m {
-            return Number::NoNumber;
-        }
-        return Number::Is(negated(m));
-    }
-    let m = magnitude(word, LARGEST);
-    if LARGEST < m {
-        return Number::NoNumber;
-    }
-    Number::Is(positive(m))
 }

@@ -11,6 +11,7 @@ use plane::is_lower;
 // How many octants there are, and what stands for the octant of no difference.
 pub const OCTANTS: usize = 8;
 
+// Stays: a number and no Option, since the table of SPEC 3.3 and the entry for C have 8 for no difference (`table.octant`).
 pub const NO_OCTANT: u8 = OCTANTS as u8;
 
 // Returns the octant of a difference (SPEC 3.1), 0 to 7, and NO_OCTANT for no difference. A sum is taken only of numbers with unlike signs, so that it fits.
@@ -43,7 +44,7 @@ fn passes(p: bool, q: bool, s: bool) -> u8
     ensures value { result ≡ one p + one q + one s }
     ensures upper_bound { result ≤ 3 }
 {
-    p as u8 + q as u8 + s as u8
+    u8::from(p) + u8::from(q) + u8::from(s)
 }
 
 // Returns the octant of b seen from a, NO_OCTANT where they are one point. A half plane has three rays inside it where an octant starts,
@@ -53,10 +54,10 @@ pub fn octant_between(ax: u16, ay: u16, bx: u16, by: u16) -> u8
     ensures value { result ≡ table.octant (coordinate bx -ℤ coordinate ax) (coordinate by -ℤ coordinate ay) }
     ensures upper_bound { result ≤ table.octant_count }
 {
-    let x_more = bx as u32 + ay as u32;
-    let y_more = by as u32 + ax as u32;
-    let far = bx as u32 + by as u32;
-    let near = ax as u32 + ay as u32;
+    let x_more = u32::from(bx) + u32::from(ay);
+    let y_more = u32::from(by) + u32::from(ax);
+    let far = u32::from(bx) + u32::from(by);
+    let near = u32::from(ax) + u32::from(ay);
     let above = passes(x_more <= y_more, bx <= ax, far <= near);
     let below = passes(y_more <= x_more, ax <= bx, near <= far);
     if is_lower(ay, ax, by, bx) {

@@ -3,7 +3,8 @@
 use mathlib.Core.Path.{◌≡◌, refl, sym, ap, ◌∙◌, subst, subst⁻¹}
 use mathlib.Core.Logic.{◌⊎◌, inl, inr, ⊎_elim}
 use mathlib.Core.Bool.{Bool, true}
-use mathlib.Core.Option.{Option, none, some}
+use mathlib.Core.Option as option
+use Rattle.std.specs.Prelude.{Option, Some, None}
 use mathlib.Core.List.{List, [], ◌∷◌, ◌++◌}
 use Prim.Native.Nat.{ℕ, zero, suc, ◌+◌, ◌≤◌, ◌<◌}
 use native.Mathlib.Decide.{dec_le}
@@ -29,7 +30,7 @@ use Rattle.pin_line.specs.declared.PinLine.{PinLine}
 use Rattle.pin_line.specs.declared.PinLine.TheVariants as pin_line
 use Rattle.pin_line.specs.PinLines.{pin_line_of}
 use Rattle.packing.specs.declared.Fault.{Fault}
-use Rattle.packing.specs.declared.Fault.TheVariants.{None, Error, Refused}
+use Rattle.packing.specs.declared.Fault.TheVariants.{Error, Refused}
 use Rattle.packing.specs.Packing.{Packed, nothing_packed, next_number, fault_of, by_call, by_pin, by_line, has_fault, pack_line, pack_input}
 use Rattle.packing.specs.Printed.{fault_text, packed_file, packed}
 use Rattle.packing.specs.Claim.{call_of, calls_of, AllDone, Faultless, number_behind, PinRefused, FirstFault, Whole, Stopped, InputPacked, InputTaken}
@@ -77,10 +78,10 @@ add-replies : (c : Contents) (p : Point) (k : ℕ) → ((step c (add p k)).reply
 unfolding step
 add-replies c p k = go (insert_refusal p k c.state)
   where
-    go : (o : Option ℕ) → ((unless o c (λ _. following k c (insert p c.state))).reply ≡ done)
+    go : (o : option.Option ℕ) → ((unless o c (λ _. following k c (insert p c.state))).reply ≡ done)
         ⊎ ((m : ℕ) × ((unless o c (λ _. following k c (insert p c.state))).reply ≡ refused m))
-    go none = inl refl
-    go (some m) = inr (m, refl)
+    go option.none = inl refl
+    go (option.some m) = inr (m, refl)
 
 -- After a fault nothing changes any more.
 stays : (r : Packed) → ((l : List ℕ) → pack_line r l ≡ r) → (ls : List (List ℕ)) → state_after pack_line r ls ≡ r
@@ -100,7 +101,7 @@ record Taken (c : Contents) (lines : List (List ℕ)) (r : Packed) : Type 0 wher
 
 -- Where lines lead to, from the contents c and k lines before.
 abbrev Result : Contents → ℕ → List (List ℕ) → Packed → Type 0
-Result c k lines r = Taken c lines r ⊎ FirstFault c k lines r.fault
+Result c k lines r = Taken c lines r ⊎ ((f : Fault) × FirstFault c k lines f × (r.fault ≡ Some f))
 
 abbrev at : Contents → ℕ → Packed
 at c k = record { contents = c; lines = counted k; fault = None }
@@ -114,15 +115,9 @@ module _ (c : Contents) (k : ℕ) (l : List ℕ) (ls : List (List ℕ)) (known :
     longer : (m : List (List ℕ)) → Faultless next m → Faultless c (l ∷ m)
     longer m g = record { known = (known, g.known); added = done-append c (call_of (pin_line_of l)) (calls_of m) added g.added }
 
-    in_front : (r : Packed) → Result next (suc k) ls r → Result c k (l ∷ ls) r
-    in_front r (inl t) =
-        inl (record {
-          good = longer ls t.good;
-          contents = t.contents ∙ sym (after-append c (call_of (pin_line_of l)) (calls_of ls));
-          fault = t.fault;
-        })
-    in_front r (inr f) =
-        inr (record {
+    fault_behind : {g : Fault} → FirstFault next (suc k) ls g → FirstFault c k (l ∷ ls) g
+    fault_behind f =
+        record {
           before = l ∷ f.before;
           line = f.line;
           after = f.after;
@@ -135,10 +130,19 @@ module _ (c : Contents) (k : ℕ) (l : List ℕ) (ls : List (List ℕ)) (known :
                 w.2 ∙ ap (λ (n : ℕ). Refused (number_behind n) w.0) number,
               ))
               f.why;
-        })
+        }
       where
         number : suc k + length f.before ≡ k + suc (length f.before)
         number = omega arith
+
+    in_front : (r : Packed) → Result next (suc k) ls r → Result c k (l ∷ ls) r
+    in_front r (inl t) =
+        inl (record {
+          good = longer ls t.good;
+          contents = t.contents ∙ sym (after-append c (call_of (pin_line_of l)) (calls_of ls));
+          fault = t.fault;
+        })
+    in_front r (inr f) = inr (f.0, fault_behind f.1, f.2)
 
 -- Which variant it is.
 abbrev variant : PinLine → ℕ
@@ -164,25 +168,26 @@ module _ (c : Contents) (k : ℕ) (l : List ℕ) (ls : List (List ℕ)) (rest : 
       moved (at d (suc k)) f
       (in_front c k l ls known added _ (subst (λ (b : Contents). Result b (suc k) ls (state_after pack_line (at d (suc k)) ls)) e (rest d)))
 
-  stops : (r : Packed) → pack_line (at c k) l ≡ r → ((m : List ℕ) → pack_line r m ≡ r)
-      → ((pin_line_of l ≡ pin_line.Error) × (r.fault ≡ Error (number_behind k))) ⊎ ((m : ℕ) × PinRefused c l m × (r.fault ≡ Refused (number_behind k) m))
+  stops : (r : Packed) (f : Fault) → r.fault ≡ Some f → pack_line (at c k) l ≡ r → ((m : List ℕ) → pack_line r m ≡ r)
+      → ((pin_line_of l ≡ pin_line.Error) × (f ≡ Error (number_behind k))) ⊎ ((m : ℕ) × PinRefused c l m × (f ≡ Refused (number_behind k) m))
       → Result c k (l ∷ ls) (state_after pack_line (at c k) (l ∷ ls))
   unfolding contents_after
-  stops r e h why =
-      moved r e
-      (subst⁻¹ (Result c k (l ∷ ls)) (stays r h ls)
-      (inr (record {
-        before = [];
-        line = l;
-        after = ls;
-        parts = refl;
-        good = record { known = tt; added = tt };
-        why = ⊎_elim (λ w. inl (w.0, w.1 ∙ ap (λ (n : ℕ). Error (number_behind n)) number))
-            (λ w. inr (w.0, w.1, w.2 ∙ ap (λ (n : ℕ). Refused (number_behind n) w.0) number)) why;
-      })))
+  stops r f is e h why = moved r e (subst⁻¹ (Result c k (l ∷ ls)) (stays r h ls) (inr (f, here, is)))
     where
       number : k ≡ k + 0
       number = omega arith
+
+      here : FirstFault c k (l ∷ ls) f
+      here =
+          record {
+            before = [];
+            line = l;
+            after = ls;
+            parts = refl;
+            good = record { known = tt; added = tt };
+            why = ⊎_elim (λ w. inl (w.0, w.1 ∙ ap (λ (n : ℕ). Error (number_behind n)) number))
+                (λ w. inr (w.0, w.1, w.2 ∙ ap (λ (n : ℕ). Refused (number_behind n) w.0) number)) why;
+          }
 
   -- A pin: it is added, or refused.
   pin_line_lem : (p : Point) (kind : ℕ) → ¬ (pin_line_of l ≡ pin_line.Error) → call_of (pin_line_of l) ≡ add p kind ∷ []
@@ -192,8 +197,9 @@ module _ (c : Contents) (k : ℕ) (l : List ℕ) (ls : List (List ℕ)) (rest : 
       ⊎_elim
       (λ e. goes_on (step c (add p kind)).next (sym (ap (contents_after c) calls)) known (subst⁻¹ (AllDone c) calls (e, tt))
       (f ∙ (λ i. record { contents = (step c (add p kind)).next; lines = number_behind k; fault = fault_of (number_behind k) (e i) })))
-      (λ w. let r : Packed = record { contents = (step c (add p kind)).next; lines = number_behind k; fault = Refused (number_behind k) w.0 } in
-      stops r (f ∙ (λ i. record { contents = (step c (add p kind)).next; lines = number_behind k; fault = fault_of (number_behind k) (w.1 i) }))
+      (λ w. let r : Packed = record { contents = (step c (add p kind)).next; lines = number_behind k; fault = Some (Refused (number_behind k) w.0) } in
+      stops r (Refused (number_behind k) w.0) refl
+      (f ∙ (λ i. record { contents = (step c (add p kind)).next; lines = number_behind k; fault = fault_of (number_behind k) (w.1 i) }))
       (fault-stays r refl) (inr (w.0, (add p kind, calls, w.1), refl)))
       (add-replies c p kind)
 
@@ -206,8 +212,8 @@ module _ (c : Contents) (k : ℕ) (l : List ℕ) (ls : List (List ℕ)) (rest : 
           goes_on c (sym (ap (λ (q : PinLine). contents_after c (call_of q)) e)) (λ f. let z : ◌≡◌ {A = ℕ} 0 1 = ap variant (sym e ∙ f) in omega arith)
           (subst⁻¹ (λ (q : PinLine). AllDone c (call_of q)) e tt) (first pin_line.Passed e)
       go pin_line.Error e =
-          let r : Packed = record { contents = c; lines = number_behind k; fault = Error (number_behind k) } in
-          stops r (first pin_line.Error e) (fault-stays r refl) (inl (e, refl))
+          let r : Packed = record { contents = c; lines = number_behind k; fault = Some (Error (number_behind k)) } in
+          stops r (Error (number_behind k)) refl (first pin_line.Error e) (fault-stays r refl) (inl (e, refl))
       go (pin_line.Pin x y kind) e =
           pin_line_lem (record { x = x; y = y }) kind (λ f. let z : ◌≡◌ {A = ℕ} 2 1 = ap variant (sym e ∙ f) in omega arith) (ap call_of e)
           (first (pin_line.Pin x y kind) e)
@@ -226,9 +232,9 @@ added_bare : (c : Contents) (p : Point) (k : ℕ) → c.state.steiner ≡ [] →
 unfolding step insert
 added_bare c p k e = go (insert_refusal p k c.state)
   where
-    go : (o : Option ℕ) → (unless o c (λ _. following k c (insert p c.state))).next.state.steiner ≡ []
-    go none = swept_bare p _ c.state.steiner e
-    go (some m) = e
+    go : (o : option.Option ℕ) → (unless o c (λ _. following k c (insert p c.state))).next.state.steiner ≡ []
+    go option.none = swept_bare p _ c.state.steiner e
+    go (option.some m) = e
 
 calls_bare : (ls : List (List ℕ)) (c : Contents) → c.state.steiner ≡ [] → (contents_after c (calls_of ls)).state.steiner ≡ []
 unfolding contents_after
@@ -254,7 +260,7 @@ calls-set_none (l ∷ ls) = go (pin_line_of l) (calls-set_none ls)
 -- What is printed.
 pub input_packed : InputPacked
 unfolding packed pack_input
-input_packed input = ⊎_elim (λ t. inl (whole t)) (λ f. inr (stopped f)) (all_lines_lem (all_lines input) empty_contents 0)
+input_packed input = ⊎_elim (λ t. inl (whole t)) (λ f. inr (stopped f.0 f.1 f.2)) (all_lines_lem (all_lines input) empty_contents 0)
   where
     p : Packed
     p = pack_input input
@@ -275,14 +281,13 @@ input_packed input = ⊎_elim (λ t. inl (whole t)) (λ f. inr (stopped f)) (all
           err = ap fault_text t.fault;
         }
 
-    stopped : FirstFault empty_contents 0 (all_lines input) p.fault → Stopped input
-    stopped f =
+    stopped : (f : Fault) → FirstFault empty_contents 0 (all_lines input) f → p.fault ≡ Some f → Stopped input
+    stopped f first e =
         record {
-          fault = p.fault;
-          first = f;
-          out = ⊎_elim (λ w. ap (λ (g : Fault). if (has_fault g) (λ _. []) (λ _. plain_file_of p.contents)) w.1)
-              (λ w. ap (λ (g : Fault). if (has_fault g) (λ _. []) (λ _. plain_file_of p.contents)) w.2) f.why;
-          err = refl;
+          fault = f;
+          first = first;
+          out = ap (λ (g : Option Fault). if (has_fault g) (λ _. []) (λ _. plain_file_of p.contents)) e;
+          err = ap fault_text e;
         }
 
 pub input_taken : InputTaken

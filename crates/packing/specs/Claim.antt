@@ -1,5 +1,5 @@
 -- The claims on a text of coordinates as a whole (SPEC 9.7), on what is printed for it (`packed`).
-use Rattle.std.specs.Prelude.{◌≡◌, ◌↔◌, ◌⊎◌, ℕ, suc, ◌+◌, ltb, length}
+use Rattle.std.specs.Prelude.{◌≡◌, ◌↔◌, ◌⊎◌, ℕ, suc, ◌+◌, ltb, length, Some}
 use mathlib.Core.List.{List, [], ◌∷◌, ◌++◌, Memᴰ, Permᴰ}
 use Rattle.arrays.specs.Set.{Each}
 use Rattle.arrays.specs.Test.{if}
@@ -67,7 +67,7 @@ pub record Stopped (input : List ℕ) : Type 0 where
   pub fault : Fault
   pub first : FirstFault empty_contents 0 (all_lines input) fault
   pub out : (packed input).out ≡ []
-  pub err : (packed input).err ≡ fault_text fault
+  pub err : (packed input).err ≡ fault_text (Some fault)
 
 -- The claim.
 abbrev pub InputPacked : Type 0

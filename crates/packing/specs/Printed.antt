@@ -1,11 +1,11 @@
 -- What is printed for a text of coordinates (SPEC 9.7).
-use Rattle.std.specs.Prelude.{List, [], ◌++◌, ℕ}
+use Rattle.std.specs.Prelude.{List, [], ◌++◌, ℕ, Option, None, Some}
 use Rattle.arrays.specs.Test.{if}
 use Rattle.arrays.specs.Text.{bytes}
 use Rattle.model.specs.File.{plain_file_of}
 use Rattle.model.specs.Listing.{field, decimal, refused_line}
 use Rattle.packing.specs.declared.Fault.{Fault}
-use Rattle.packing.specs.declared.Fault.TheVariants.{None, Error, Refused}
+use Rattle.packing.specs.declared.Fault.TheVariants.{Error, Refused}
 use Rattle.packing.specs.Packing.{Packed, has_fault, pack_input}
 
 -- Room for the line of a fault.
@@ -22,10 +22,10 @@ error_at n = line_head n ++ bytes "error\n"
 abbrev pub refused_at : ℕ → ℕ → List ℕ
 refused_at n m = line_head n ++ refused_line m
 
-abbrev pub fault_text : Fault → List ℕ
+abbrev pub fault_text : Option Fault → List ℕ
 fault_text None = []
-fault_text (Error n) = error_at n
-fault_text (Refused n m) = refused_at n m
+fault_text (Some (Error n)) = error_at n
+fault_text (Some (Refused n m)) = refused_at n m
 
 -- The plain file of the deck where there is no fault, else nothing.
 abbrev pub packed_file : Packed → List ℕ

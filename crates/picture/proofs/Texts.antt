@@ -1,10 +1,14 @@
 -- The texts of the first runs and of the first points, then one more; and the picture from its parts.
 use mathlib.Core.Path.{◌≡◌, refl, sym, ap, ap₂, ◌∙◌}
 use mathlib.Core.List.{List, [], ◌∷◌, ◌++◌, map, map-append, append_assoc, append-nil}
-use Prim.Native.Nat.{ℕ, zero, suc, ◌+◌, ◌≤◌, ◌<◌}
+use Prim.Native.Nat.{ℕ, ◌+◌, ◌≤◌, ◌<◌}
 use native.Mathlib.Omega.{arith}
 use lib.ListN.{length, take, get_or, replicate, length-map}
-use lib.Seq.{take_all, length-take-le}
+use lib.Seq.{take_all, length-take-le, get_or-take}
+use Rattle.arrays.specs.Tab.{tab}
+use Rattle.arrays.proofs.Tab.{tab_same}
+use Rattle.plane.specs.Stored.{point_at}
+use Rattle.frame.specs.Stored.{stored_point}
 use Rattle.arrays.specs.Paste.{Pasted, each}
 use Rattle.arrays.proofs.paste.Lines.{each_to, one_more, each_snoc}
 use Rattle.arrays.proofs.paste.Parts.{pasted_same}
@@ -12,7 +16,6 @@ use Rattle.arrays.specs.Text.{bytes}
 use Rattle.plane.specs.Point.{Point}
 use Rattle.plane.specs.Code.{point_of}
 use Rattle.model.specs.State.{State, points}
-use Rattle.points.specs.declared.Points.{Points}
 use Rattle.model.specs.Question.{listed}
 use Rattle.frame.specs.Frame.{Box, box_of}
 use Rattle.drawing.specs.Elements.{head_text, run_text, symbol_text, foot_text}
@@ -23,7 +26,14 @@ use Rattle.working.specs.WorkingDeck.{contents_of}
 use Rattle.edges.proofs.Numbers.{edges_more}
 use Rattle.measures.specs.declared.Measures.{Measures}
 use Rattle.measures.specs.Measures.{measures_of}
-use Rattle.picture.specs.Picture.{edge_text, run_texts, symbol_texts, tap_symbol, point_texts, picture_of}
+use Rattle.picture.specs.Picture.{edge_text, run_texts, symbol_texts, tap_symbol, tap_text, point_texts, picture_of}
+
+-- The points of which only the first n are given.
+pub points-taken : (xs ys : List ℕ) (n : ℕ) → n ≤ length xs → n ≤ length ys
+    → tab (stored_point (take n xs) (take n ys)) (length (take n xs)) ≡ tab (stored_point xs ys) n
+points-taken xs ys n h k =
+    ap (tab (stored_point (take n xs) (take n ys))) (length-take-le n xs h)
+    ∙ tab_same (stored_point (take n xs) (take n ys)) (stored_point xs ys) n (λ i l. ap₂ point_at (get_or-take n xs i 0 l) (get_or-take n ys i 0 l))
 
 -- The paths of the first i runs, one more, and all.
 abbrev pub runs_to : ℕ → Box → State → ℕ → List ℕ
@@ -57,41 +67,31 @@ symbols_snoc b (j ∷ ks) k (q ∷ ps) p e =
     ap (λ (t : List ℕ). symbol_text b j q ++ t) (symbols_snoc b ks k ps p (omega (arith, e)))
     ∙ sym (append_assoc (symbol_text b j q) (symbol_texts b ks ps) (symbol_text b k p))
 
-pub symbol_more : (b : Box) (symbols codes : List ℕ) (i : ℕ) → i < length symbols → i < length codes
-    → symbols_to b symbols codes (i + 1) ≡ symbols_to b symbols codes i ++ symbol_text b (get_or symbols i 0) (point_of (get_or codes i 0))
-symbol_more b symbols codes i h k =
-    ap₂ (symbol_texts b) (one_more symbols i h)
-    (ap (map point_of) (one_more codes i k) ∙ map-append point_of (take i codes) (get_or codes i 0 ∷ []))
-    ∙ symbols_snoc b (take i symbols) (get_or symbols i 0) (map point_of (take i codes)) (point_of (get_or codes i 0))
+pub symbol_more : (b : Box) (symbols codes : List ℕ) (i symbol k : ℕ) → i < length symbols → i < length codes
+    → symbol ≡ get_or symbols i 0 → k ≡ get_or codes i 0
+    → symbols_to b symbols codes (i + 1) ≡ symbols_to b symbols codes i ++ symbol_text b symbol (point_of k)
+symbol_more b symbols codes i symbol k h m e f =
+    ap₂ (symbol_texts b) (one_more symbols i h ∙ ap (λ (n : ℕ). take i symbols ++ (n ∷ [])) (sym e))
+    (ap (map point_of) (one_more codes i m ∙ ap (λ (n : ℕ). take i codes ++ (n ∷ [])) (sym f)) ∙ map-append point_of (take i codes) (k ∷ []))
+    ∙ symbols_snoc b (take i symbols) symbol (map point_of (take i codes)) (point_of k)
     (length-take-le i symbols (omega arith) ∙ sym (length-map (take i codes) point_of ∙ length-take-le i codes (omega arith)))
 
--- As many taps as there are, of all the places.
-taps_taken : (n m k : ℕ) → n ≤ m → take n (replicate m k) ≡ replicate n k
-taps_taken zero m k h = refl
-taps_taken (suc n) zero k h = absurd (omega arith)
-taps_taken (suc n) (suc m) k h = ap (λ (l : List ℕ). k ∷ l) (taps_taken n m k (omega arith))
+-- The symbols of taps are those of points that all have the symbol of a tap.
+tap_texts : (b : Box) (codes : List ℕ)
+    → each (tap_text b) codes ≡ symbol_texts b (replicate (length (map point_of codes)) tap_symbol) (map point_of codes)
+unfolding each symbol_texts
+tap_texts b [] = refl
+tap_texts b (k ∷ codes) = ap (λ (t : List ℕ). tap_text b k ++ t) (tap_texts b codes)
 
-module _ (b : Box) (d : WorkingDeck) where
-  abbrev q : Points
-  q = d.form.points
-
-  abbrev taps : List Point
-  taps = map point_of (take q.nsteiner q.steiner)
-
-  abbrev pin_texts : List ℕ
-  pin_texts = symbols_to b d.kinds q.pins q.npins
-
-  pub points-put : {before after : List ℕ} {at r : ℕ} → q.nsteiner ≤ length q.steiner → q.nsteiner ≤ 128
-      → Pasted (pin_texts ++ symbols_to b (replicate 128 tap_symbol) q.steiner q.nsteiner) before after at r
-      → Pasted (point_texts b (contents_of d)) before after at r
-  unfolding point_texts
-  points-put h few p = pasted_same (λ i. pin_texts ++ symbol_texts b (symbols i) taps) p
-    where
-      count : length taps ≡ q.nsteiner
-      count = length-map (take q.nsteiner q.steiner) point_of ∙ length-take-le q.nsteiner q.steiner h
-
-      symbols : take q.nsteiner (replicate 128 tap_symbol) ≡ replicate (length taps) tap_symbol
-      symbols = taps_taken q.nsteiner 128 tap_symbol few ∙ ap (λ (k : ℕ). replicate k tap_symbol) (sym count)
+pub points-put : (b : Box) (d : WorkingDeck) {before after : List ℕ} {at r : ℕ}
+    → (let q = d.form.points in
+    Pasted (symbols_to b d.kinds q.pins q.npins ++ each (tap_text b) (take q.nsteiner q.steiner)) before after at r)
+    → Pasted (point_texts b (contents_of d)) before after at r
+unfolding point_texts
+points-put b d p =
+    let q = d.form.points in
+    let symbols : List ℕ = symbol_texts b (take q.npins d.kinds) (map point_of (take q.npins q.pins)) in
+    pasted_same (ap (λ (t : List ℕ). symbols ++ t) (tap_texts b (take q.nsteiner q.steiner))) p
 
 -- The picture, by the box and by what was measured.
 pub picture_put : (d : WorkingDeck) (m : Measures) (b : Box) {before after : List ℕ} {at r : ℕ} → m ≡ measures_of (contents_of d)

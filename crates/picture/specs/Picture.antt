@@ -4,6 +4,7 @@ use Rattle.arrays.specs.Text.{bytes}
 use Rattle.arrays.specs.Paste.{each}
 use Rattle.plane.specs.Point.{Point}
 use Rattle.plane.specs.Edge.{Edge}
+use Rattle.plane.specs.Code.{point_of}
 use Rattle.model.specs.State.{points}
 use Rattle.model.specs.Contents.{Contents}
 use Rattle.model.specs.Tail.{run_length}
@@ -28,6 +29,10 @@ symbol_texts b (k ∷ ks) (p ∷ ps) = symbol_text b k p ++ symbol_texts b ks ps
 -- The symbol of a tap; that of a pin is its kind.
 abbrev pub tap_symbol : ℕ
 tap_symbol = 3
+
+-- The symbol of a tap, given by the code of its point.
+abbrev pub tap_text : Box → ℕ → List ℕ
+tap_text b k = symbol_text b tap_symbol (point_of k)
 
 -- The symbols of all points: the pins by their kinds, then the taps.
 unfoldable pub point_texts : Box → Contents → List ℕ

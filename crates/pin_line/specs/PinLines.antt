@@ -1,11 +1,11 @@
 -- The pin of a line of coordinates (SPEC 9.7).
-use Rattle.std.specs.Prelude.{Bool, false, not, ◌||◌, List, [], ◌∷◌, ℕ, ◌-◌, ltb, eqb, ℤ, length, take, get_or}
+use Rattle.std.specs.Prelude.{Bool, false, not, ◌||◌, List, [], ◌∷◌, ℕ, ◌-◌, ltb, eqb, ℤ, length, take, get_or, Option, None, Some}
 use Rattle.arrays.specs.Set.{all}
 use Rattle.arrays.specs.Test.{if, if_natural}
 use Rattle.arrays.specs.Text.{byte}
 use Rattle.lines.specs.Lines.{line_limit}
 use Rattle.arguments.specs.declared.Arguments.{Arguments}
-use Rattle.arguments.specs.declared.Arguments.TheVariants.{Zero, One, Two, Three, Four, Five, Invalid}
+use Rattle.arguments.specs.declared.Arguments.TheVariants.{Zero, One, Two, Three, Four, Five}
 use Rattle.words.specs.Words.{words_of}
 use Rattle.arguments.specs.Arguments.{arguments_of}
 use Rattle.pin_line.specs.declared.PinLine.{PinLine}
@@ -29,14 +29,14 @@ unfoldable pub with_kind : ℤ → ℤ → ℤ → PinLine
 with_kind x y kind = if_natural (Pin x y) Error kind
 
 -- The numbers of a line: no word is passed over, two are a sensor, three a device of a kind.
-unfoldable pub of_numbers : Arguments → PinLine
-of_numbers Zero = Passed
-of_numbers (One i) = Error
-of_numbers (Two x y) = Pin x y 0
-of_numbers (Three x y kind) = with_kind x y kind
-of_numbers (Four i j k l) = Error
-of_numbers (Five i j k l m) = Error
-of_numbers Invalid = Error
+unfoldable pub of_numbers : Option Arguments → PinLine
+of_numbers (Some Zero) = Passed
+of_numbers (Some (One i)) = Error
+of_numbers (Some (Two x y)) = Pin x y 0
+of_numbers (Some (Three x y kind)) = with_kind x y kind
+of_numbers (Some (Four i j k l)) = Error
+of_numbers (Some (Five i j k l m)) = Error
+of_numbers None = Error
 
 -- A line without the carriage return that ends it.
 unfoldable pub of_text : List ℕ → PinLine

@@ -7,12 +7,10 @@ ghost use Rattle.model.specs.DeviceKinds.{sensors_only};
 ghost use Rattle.model.specs.Contents.{ValidContents};
 ghost use Rattle.model.specs.File.{plain_file_of};
 ghost use Rattle.ascii.specs.Text.{fitting};
-ghost use Rattle.working.specs.InOrder.{InOrder};
 ghost use Rattle.working.specs.WorkingDeck.{contents_of};
-ghost use Rattle.plain_file.specs.Plain.{plain_room, plain_parts, PlainFit};
+ghost use Rattle.plain_file.specs.Plain.{plain_room};
 
-use buffer::file::{put_file_header, put_kinds};
-use buffer::put_points;
+use buffer::file::put_parts;
 use header::{PAIR_SIZE, POINT_SIZE, SHORTEST};
 use points::MAX_PINS;
 use points::kinds::{SENSOR, all_within};
@@ -23,45 +21,38 @@ pub const PLAIN_ROOM: usize = SHORTEST + POINT_SIZE * MAX_PINS + PAIR_SIZE + MAX
 
 // Whether all pins are sensors.
 pub fn is_bare(w: WorkingDeck) -> bool
-    requires { InOrder w.form }
     ensures { result ≡ sensors_only (contents_of w).kinds }
 {
-    let kinds = w.kinds;
-    all_within(&kinds[..w.form.points.npins], SENSOR)
-}
-
-// Puts the file of n pins and their kinds, and returns its length.
-fn put_parts(pins: &[u64], n: usize, kinds: &[u8], bare: bool, out: &mut [u8]) -> usize
-    requires { PlainFit pins.now n kinds.now out.old }
-    ensures { Pasted (plain_parts pins.now n kinds.now bare) out.old out.new 0 result }
-{
-    let first = put_file_header(n, 0, 0, bare, out);
-    let second = put_points(pins, n, out, first);
-    put_kinds(kinds, n, bare, out, second)
+    all_within(&w.kinds[..w.form.points.npins], SENSOR)
 }
 
 // Puts the plain file into a buffer that has room for the longest, and returns its length.
 fn put_file(w: WorkingDeck, out: &mut [u8]) -> usize
-    requires in_order { InOrder w.form }
     requires valid_contents { ValidContents (contents_of w) }
     requires plain_room_in_bounds { plain_room ≤ length out.old }
     ensures { Pasted (plain_file_of (contents_of w)) out.old out.new 0 result }
 {
-    let bare = is_bare(w);
-    let pins = w.form.points.pins;
-    let kinds = w.kinds;
-    put_parts(&pins, w.form.points.npins, &kinds, bare, out)
+    let n = w.form.points.npins;
+    put_parts(
+        &w.form.points.pins[..n],
+        &[],
+        &[],
+        &w.kinds[..n],
+        is_bare(w),
+        out,
+    )
 }
 
+// Stays: 0 where there is no room, and no Option: it is the length of the empty text that `fitting` then leaves, and `packed_file` hands it on.
 // Writes the plain file of a deck in working form to the front of `out`, which has to have room for PLAIN_ROOM bytes. Returns its length; 0
 // where there is no room.
 pub fn write_plain(w: WorkingDeck, out: &mut [u8]) -> usize
-    requires in_order { InOrder w.form }
     requires valid_contents { ValidContents (contents_of w) }
     ensures { Pasted (fitting plain_room out.old (plain_file_of (contents_of w))) out.old out.new 0 result }
 {
     if out.len() < PLAIN_ROOM {
-        return 0;
+        0
+    } else {
+        put_file(w, out)
     }
-    put_file(w, out)
 }

@@ -1,16 +1,17 @@
 -- Signed numbers of 32 bits: what a test of them says, when a sum fits, and what a bound on one says. By natural numbers:
 -- a test of two whole numbers and a bound on one are linear facts on their parts `plus` and `minus`.
-use mathlib.Core.Path.{◌≡◌, sym, ◌∙◌, subst}
+use mathlib.Core.Path.{◌≡◌, sym, ap, ◌∙◌, subst}
 use mathlib.Core.Logic.{⊎_elim}
 use mathlib.Core.Bool.{Bool, true, false, ◌&&◌, cond}
-use Prim.Native.Nat.{ℕ, suc, ◌+◌, ◌-◌, ◌≤◌, ◌<◌}
+use Prim.Native.Nat.{ℕ, suc, ◌+◌, ◌-◌, ◌*◌, ◌/◌, ◌≤◌, ◌<◌}
 use native.Mathlib.Omega.{arith}
 use native.Mathlib.Decide.{dec_lt, dec_le}
 use lib.Dec.{T, ltb, leb, leb→le, le→leb}
 use lib.IntN.{ℤ, pos, negsuc, nat_abs, sub_ℕ, ◌+ℤ◌, ◌-ℤ◌}
 use lib.Signed.{non_neg, lt_z, le_z}
 use mir.Syntax.{Width, w16, w32}
-use mir.Val.{Fits, SFits}
+use mir.Val.{Fits, SFits, to_z}
+use mir.ValLaws.{to_z_pos, to_z-neg}
 use Rattle.plane.specs.Coordinate.{half_range}
 use Rattle.arrays.proofs.Signed.{read, read_is, read_one}
 use Rattle.arrays.proofs.Test.{and_parts, and_both, same_test}
@@ -100,6 +101,21 @@ module _ (k : ℕ) (z : ℤ) (f : SFits w32 z) (t : T (leb (nat_abs z) k)) (smal
 -- The difference of two numbers of 31 bits.
 pub lowered : (a b : ℕ) → pos a -ℤ pos b ≡ sub_ℕ a b
 lowered a b = whole_ext (pos a -ℤ pos b) (sub_ℕ a b) (omega (arith, difference_value (pos a) (pos b), sub_value a b))
+
+-- A number of 16 bits read as two's complement.
+pub short_lowered : (low high : ℕ) → low < 256 → high < 256 → to_z w16 (low + high * 256) ≡ sub_ℕ (low + 256 * high) (65536 * (high / 128))
+short_lowered low high h k = go (dec_lt high 128)
+  where
+    go : Dec (high < 128) → to_z w16 (low + high * 256) ≡ sub_ℕ (low + 256 * high) (65536 * (high / 128))
+    go (yes l) =
+        to_z_pos w16 (low + high * 256) (omega arith)
+        ∙ whole_ext (pos (low + high * 256)) (sub_ℕ (low + 256 * high) (65536 * (high / 128)))
+        (omega (arith, sub_value (low + 256 * high) (65536 * (high / 128))))
+    go (no n) =
+        let e : low + high * 256 ≡ 65536 - suc (65535 - (low + high * 256)) = omega arith in
+        ap (to_z w16) e ∙ to_z-neg w16 (65535 - (low + high * 256)) (omega arith)
+        ∙ whole_ext (negsuc (65535 - (low + high * 256))) (sub_ℕ (low + 256 * high) (65536 * (high / 128)))
+        (omega (arith, sub_value (low + 256 * high) (65536 * (high / 128))))
 
 pub lowered_fits : (a b : ℕ) → a < half_range → b < half_range → SFits w32 (sub_ℕ a b)
 lowered_fits a b h k = go (ltb a b)

@@ -6,7 +6,7 @@ use mathlib.Core.Bool.{true, false}
 use Prim.Native.Nat.{ℕ, ◌+◌, ◌*◌, ◌-◌, ◌/◌, ◌%◌, ◌≤◌, ◌<◌}
 use native.Mathlib.Nat.{le_antisymm}
 use native.Mathlib.Omega.{arith}
-use native.Mathlib.Decide.{dec_lt}
+use native.Mathlib.Decide.{dec_lt, dec_le}
 use lib.Dec.{T, ltb, ltb→lt, nltb→le, lt→ltb, le→leb}
 use lib.IntN.{ℤ, pos, nat_abs, ◌+ℤ◌}
 use lib.Signed.{lt_z}
@@ -55,6 +55,13 @@ gap_falling u v h =
     (gap-le (coordinate u) (coordinate v) (u - v) (omega (arith, coordinate_value u, coordinate_value v))
     (omega (arith, coordinate_value u, coordinate_value v)))
     (omega (arith, coordinate_value u, coordinate_value v, gap_ge (coordinate u) (coordinate v)))
+
+pub gap-stored : (u v : ℕ) → (u - v) + (v - u) ≡ gap (coordinate u) (coordinate v)
+gap-stored u v = go (dec_le u v)
+  where
+    go : Dec (u ≤ v) → (u - v) + (v - u) ≡ gap (coordinate u) (coordinate v)
+    go (yes h) = omega (arith, gap-rising u v h)
+    go (no n) = let h : v ≤ u = omega arith in omega (arith, gap_falling u v h)
 
 -- Which of two points is lower, on their stored coordinates.
 pub lower-stored : (ax ay bx by : ℕ) → lower (point_at ax ay) (point_at bx by) ≡ then_by (ltb ax bx) (ltb bx ax) (λ _. ltb ay by)

@@ -1,7 +1,5 @@
 -- Points as single numbers.
-use Rattle.std.specs.Prelude.{Bool, ◌&&◌, ℕ, ◌+◌, ◌*◌, ◌/◌, ◌%◌, leb}
-use Rattle.plane.specs.declared.codes.Located.{Located}
-use Rattle.plane.specs.declared.codes.Located.TheVariants.{OutOfRange, At}
+use Rattle.std.specs.Prelude.{Bool, ◌&&◌, ℕ, ◌+◌, ◌*◌, ◌/◌, ◌%◌, leb, Option, Some, None}
 use Rattle.arrays.specs.Test.{if}
 use Rattle.plane.specs.Point.{Point, in_range}
 use Rattle.plane.specs.Coordinate.{base, stored_limit, stored_of}
@@ -29,6 +27,6 @@ point_of k = point_at (x_of k) (y_of k)
 abbrev pub is_code : ℕ → Bool
 is_code k = leb (k / base) stored_limit && leb (k % base) stored_limit
 
--- The code of a point, or the answer that it is out of range.
-unfoldable pub located : Point → Located
-located p = if (in_range p) (λ _. At (code p)) (λ _. OutOfRange)
+-- The code of a point, none where it is out of range.
+unfoldable pub located : Point → Option ℕ
+located p = if (in_range p) (λ _. Some (code p)) (λ _. None)

@@ -12,24 +12,18 @@ const STORED_LIMIT: u64 = 60000;
 // The smallest coordinate in range.
 const LOWEST: i32 = -LIMIT;
 
-// A point by its code, or the answer that it is out of range.
-#[derive(Clone, Copy)]
-pub enum Located {
-    OutOfRange,
-    At(u64),
-}
-
 // Returns two stored coordinates as one number.
 pub fn pack(x: u16, y: u16) -> u64
     ensures { (result ≡ packed x y) × (result < base * base) }
 {
-    x as u64 * BASE + y as u64
+    u64::from(x) * BASE + u64::from(y)
 }
 
 // Returns the stored x in a number.
 pub fn x_of(k: u64) -> u16
     ensures { result ≡ x_of k }
 {
+    // Stays: `as`, since the number fits, as is proved; try_from would hand out an error that never comes.
     (k / BASE % BASE) as u16
 }
 
@@ -37,10 +31,12 @@ pub fn x_of(k: u64) -> u16
 pub fn y_of(k: u64) -> u16
     ensures { result ≡ y_of k }
 {
+    // Stays: `as`, since the number fits, as is proved; try_from would hand out an error that never comes.
     (k % BASE) as u16
 }
 
 // Returns whether a number is the code of a point in range.
+// Stays: a code is a number and no type of its own with `is_code` as its invariant, since sets are arrays of such numbers and each use would unpack it.
 pub fn is_code(k: u64) -> bool
     ensures { result ≡ is_code k }
 {
@@ -59,16 +55,17 @@ fn stored(z: i32) -> u16
     requires { T (coordinate_in_range z) }
     ensures { result ≡ stored_of z }
 {
+    // Stays: `as`, since the number fits, as is proved; try_from would hand out an error that never comes.
     (z + LIMIT) as u16
 }
 
-// Returns the code of a point, or that it is out of range.
-pub fn locate(x: i32, y: i32) -> Located
+// Returns the code of a point, or none where it is out of range.
+pub fn locate(x: i32, y: i32) -> Option<u64>
     ensures { result ≡ located (record { x = x; y = y }) }
 {
     if is_in_range(x) & is_in_range(y) {
-        Located::At(pack(stored(x), stored(y)))
+        Some(pack(stored(x), stored(y)))
     } else {
-        Located::OutOfRange
+        None
     }
 }

@@ -5,7 +5,6 @@
 #![tactic(auto)]
 
 pub mod codes;
-pub mod numbers;
 
 ghost use Rattle.std.specs.Prelude.{◌≡◌, ◌≤◌, ◌<◌};
 ghost use Rattle.std.proofs.Math.IntN.{sub_ℕ};
@@ -22,14 +21,11 @@ pub const LIMIT: i32 = 30000;
 // Places for points in an array. A deck has at most 126 points, and 127 during a round; 128 is the next power of two.
 pub const PLACES: usize = 128;
 
-// The least high byte of a negative number.
-const SIGN: u64 = 128;
-
 // Returns the distance along one axis.
 pub fn apart(a: u16, b: u16) -> u16
     ensures { result ≡ gap (coordinate a) (coordinate b) }
 {
-    if a < b { b - a } else { a - b }
+    a.abs_diff(b)
 }
 
 // Returns the distance of two points, |ax − bx| + |ay − by|.
@@ -37,7 +33,7 @@ pub fn distance(ax: u16, ay: u16, bx: u16, by: u16) -> u32
     ensures value { result ≡ dist (point_at ax ay) (point_at bx by) }
     ensures upper_bound { result ≤ 131070 }
 {
-    apart(ax, bx) as u32 + apart(ay, by) as u32
+    u32::from(apart(ax, bx)) + u32::from(apart(ay, by))
 }
 
 // Returns whether a is lower than b: by x, then by y.
@@ -52,6 +48,7 @@ pub fn difference(a: u64, b: u64) -> i32
     requires { (a < half_range) × (b < half_range) }
     ensures { result ≡ sub_ℕ a b }
 {
+    // Stays: `as`, since the number fits, as is proved; try_from would hand out an error that never comes.
     a as i32 - b as i32
 }
 
@@ -59,20 +56,20 @@ pub fn difference(a: u64, b: u64) -> i32
 pub fn word_of(u: u16) -> usize
     ensures { result ≡ word16 (coordinate u) }
 {
-    ((u as u64 + BASE - LIMIT as u64) % BASE) as usize
+    // Stays: `as`, since no From takes a u64 to a usize.
+    ((u64::from(u) + BASE - LIMIT as u64) % BASE) as usize
 }
 
 // Returns the whole number of two file bytes, the low one first.
 pub fn from_bytes(low: u8, high: u8) -> i32
     ensures { result ≡ signed16 low high }
 {
-    let bits = low as u64 + 256 * (high as u64);
-    difference(bits, BASE * (high as u64 / SIGN))
+    i32::from(i16::from_le_bytes([low, high]))
 }
 
 // Returns the whole number of a stored coordinate.
 pub fn to_signed(u: u16) -> i32
     ensures { result ≡ coordinate u }
 {
-    difference(u as u64, LIMIT as u64)
+    i32::from(u) - LIMIT
 }

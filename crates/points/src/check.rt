@@ -6,54 +6,29 @@ ghost use Rattle.points.specs.Coded.{ordered, arranged};
 
 use super::{MAX_PINS, MAX_POINTS, Points};
 
-// Whether the first n numbers are all codes of points in range.
-fn are_codes(a: &[u64], n: usize) -> bool
-    requires { n ≤ length a.now }
-    ensures { result ≡ all is_code (take n a.now) }
+// Whether the numbers are all codes of points in range.
+fn are_codes(a: &[u64]) -> bool
+    ensures { result ≡ all is_code a.now }
 {
-    let mut i = 0;
-    while i < n {
-        if !plane::codes::is_code(a[i]) {
-            return false;
-        }
-        i += 1;
-    }
-    true
+    a.iter().all(|k| plane::codes::is_code(*k))
 }
 
 // Whether the first n places hold a set of codes and the others zeros.
+// Stays: an array and how many of its places count, since the places behind them have to hold zeros.
 fn is_ordered(a: &[u64], n: usize) -> bool
     requires { n ≤ length a.now }
     ensures { result ≡ ordered a.now n }
 {
-    if !are_codes(a, n) {
-        return false;
-    }
-    if !sorted::rises(a, n) {
-        return false;
-    }
-    sorted::zeros_from(a, n)
+    are_codes(&a[..n]) && sorted::rises(&a[..n]) && sorted::is_zero(&a[n..])
 }
 
 // Returns whether the pins and the Steiner points are sets of codes apart from each other, few enough.
 pub fn is_arranged(q: Points) -> bool
     ensures { result ≡ arranged q }
 {
-    let npins = q.npins;
-    let nsteiner = q.nsteiner;
-    if MAX_PINS < npins {
-        return false;
-    }
-    if MAX_POINTS - npins < nsteiner {
-        return false;
-    }
-    let pins = q.pins;
-    if !is_ordered(&pins, npins) {
-        return false;
-    }
-    let steiner = q.steiner;
-    if !is_ordered(&steiner, nsteiner) {
-        return false;
-    }
-    sorted::none_in(&pins, npins, &steiner, nsteiner)
+    q.npins <= MAX_PINS
+        && q.nsteiner <= MAX_POINTS - q.npins
+        && is_ordered(&q.pins, q.npins)
+        && is_ordered(&q.steiner, q.nsteiner)
+        && sorted::none_in(&q.pins[..q.npins], &q.steiner[..q.nsteiner])
 }

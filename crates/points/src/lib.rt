@@ -22,6 +22,7 @@ pub const MAX_POINTS: usize = MAX_PINS + MAX_STEINER + 1;
 pub const PLACES: usize = plane::PLACES;
 
 // Codes (see the crate plane) rise in each array, no code stands in both, and unused places hold zeros.
+// Stays: no invariant, since the points of a deck are handed in by a caller, arranged or not (`sound`); so `Arranged` is asked for where it is needed.
 #[derive(Clone, Copy)]
 pub struct Points {
     pub pins: [u64; MAX_PINS],

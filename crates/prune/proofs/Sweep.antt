@@ -38,7 +38,7 @@ use Rattle.points.proofs.Codes.{codes_full}
 use Rattle.points.proofs.Coded.{steiner_count_lem}
 use Rattle.prune.specs.Weak.{first_weak, weak_at}
 use Rattle.working.specs.declared.Working.{Working}
-use Rattle.working.specs.InOrder.{InOrder, all_codes, state_of}
+use Rattle.working.specs.InOrder.{all_codes, state_of}
 use Rattle.working.proofs.InOrder.{all_points, arranged-placed}
 
 -- What the search finds, as the definition does: none, or the point at a place.
@@ -66,24 +66,24 @@ found all keys t (q ∷ l) h =
     go false false e f = at 0 (omega arith)
 
 -- In a working form the number of keys at a code's place is that of the edges at its point.
-pub held-degree : (w : Working) → InOrder w → (q : ℕ) → T (has ltb q (take w.npoints w.codes))
+pub held-degree : (w : Working) (q : ℕ) → T (has ltb q (take w.npoints w.codes))
     → degree key_graph (index_of q (take w.npoints w.codes)) (take w.nkeys w.keys) ≡ edges_at (point_of q) (mst (points (state_of w)))
-held-degree w p q h =
-    ap₂ (λ (z : ℕ) (k : List ℕ). degree key_graph z k) (ap (index_of q) p.codes) p.tree
-    ∙ tree_keys-degree (held w.xs w.ys) w.npoints (omega (arith, p.few)) p.rises (index_of q all) below
-    ∙ ap₂ edges_at at_place (ap mst p.points)
+held-degree w q h =
+    ap₂ (λ (z : ℕ) (k : List ℕ). degree key_graph z k) (ap (index_of q) w.in_order.codes) w.in_order.tree
+    ∙ tree_keys-degree (held w.xs w.ys) w.npoints (omega (arith, w.in_order.few)) w.in_order.rises (index_of q all) below
+    ∙ ap₂ edges_at at_place (ap mst w.in_order.points)
   where
     all : List ℕ
     all = all_codes w.points
 
     member : T (has ltb q all)
-    member = subst (λ (l : List ℕ). T (has ltb q l)) p.codes h
+    member = subst (λ (l : List ℕ). T (has ltb q l)) w.in_order.codes h
 
     listed : points (state_of w) ≡ map point_of all
-    listed = sym (all_points w.points p.arranged)
+    listed = sym (all_points w.points w.in_order.arranged)
 
     counted : w.npoints ≡ length all
-    counted = p.count ∙ ap length listed ∙ length-map all point_of
+    counted = w.in_order.count ∙ ap length listed ∙ length-map all point_of
 
     below : index_of q all < w.npoints
     below = omega (arith, (index_has q all).0 member, counted)
@@ -91,37 +91,36 @@ held-degree w p q h =
     at_place : held w.xs w.ys (index_of q all) ≡ point_of q
     at_place =
         sym (tab_get (held w.xs w.ys) w.npoints (index_of q all) (point_of 0) below)
-        ∙ ap (λ (l : List Point). get_or l (index_of q all) (point_of 0)) (p.points ∙ listed) ∙ get_or-map point_of all (index_of q all) 0
+        ∙ ap (λ (l : List Point). get_or l (index_of q all) (point_of 0)) (w.in_order.points ∙ listed) ∙ get_or-map point_of all (index_of q all) 0
         ∙ ap point_of (index_at q all ((index_has q all).0 member))
 
-pub order-degree : (w : Working) → InOrder w → (q : ℕ) → Memᴰ q (take w.points.nsteiner w.points.steiner)
+pub order-degree : (w : Working) (q : ℕ) → Memᴰ q (take w.points.nsteiner w.points.steiner)
     → degree key_graph (index_of q (take w.npoints w.codes)) (take w.nkeys w.keys) ≡ edges_at (point_of q) (mst (points (state_of w)))
-order-degree w p q i =
-    held-degree w p q
-    (subst⁻¹ (λ (l : List ℕ). T (has ltb q l)) p.codes
+order-degree w q i =
+    held-degree w q
+    (subst⁻¹ (λ (l : List ℕ). T (has ltb q l)) w.in_order.codes
     ((has_in ltb nat_order q (all_codes w.points)).1
     ((union_in ltb nat_order (take w.points.npins w.points.pins) (take w.points.nsteiner w.points.steiner) q).1 (inr i))))
 
 -- The sweep so far: a working form whose sweep is the one asked for, and where its first weak point stands.
 pub record Sweeping (q : Points) (w : Working) (j : ℕ) : Type 0 where
-  pub in_order : InOrder w
   pub weak : j ≡ weak_at w
   pub follows : prune (state_of w) ≡ prune (coded.state_of q)
 
-pub sweeping_start : (q : Points) (w : Working) (j : ℕ) → InOrder w × (w.points ≡ q) → j ≡ weak_at w → Sweeping q w j
-sweeping_start q w j e f = record { in_order = e.0; weak = f; follows = ap (λ (z : Points). prune (coded.state_of z)) e.1 }
+pub sweeping_start : (q : Points) (w : Working) (j : ℕ) → w.points ≡ q → j ≡ weak_at w → Sweeping q w j
+sweeping_start q w j e f = record { weak = f; follows = ap (λ (z : Points). prune (coded.state_of z)) e }
 
 module _ (q : Points) (w : Working) (j : ℕ) (s : Sweeping q w j) where
   abbrev rest : List ℕ
   rest = take w.points.nsteiner w.points.steiner
 
   codes : Codes w.points.steiner w.points.nsteiner places
-  codes = s.in_order.arranged.steiner_codes
+  codes = w.in_order.arranged.steiner_codes
 
   search : Found rest (lowest_weak (mst (points (state_of w))) (map point_of rest)) j
   search =
       subst⁻¹ (Found rest (lowest_weak (mst (points (state_of w))) (map point_of rest))) s.weak
-      (found (take w.npoints w.codes) (take w.nkeys w.keys) (mst (points (state_of w))) rest (order-degree w s.in_order))
+      (found (take w.npoints w.codes) (take w.nkeys w.keys) (mst (points (state_of w))) rest (order-degree w))
 
   member : (k : ℕ) → j < w.points.nsteiner → k ≡ get_or w.points.steiner j 0 → Memᴰ k rest
   member k h e =
@@ -136,21 +135,20 @@ module _ (q : Points) (w : Working) (j : ℕ) (s : Sweeping q w j) where
       (r : Points) (left : coded.Arranged r × (coded.state_of r ≡ without (point_of k) (state_of w))) where
     fewer : suc (length (without (point_of k) (state_of w)).steiner) ≡ length (state_of w).steiner
     fewer =
-        out-length lower lower-order (point_of k) (state_of w).steiner (arranged-placed w.points s.in_order.arranged).steiner_rise
+        out-length lower lower-order (point_of k) (state_of w).steiner (arranged-placed w.points w.in_order.arranged).steiner_rise
         ((map_in point_of rest (point_of k)).1 (k, member k h e, refl))
 
     pub sweeping_less : suc r.nsteiner ≡ w.points.nsteiner
     sweeping_less =
-        ap suc (sym (steiner_count_lem r left.0) ∙ ap (λ (z : State). length z.steiner) left.1) ∙ fewer ∙ steiner_count_lem w.points s.in_order.arranged
+        ap suc (sym (steiner_count_lem r left.0) ∙ ap (λ (z : State). length z.steiner) left.1) ∙ fewer ∙ steiner_count_lem w.points w.in_order.arranged
 
-    pub sweeping_more : (w' : Working) (j' : ℕ) → InOrder w' × (w'.points ≡ r) → j' ≡ weak_at w' → Sweeping q w' j'
+    pub sweeping_more : (w' : Working) (j' : ℕ) → w'.points ≡ r → j' ≡ weak_at w' → Sweeping q w' j'
     unfolding prune
     sweeping_more w' j' p f =
         record {
-          in_order = p.0;
           weak = f;
           follows =
-              ap (λ (z : Points). prune (coded.state_of z)) p.1 ∙ ap prune left.1
+              ap (λ (z : Points). prune (coded.state_of z)) p ∙ ap prune left.1
               ∙ sym (prune-step (length (without (point_of k) (state_of w)).steiner) (state_of w) (point_of k) (chosen refl search))
               ∙ ap (λ (z : ℕ). prune_from z (state_of w)) fewer ∙ s.follows;
         }
@@ -160,9 +158,9 @@ module _ (q : Points) (w : Working) (j : ℕ) (s : Sweeping q w j) where
         chosen c (at n l) =
             ap (λ (z : ℕ). some (point_of z)) (ap (λ (z : ℕ). get_or rest z 0) c ∙ get_or-take w.points.nsteiner w.points.steiner j 0 h ∙ sym e)
 
-  pub sweeping_end : w.points.nsteiner ≤ j → InOrder w × (state_of w ≡ prune (coded.state_of q))
+  pub sweeping_end : w.points.nsteiner ≤ j → state_of w ≡ prune (coded.state_of q)
   unfolding prune
-  sweeping_end h = (s.in_order, sym (prune-stop (length (state_of w).steiner) (state_of w) (stopped refl search)) ∙ s.follows)
+  sweeping_end h = sym (prune-stop (length (state_of w).steiner) (state_of w) (stopped refl search)) ∙ s.follows
     where
       stopped : {o : Option Point} {i : ℕ} → i ≡ j → Found rest o i → o ≡ none
       stopped c none_weak = refl

@@ -3,46 +3,36 @@
 
 pub mod change;
 
-ghost use Rattle.std.specs.Prelude.{◌≡◌, ◌≤◌, length, take};
+ghost use Rattle.std.specs.Prelude.{◌≡◌};
 ghost use Rattle.model.specs.State as state;
 ghost use Rattle.points.specs.Coded as coded;
-ghost use Rattle.working.specs.InOrder.{InOrder, state_of};
+ghost use Rattle.working.specs.InOrder.{state_of};
 ghost use Rattle.prune.specs.Weak.{first_weak, weak_at};
 
 use points::Points;
 use working::{Working, arrange};
 
-// Where the first of the t Steiner points stands that has at most two edges, or t.
-fn first_weak(codes: &[u64], n: usize, keys: &[u64], m: usize, steiner: &[u64], t: usize) -> usize
-    requires { (n ≤ length codes.now) × (m ≤ length keys.now) × (t ≤ length steiner.now) }
-    ensures { result ≡ first_weak (take n codes.now) (take m keys.now) (take t steiner.now) }
+// Where the first of the Steiner points stands that has at most two edges, or how many they are if none has.
+// Stays: how many there are, and no Option, where none has so few, as `first_weak` and `weak_at` of the definitions say.
+fn first_weak(codes: &[u64], keys: &[u64], steiner: &[u64]) -> usize
+    ensures { result ≡ first_weak codes.now keys.now steiner.now }
 {
-    let mut j = 0;
-    while j < t {
-        let i = sorted::index_of(codes, n, steiner[j]);
-        if tree::list::degree_of(keys, m, i) <= 2 {
+    for (j, k) in steiner.iter().enumerate() {
+        if tree::list::degree_of(keys, sorted::index_of(codes, *k)) <= 2 {
             return j;
         }
-        j += 1;
     }
-    j
+    steiner.len()
 }
 
 // Returns where the lowest Steiner point stands that has at most two edges, or how many Steiner points there are if none has.
 pub fn lowest_weak(w: Working) -> usize
-    requires { InOrder w }
     ensures { result ≡ weak_at w }
 {
-    let codes = w.codes;
-    let keys = w.keys;
-    let steiner = w.points.steiner;
     first_weak(
-        &codes,
-        w.npoints,
-        &keys,
-        w.nkeys,
-        &steiner,
-        w.points.nsteiner,
+        &w.codes[..w.npoints],
+        &w.keys[..w.nkeys],
+        &w.points.steiner[..w.points.nsteiner],
     )
 }
 
@@ -50,7 +40,7 @@ pub fn lowest_weak(w: Working) -> usize
 // tree is built again.
 pub fn prune(q: Points) -> Working
     requires { coded.Arranged q }
-    ensures { InOrder result × (state_of result ≡ state.prune (coded.state_of q)) }
+    ensures { state_of result ≡ state.prune (coded.state_of q) }
 {
     let mut w = arrange(q);
     let mut j = lowest_weak(w);

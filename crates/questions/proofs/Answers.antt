@@ -18,7 +18,7 @@ use Rattle.plane.proofs.Order.{lower-order}
 use Rattle.arrays.specs.Set.{has}
 use Rattle.model.specs.Tree.{mst, edges_at}
 use Rattle.model.specs.State.{State, points, Placed}
-use Rattle.model.specs.Contents.{Contents, ValidContents}
+use Rattle.model.specs.Contents.{Contents}
 use Rattle.model.specs.Question as question
 use Rattle.arrays.proofs.Set.{has_in}
 use Rattle.model.proofs.Tree.{mst-run-tree, tree-edges}
@@ -28,7 +28,7 @@ use Rattle.keys.specs.Keys.{key_graph}
 use Rattle.arrays.specs.Array.{index_of}
 use Rattle.plane.specs.Code.{point_of, is_code}
 use Rattle.working.specs.declared.Working.{Working}
-use Rattle.working.specs.InOrder.{InOrder, state_of}
+use Rattle.working.specs.InOrder.{state_of}
 use Rattle.working.proofs.InOrder.{arranged-placed, held_has}
 use Rattle.prune.proofs.Sweep.{held-degree}
 use Rattle.edges.proofs.Numbers.{listed-length}
@@ -50,21 +50,20 @@ none_at s rise p n =
     ends : (e : PlaneEdge) → Memᴰ e (mst (points s)) → Memᴰ e.lo (points s) × Memᴰ e.hi (points s)
     ends e i = unfold planar in (mst-run-tree (points s) (points-rise s rise)).tree.ends e i
 
-pub none_beyond : (c : Contents) → ValidContents c → (p : Point) → in_range p ≡ false → 0 ≡ question.edge_count_at p c.state
-none_beyond c v p e =
-    let h = v.state.placed in
+pub none_beyond : (c : Contents) → Placed c.state → (p : Point) → in_range p ≡ false → 0 ≡ question.edge_count_at p c.state
+none_beyond c h p e =
     sym (none_at c.state h.steiner_rise p (λ i. subst T e (⊎_elim (h.pins_range p) (h.steiner_range p) ((points_in_lem c.state p).0 i))))
 
 -- A working form: the edges at a code.
-module _ (w : Working) (p : InOrder w) where
+module _ (w : Working) where
   pub degree_none : (k : ℕ) → T (is_code k) → has ltb k (take w.npoints w.codes) ≡ false → 0 ≡ question.edge_count_at (point_of k) (state_of w)
   degree_none k t e =
-      sym (none_at (state_of w) (arranged-placed w.points p.arranged).steiner_rise (point_of k)
-      (λ i. subst T (sym (held_has w p k t) ∙ e) ((has_in lower lower-order (point_of k) (points (state_of w))).1 i)))
+      sym (none_at (state_of w) (arranged-placed w.points w.in_order.arranged).steiner_rise (point_of k)
+      (λ i. subst T (sym (held_has w k t) ∙ e) ((has_in lower lower-order (point_of k) (points (state_of w))).1 i)))
 
   pub degree-there : (k i n : ℕ) → T (has ltb k (take w.npoints w.codes)) → i ≡ index_of k (take w.npoints w.codes)
       → n ≡ degree key_graph i (take w.nkeys w.keys) → n ≡ question.edge_count_at (point_of k) (state_of w)
-  degree-there k i n h e f = f ∙ ap (λ (z : ℕ). degree key_graph z (take w.nkeys w.keys)) e ∙ held-degree w p k h
+  degree-there k i n h e f = f ∙ ap (λ (z : ℕ). degree key_graph z (take w.nkeys w.keys)) e ∙ held-degree w k h
 
 -- The edge at a place of the listing order, or none beyond the last.
 beyond : {A : Type 0} (l : List A) (i : ℕ) → length l ≤ i → get_elem? l i ≡ none
@@ -72,9 +71,9 @@ beyond [] i h = refl
 beyond (a ∷ l) zero h = absurd (omega arith)
 beyond (a ∷ l) (suc i) h = beyond l i (omega arith)
 
-pub no_edge : (tail : ℕ) (w : Working) → InOrder w → (i : ℕ) → w.nkeys ≤ i → NoEdge ≡ edge_or_none tail (question.edge_at_place i (state_of w))
+pub no_edge : (tail : ℕ) (w : Working) (i : ℕ) → w.nkeys ≤ i → NoEdge ≡ edge_or_none tail (question.edge_at_place i (state_of w))
 unfolding edge_or_none
-no_edge tail w p i h = ap (edge_or_none tail) (sym (beyond (question.listed (state_of w)) i (omega (arith, listed-length w p, h))))
+no_edge tail w i h = ap (edge_or_none tail) (sym (beyond (question.listed (state_of w)) i (omega (arith, listed-length w, h))))
 
 pub edge-there : (tail : ℕ) (s : State) (i : ℕ) (e : CodedEdge) → EdgeAt tail s i e → coded_answer e ≡ edge_or_none tail (question.edge_at_place i s)
 unfolding edge_or_none

@@ -4,11 +4,10 @@ use Rattle.plane.specs.Point.{gap}
 use Rattle.plane.specs.Coordinate.{coordinate}
 use Rattle.regions.specs.Rays.{places}
 
--- The first `count` of a list rise.
-pub record RowsGiven (rows : List ℕ) (count : ℕ) : Type 0 where
-  pub within : count ≤ length rows
-  pub few : count ≤ places
-  pub rises : (r s : ℕ) → r < s → s < count → get_or rows r 0 < get_or rows s 0
+-- There are at most 128 rows, and they rise.
+pub record RowsGiven (rows : List ℕ) : Type 0 where
+  pub few : length rows ≤ places
+  pub rises : (r s : ℕ) → r < s → s < length rows → get_or rows r 0 < get_or rows s 0
 
 -- The rows before the number k are below y, and the others are not.
 pub record Ranked (rows : List ℕ) (count y k : ℕ) : Type 0 where

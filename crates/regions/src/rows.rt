@@ -6,6 +6,7 @@ ghost use Rattle.regions.specs.Rows.{RowsGiven, Ranked, RowGaps, Located};
 use plane::PLACES;
 
 // A ray is its length times this, and the point's number, which is less.
+// Stays: `as`, since a constant calls no From.
 pub const SCALE: u32 = PLACES as u32;
 
 // A table of PLACES rows of PLACES.
@@ -18,50 +19,38 @@ pub fn blank() -> [u32; TABLE_SIZE]
     [0u32; TABLE_SIZE]
 }
 
-// How many of the first `count` rows are below y.
-fn rank(rows: &[u16], count: usize, y: u16) -> usize
-    requires { RowsGiven rows.now count }
-    ensures { Ranked rows.now count y result }
+// How many of the rows are below y.
+fn rank(rows: &[u16], y: u16) -> usize
+    requires { RowsGiven rows.now }
+    ensures { Ranked rows.now (length rows.now) y result }
 {
-    let mut r = 0;
-    while r < count {
-        if y <= rows[r] {
+    for (r, row) in rows.iter().enumerate() {
+        if y <= *row {
             return r;
         }
-        r += 1;
     }
-    r
+    rows.len()
 }
 
 // The distances of y to the rows, times 128, from the place `start` on.
-fn row_gaps(rows: &[u16], count: usize, y: u16, start: usize, gaps: &mut [u32])
-    requires { (count ≤ length rows.now) × (start + count ≤ length gaps.old) }
-    ensures { RowGaps rows.now count y start gaps.old gaps.new }
+fn row_gaps(rows: &[u16], y: u16, start: usize, gaps: &mut [u32])
+    requires { start + length rows.now ≤ length gaps.old }
+    ensures { RowGaps rows.now (length rows.now) y start gaps.old gaps.new }
 {
-    let mut r = 0;
-    while r < count {
-        gaps[start + r] = plane::apart(y, rows[r]) as u32 * SCALE;
-        r += 1;
+    for (r, row) in rows.iter().enumerate() {
+        gaps[start + r] = u32::from(plane::apart(y, *row)) * SCALE;
     }
 }
 
 // Locates each point among the rows: puts its distances to them, those of the point j from the place j * 128 on, and how many are below.
 // Returns nothing.
-pub fn locate(
-    ys: &[u16],
-    n: usize,
-    rows: &[u16],
-    count: usize,
-    gaps: &mut [u32],
-    ranks: &mut [usize],
-)
-    requires { RowsGiven rows.now count × (n ≤ length ys.now) × (n ≤ places) × (length gaps.old ≡ table_size) × (n ≤ length ranks.old) }
-    ensures { Located ys.now n rows.now count gaps.new ranks.new }
+pub fn locate(ys: &[u16], rows: &[u16], gaps: &mut [u32], ranks: &mut [usize])
+    requires { RowsGiven rows.now × (length ys.now ≤ places) × (length gaps.old ≡ table_size)
+        × (length ys.now ≤ length ranks.old) }
+    ensures { Located ys.now (length ys.now) rows.now (length rows.now) gaps.new ranks.new }
 {
-    let mut j = 0;
-    while j < n {
-        row_gaps(rows, count, ys[j], j * PLACES, gaps);
-        ranks[j] = rank(rows, count, ys[j]);
-        j += 1;
+    for (j, y) in ys.iter().enumerate() {
+        row_gaps(rows, *y, j * PLACES, gaps);
+        ranks[j] = rank(rows, *y);
     }
 }

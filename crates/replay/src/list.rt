@@ -9,48 +9,32 @@ use deck::Deck;
 // The bytes of a call.
 const CALL_SIZE: usize = 12;
 
-// Half of the numbers of 32 bits: from here on they stand for negative ones.
-const HALF: usize = 2147483648;
-
 // The whole number of 32 bits in two's complement.
 fn signed32(n: usize) -> i32
     requires { n < 4294967296 }
     ensures { result ≡ bytes.signed32 n }
 {
-    if n < HALF {
-        return n as i32;
-    }
-    (n - HALF) as i32 + -2147483648
+    // Stays: `as`, since the number fits, as is proved; try_from would hand out an error that never comes.
+    (n as u32).cast_signed()
 }
 
 // The deck after the call of this number, with a kind and two numbers of 32 bits: a place, or a tail length in the first. A number that is not
 // known is no call.
+// Stays: a match on the number, since the calls are bytes that a caller hands in (SPEC 10.2; `call_of`).
 fn call(d: Deck, number: u8, kind: u8, first: usize, second: usize) -> Deck
     requires { (first < 4294967296) × (second < 4294967296) }
     ensures { result ≡ deck_after d (bytes.call_of number kind first second) }
 {
     match number {
-        0 => {
-            let o = d.add(signed32(first), signed32(second), kind as u32);
-            o.next
-        }
-        1 => {
-            let o = d.withdraw(signed32(first), signed32(second));
-            o.next
-        }
-        2 => {
-            let o = d.round();
-            o.next
-        }
-        3 => {
-            let o = d.run_to_end();
-            o.next
-        }
-        4 => {
-            let o = d.set_tail(first as u32);
-            o.next
-        }
-        5..=255 => d,
+        0 => d
+            .add(signed32(first), signed32(second), u32::from(kind))
+            .next,
+        1 => d.withdraw(signed32(first), signed32(second)).next,
+        2 => d.round().next,
+        3 => d.run_to_end().next,
+        // Stays: `as`, since the number fits, as is proved; try_from would hand out an error that never comes.
+        4 => d.set_tail(first as u32).next,
+        _ => d,
     }
 }
 
@@ -69,11 +53,8 @@ pub fn call_all(d: Deck, calls: &[u8]) -> Deck
     ensures { result ≡ deck_after d (bytes.calls_of calls.now) }
 {
     let mut next = d;
-    let n = calls.len() / CALL_SIZE;
-    let mut i = 0;
-    while i < n {
+    for i in 0..calls.len() / CALL_SIZE {
         next = call_at(next, calls, i * CALL_SIZE);
-        i += 1;
     }
     next
 }

@@ -1,10 +1,9 @@
 -- The lines for replies and answers of a deck's calls and questions (SPEC 9.3, 9.4), without the line feed.
-use Rattle.std.specs.Prelude.{List, ◌++◌, ℕ, ℤ}
+use Rattle.std.specs.Prelude.{List, ◌++◌, ℕ, ℤ, Option, Some, None}
 use Rattle.arrays.specs.Text.{bytes}
 use Rattle.model.specs.Listing.{field, number_fields, decimal, signed_decimal, refused_word, kinds_word, tap_word, run_word}
 use Rattle.ascii.specs.Line.{number_text}
-use Rattle.columns.specs.declared.Choice.{Choice}
-use Rattle.columns.specs.declared.Choice.TheVariants as choice
+use Rattle.columns.specs.declared.Candidate.{Candidate}
 use Rattle.calls.specs.declared.Reply.{Reply}
 use Rattle.calls.specs.declared.Reply.TheVariants as reply
 use Rattle.questions.specs.declared.Answer.{Answer}
@@ -83,9 +82,9 @@ edge_text x y u v n = run_word ++ (ends_text x y u v ++ field (decimal n))
 abbrev pub candidate_text : ℤ → ℤ → ℤ → List ℕ
 candidate_text x y s = point_head column_word x y (field saving_word) ++ field (signed_decimal s)
 
-unfoldable pub column_text : Choice → List ℕ
-column_text choice.Nothing = none_word
-column_text (choice.Candidate x y s) = candidate_text x y s
+unfoldable pub column_text : Option Candidate → List ℕ
+column_text None = none_word
+column_text (Some c) = candidate_text c.x c.y c.saving
 
 -- The line of a reply.
 unfoldable pub reply_text : Reply → List ℕ

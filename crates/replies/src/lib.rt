@@ -8,11 +8,11 @@ ghost use Rattle.replies.specs.Replies.{point_room, fall_room, ends_room, edge_r
 ghost use Rattle.ascii.specs.Text.{fitting, fields_room};
 ghost use Rattle.ascii.specs.Line.{line_room};
 
-use arrays::paste::put_bytes;
+use arrays::paste::put_items;
 use ascii::line::{LINE_ROOM, number_line};
 use ascii::{decimal_field, number_fields, signed_field};
 use calls::Reply;
-use columns::Choice;
+use columns::Candidate;
 use questions::Answer;
 
 // A word and three numbers.
@@ -20,7 +20,7 @@ fn numbers_line(out: &mut [u8], w: &[u8], a: u64, b: u64, c: u64) -> usize
     requires { length w.now + fields_room ≤ length out.old }
     ensures { Pasted (numbers_text w.now a b c) out.old out.new 0 result }
 {
-    let next = put_bytes(out, 0, w);
+    let next = put_items(out, 0, w);
     number_fields(out, next, a, b, c)
 }
 
@@ -30,10 +30,10 @@ fn point_head(out: &mut [u8], w: &[u8], x: i32, y: i32, v: &[u8]) -> usize
     ensures pasted { Pasted (point_head w.now x y v.now) out.old out.new 0 result }
     ensures upper_bound { result ≤ length w.now + point_room + length v.now }
 {
-    let a = put_bytes(out, 0, w);
+    let a = put_items(out, 0, w);
     let b = signed_field(out, a, x);
     let c = signed_field(out, b, y);
-    put_bytes(out, c, v)
+    put_items(out, c, v)
 }
 
 // A new Steiner point and the fall in length.
@@ -62,7 +62,7 @@ fn edge_line(out: &mut [u8], x: i32, y: i32, u: i32, v: i32, n: u64) -> usize
     requires { edge_room ≤ length out.old }
     ensures { Pasted (edge_text x y u v n) out.old out.new 0 result }
 {
-    let a = put_bytes(out, 0, b"run");
+    let a = put_items(out, 0, b"run");
     let b = ends_fields(out, a, x, y, u, v);
     decimal_field(out, b, n)
 }
@@ -77,17 +77,18 @@ fn candidate_line(out: &mut [u8], x: i32, y: i32, saving: i32) -> usize
 }
 
 // What a column answers.
-fn column_line(out: &mut [u8], choice: Choice) -> usize
+fn column_line(out: &mut [u8], choice: Option<Candidate>) -> usize
     requires { column_room ≤ length out.old }
     ensures { Pasted (column_text choice) out.old out.new 0 result }
 {
     match choice {
-        Choice::Nothing => put_bytes(out, 0, b"none"),
-        Choice::Candidate(x, y, saving) => candidate_line(out, x, y, saving),
+        None => put_items(out, 0, b"none"),
+        Some(c) => candidate_line(out, c.x, c.y, c.saving),
     }
 }
 
 // Puts the line of a reply at the front of `out`, which has to have room for 128 bytes. Returns its length; 0 where there is no room.
+#[tactic(auto, unfolding(crate::specs::Replies::reply_text))]
 pub fn reply_line(reply: Reply, out: &mut [u8]) -> usize
     ensures { Pasted (fitting line_room out.old (reply_text reply)) out.old out.new 0 result }
 {
@@ -95,15 +96,16 @@ pub fn reply_line(reply: Reply, out: &mut [u8]) -> usize
         return 0;
     }
     match reply {
-        Reply::Done => put_bytes(out, 0, b"ok"),
-        Reply::Refused(n) => number_line(out, b"refused", n as u64),
-        Reply::Finished => put_bytes(out, 0, b"finished"),
+        Reply::Done => put_items(out, 0, b"ok"),
+        Reply::Refused(n) => number_line(out, b"refused", u64::from(n)),
+        Reply::Finished => put_items(out, 0, b"finished"),
         Reply::Tap(x, y, fall) => fall_line(out, x, y, fall),
         Reply::Rounds(n) => number_line(out, b"rounds", n),
     }
 }
 
 // Puts the line of an answer at the front of `out`, which has to have room for 128 bytes. Returns its length; 0 where there is no room.
+#[tactic(auto, unfolding(crate::specs::Replies::answer_text))]
 pub fn answer_line(answer: Answer, out: &mut [u8]) -> usize
     ensures { Pasted (fitting line_room out.old (answer_text answer)) out.old out.new 0 result }
 {
@@ -111,11 +113,11 @@ pub fn answer_line(answer: Answer, out: &mut [u8]) -> usize
         return 0;
     }
     match answer {
-        Answer::Refused(n) => number_line(out, b"refused", n as u64),
+        Answer::Refused(n) => number_line(out, b"refused", u64::from(n)),
         Answer::Length(n) => number_line(out, b"length", n),
         Answer::Counts(pins, taps, runs) => numbers_line(out, b"counts", pins, taps, runs),
         Answer::Edge(x, y, u, v, n) => edge_line(out, x, y, u, v, n),
-        Answer::NoEdge => put_bytes(out, 0, b"no run"),
+        Answer::NoEdge => put_items(out, 0, b"no run"),
         Answer::Degree(n) => number_line(out, b"degree", n),
         Answer::Kinds(a, b, c) => numbers_line(out, b"kinds", a, b, c),
         Answer::Column(choice) => column_line(out, choice),

@@ -1,5 +1,4 @@
-// The round and the run to the end on a working form, with tails of some length. Each function asks for a working form in order; whoever hands one in has to
-// show that it is, as the check of a deck does.
+// The round and the run to the end on a working form, with tails of some length.
 #![tactic(auto)]
 
 ghost use Rattle.std.specs.Prelude.{◌≡◌, ◌≤◌};
@@ -11,22 +10,16 @@ ghost use Rattle.search.specs.Search.{answer_of};
 ghost use Rattle.rounds.specs.Rounds.{RoundOf, FinishOf};
 
 use edges::length_of;
-use search::found::Best;
+use search::found::Crossing;
 use working::Working;
 
-// What a round does: it is finished, or adds a Steiner point, with its x, its y and the whole fall in length.
-#[derive(Clone, Copy)]
-pub enum Step {
-    Finished,
-    Tap(i32, i32, u64),
-}
-
-// A working form after a round, whether the round added a Steiner point, and what it did.
+// A working form after a round that added a Steiner point, with its x, its y and the whole fall in length.
 #[derive(Clone, Copy)]
 pub struct Rounded {
     pub working: Working,
-    pub added: bool,
-    pub step: Step,
+    pub x: i32,
+    pub y: i32,
+    pub fall: u64,
 }
 
 // A working form after a run to the end, and how many rounds added a Steiner point.
@@ -38,60 +31,46 @@ pub struct Ended {
 
 // The lowest crossing of greatest saving, if one saves more than 0.
 #[inline(never)]
-fn best_of(w: Working, tail: u64) -> Best
-    requires in_order { work.InOrder w }
+fn best_of(w: Working, tail: u64) -> Option<Crossing>
     requires tail_le_longest_tail { tail ≤ longest_tail }
     ensures { result ≡ answer_of (round.best tail (points (work.state_of w))) }
 {
-    let xs = w.xs;
-    let ys = w.ys;
-    let keys = w.keys;
-    crossing::best(&xs, &ys, w.npoints, &keys, w.nkeys, tail)
+    let n = w.npoints;
+    crossing::best(&w.xs[..n], &w.ys[..n], &w.keys[..w.nkeys], tail)
 }
 
-// One round: finished, or the best crossing joins as a Steiner point and a sweep follows. Returns the next working form and which it was.
-pub fn round_of(w: Working, tail: u64) -> Rounded
-    requires in_order { work.InOrder w }
+// One round: the best crossing joins as a Steiner point and a sweep follows. Returns the next working form with that point, none where it is finished.
+// Stays: a working form and a tail with a clause on it, here and in all that is asked of a form alone, and no deck, since rounds and runs know no kinds;
+// a type for a short tail would be no plainer, since the tail of a deck is a number that any caller hands in (check 11).
+pub fn round_of(w: Working, tail: u64) -> Option<Rounded>
     requires valid { Valid (work.state_of w) }
     requires tail_le_longest_tail { tail ≤ longest_tail }
     ensures { RoundOf tail w result }
 {
-    match best_of(w, tail) {
-        Best::Nothing => Rounded {
-            working: w,
-            added: false,
-            step: Step::Finished,
-        },
-        Best::At(u, v) => {
-            let next = prune::change::with_steiner(w, plane::codes::pack(u, v));
-            let fall = length_of(w, tail) - length_of(next, tail);
-            let x = plane::to_signed(u);
-            let y = plane::to_signed(v);
-            Rounded {
-                working: next,
-                added: true,
-                step: Step::Tap(x, y, fall),
-            }
-        }
-    }
+    let at = best_of(w, tail)?;
+    let next = prune::change::with_steiner(w, plane::codes::pack(at.x, at.y));
+    let fall = length_of(w, tail) - length_of(next, tail);
+    let x = plane::to_signed(at.x);
+    let y = plane::to_signed(at.y);
+    Some(Rounded {
+        working: next,
+        x,
+        y,
+        fall,
+    })
 }
 
 // Rounds until one is finished. Returns the working form that they lead to, and how many added a Steiner point.
 pub fn finish_of(w: Working, tail: u64) -> Ended
-    requires in_order { work.InOrder w }
     requires valid { Valid (work.state_of w) }
     requires tail_le_longest_tail { tail ≤ longest_tail }
     ensures { FinishOf tail w result }
 {
     let mut at = w;
-    let mut count = 0u64;
-    let mut last = round_of(at, tail);
-    let mut more = last.added;
-    while more {
-        at = last.working;
+    let mut count = 0;
+    while let Some(next) = round_of(at, tail) {
+        at = next.working;
         count += 1;
-        last = round_of(at, tail);
-        more = last.added;
     }
     Ended { working: at, count }
 }

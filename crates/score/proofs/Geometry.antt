@@ -9,7 +9,7 @@ use mathlib.Core.List.{List, Memᴰ}
 use Prim.Native.Nat.{ℕ, ◌+◌, ◌*◌, ◌-◌, ◌≤◌, ◌<◌}
 use native.Mathlib.Decide.{dec_lt, dec_le}
 use native.Mathlib.Omega.{arith}
-use lib.ListN.{get_or}
+use lib.ListN.{length, get_or}
 use Rattle.spanning.proofs.OneMore.{tree_bottleneck}
 use Rattle.plane.specs.Point.{Point, lower, gap, dist}
 use Rattle.plane.specs.Coordinate.{coordinate}
@@ -86,12 +86,18 @@ side_in K north = tail (head refl)
 side_in K west = tail (tail (head refl))
 side_in K east = tail (tail (tail (head refl)))
 
-module _ {xs ys : List ℕ} {n : ℕ} {table gaps ranks rows : List ℕ} {count : ℕ} (p : Prepared xs ys n table gaps ranks rows count) where
+module _ {xs ys table gaps ranks rows : List ℕ} (p : Prepared xs ys table gaps ranks rows) where
+  abbrev n : ℕ
+  n = length xs
+
+  abbrev count : ℕ
+  count = length rows
+
   -- What the search of a column asks.
   pub column-given : ColumnGiven xs gaps ranks n count
   column-given =
       record {
-        in_xs = p.in_xs;
+        in_xs = omega arith;
         in_ranks = p.in_ranks;
         few = omega arith;
         size = p.size_gaps;

@@ -6,7 +6,7 @@ use mathlib.Core.List.{List, [], ◌∷◌, Memᴰ}
 use Prim.Native.Nat.{ℕ, ◌*◌, ◌≤◌, ◌<◌}
 use native.Mathlib.Omega.{arith}
 use lib.Dec.{T, ltb}
-use lib.ListN.{length, take, get_or}
+use lib.ListN.{length, get_or}
 use Rattle.spanning.specs.Graph.{Conn, In, total}
 use Rattle.arrays.specs.Order.{Sorted}
 use Rattle.spanning.proofs.Kruskal.{kruskal_in, kruskal-sorted, kruskal_connects}
@@ -44,11 +44,10 @@ module _ (xs ys : List ℕ) (n : ℕ) (few : n < places) (wx : Words xs) (wy : W
       at : ℕ → Point
       at = held xs ys
 
-  pub tree_filling : {keys : List ℕ} {m size : ℕ} → m ≤ length keys → take m keys ≡ tree_keys (held xs ys) n → size ≡ table_size → FillRequires keys m n size
+  pub tree_filling : {keys : List ℕ} {size : ℕ} → keys ≡ tree_keys (held xs ys) n → size ≡ table_size → FillRequires keys n size
   unfolding tree_keys
-  tree_filling within tree size =
+  tree_filling tree size =
       record {
-        within = within;
         few = omega arith;
         room = size;
         sorted = subst⁻¹ (Sorted (λ (a b : ℕ). T (ltb a b))) tree

@@ -1,5 +1,5 @@
 -- What the length of a tree with one point more is worked out from.
-use Rattle.std.specs.Prelude.{◌≡◌, List, ℕ, ◌≤◌, ◌<◌, length}
+use Rattle.std.specs.Prelude.{◌≡◌, List, ℕ, ◌<◌, length}
 use Rattle.model.specs.Tree.{tree_length}
 use Rattle.tree.specs.Build.{Rises}
 use Rattle.keys.specs.Held.{held}
@@ -8,12 +8,11 @@ use Rattle.arrays.specs.Tab.{tab}
 use Rattle.bottleneck.specs.Table.{Bottlenecks}
 use Rattle.regions.specs.Rays.{places, table_size}
 
--- The first n points rise, the table has the bottlenecks of their tree, and `whole` is its length.
-pub record Measured (xs ys : List ℕ) (n : ℕ) (table : List ℕ) (whole : ℕ) : Type 0 where
-  pub in_xs : n ≤ length xs
-  pub in_ys : n ≤ length ys
-  pub few : n < places
-  pub rises : Rises (held xs ys) n
+-- The points rise, the table has the bottlenecks of their tree, and `whole` is its length.
+pub record Measured (xs ys table : List ℕ) (whole : ℕ) : Type 0 where
+  pub same : length xs ≡ length ys
+  pub few : length xs < places
+  pub rises : Rises (held xs ys) (length xs)
   pub size : length table ≡ table_size
-  pub bottlenecks : Bottlenecks (tree_keys (held xs ys) n) n table
-  pub is : whole ≡ tree_length (tab (held xs ys) n)
+  pub bottlenecks : Bottlenecks (tree_keys (held xs ys) (length xs)) (length xs) table
+  pub is : whole ≡ tree_length (tab (held xs ys) (length xs))

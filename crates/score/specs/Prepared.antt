@@ -11,21 +11,20 @@ use Rattle.bottleneck.specs.Table.{Bottlenecks}
 use Rattle.regions.specs.Rays.{places, table_size, far}
 use Rattle.regions.specs.Rows.{RowsGiven, Located}
 
--- Of the first n points, at least one, and the first `count` rows, all stored in 16 bits.
-pub record Prepared (xs ys : List ℕ) (n : ℕ) (table gaps ranks rows : List ℕ) (count : ℕ) : Type 0 where
-  pub some : 0 < n
-  pub few : n < places
-  pub in_xs : n ≤ length xs
-  pub in_ranks : n ≤ length ranks
+-- Of the points, at least one, and the rows, all stored in 16 bits.
+pub record Prepared (xs ys table gaps ranks rows : List ℕ) : Type 0 where
+  pub some : 0 < length xs
+  pub few : length xs < places
+  pub in_ranks : length xs ≤ length ranks
   pub size_table : length table ≡ table_size
   pub size_gaps : length gaps ≡ table_size
   pub stored_xs : (i : ℕ) → get_or xs i 0 < base
   pub stored_ys : (i : ℕ) → get_or ys i 0 < base
   pub stored_rows : (i : ℕ) → get_or rows i 0 < base
-  pub rises : Rises (held xs ys) n
-  pub bottlenecks : Bottlenecks (tree_keys (held xs ys) n) n table
-  pub given : RowsGiven rows count
-  pub located : Located ys n rows count gaps ranks
+  pub rises : Rises (held xs ys) (length xs)
+  pub bottlenecks : Bottlenecks (tree_keys (held xs ys) (length xs)) (length xs) table
+  pub given : RowsGiven rows
+  pub located : Located ys (length xs) rows (length rows) gaps ranks
 
 -- far + length of the tree of ps − length of the tree of ps and c: more than `far` exactly if c makes the tree shorter.
 abbrev pub spared_by : List Point → Point → ℕ

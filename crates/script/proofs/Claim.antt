@@ -13,12 +13,14 @@ use Rattle.arrays.specs.Test.{if}
 use Rattle.arrays.specs.Text.{bytes}
 use Rattle.arrays.specs.Same.{same_list}
 use Rattle.arrays.proofs.Test.{true_of, of_true, false_of}
-use Rattle.arrays.proofs.same.Alike.{same_eq, same_refl, same_not}
+use Rattle.arrays.proofs.Alike.{same_eq, same_refl, same_not}
 use Rattle.words.specs.Hex.{is_hex}
 use Rattle.arguments.specs.Arguments.{arguments_of}
+use Rattle.std.proofs.Common.{Some}
 use Rattle.arguments.specs.declared.Arguments.TheVariants.{Zero, One, Two, Three, Five}
 use Rattle.commands.specs.declared.Command.TheVariants.{Error, Read}
-use Rattle.commands.specs.Commands.{question_word, of_one_word, with_size, with_number, with_pair, with_kind, with_three, are_short, with_five, of_numbers}
+use Rattle.commands.specs.Commands.{question_word, of_one_word, with_size, with_natural, with_number, with_pair, with_kind, with_three}
+use Rattle.commands.specs.Commands.{are_short, with_places, with_five, of_numbers}
 use Rattle.script.specs.Line.{of_file, with_file, of_words}
 use Rattle.script.specs.Claim.{OnlyNames, Names}
 use Rattle.commands.proofs.Names.{alone_question, question_none, sized_none, number_negative, pair_none}
@@ -29,7 +31,7 @@ not_same : (w n : List ℕ) → ¬ (w ≡ n) → same_list w n ≡ false
 not_same w n h = sym (same_not w n h)
 
 -- With no number, one, two, three and five.
-none_alone : OnlyNames (bytes "write" ∷ bytes "round" ∷ bytes "finish" ∷ bytes "list" ∷ bytes "length" ∷ bytes "counts" ∷ bytes "kinds" ∷ []) Zero
+none_alone : OnlyNames (bytes "write" ∷ bytes "round" ∷ bytes "finish" ∷ bytes "list" ∷ bytes "length" ∷ bytes "counts" ∷ bytes "kinds" ∷ []) (Some Zero)
 unfolding of_numbers
 none_alone w n =
     sym (question ∙ alone_question w (not_same w (bytes "write") (λ e. n (head e))) (not_same w (bytes "round") (λ e. n (tail (head e))))
@@ -41,31 +43,31 @@ none_alone w n =
         (not_same w (bytes "counts") (λ e. n (tail (tail (tail (tail (tail (head e))))))))
         (not_same w (bytes "kinds") (λ e. n (tail (tail (tail (tail (tail (tail (head e)))))))))
 
-none_negative : (k : ℕ) → OnlyNames (bytes "glyph" ∷ bytes "column" ∷ []) (One (negsuc k))
+none_negative : (k : ℕ) → OnlyNames (bytes "glyph" ∷ bytes "column" ∷ []) (Some (One (negsuc k)))
 unfolding of_numbers
 none_negative k w n =
     sym (number_negative w (negsuc k) (not_same w (bytes "glyph") (λ e. n (head e))) (not_same w (bytes "column") (λ e. n (tail (head e)))) refl)
 
-none_one : (z : ℤ) → OnlyNames (bytes "write" ∷ bytes "run" ∷ bytes "tail" ∷ bytes "glyph" ∷ bytes "column" ∷ []) (One z)
-unfolding of_numbers with_number
+none_one : (z : ℤ) → OnlyNames (bytes "write" ∷ bytes "run" ∷ bytes "tail" ∷ bytes "glyph" ∷ bytes "column" ∷ []) (Some (One z))
+unfolding of_numbers with_number with_natural
 none_one (pos k) w n =
     rw (not_same w (bytes "glyph") (λ e. n (tail (tail (tail (head e))))), not_same w (bytes "column") (λ e. n (tail (tail (tail (tail (head e)))))))
     (sym (sized_none w k (not_same w (bytes "write") (λ e. n (head e))) (not_same w (bytes "run") (λ e. n (tail (head e))))
     (not_same w (bytes "tail") (λ e. n (tail (tail (head e)))))))
 none_one (negsuc k) w n = none_negative k w (λ e. n (tail (tail (tail e))))
 
-none_two : (x y : ℤ) → OnlyNames (bytes "add" ∷ bytes "withdraw" ∷ bytes "degree" ∷ bytes "octant" ∷ []) (Two x y)
+none_two : (x y : ℤ) → OnlyNames (bytes "add" ∷ bytes "withdraw" ∷ bytes "degree" ∷ bytes "octant" ∷ []) (Some (Two x y))
 unfolding of_numbers
 none_two x y w n =
     sym (pair_none w x y (not_same w (bytes "add") (λ e. n (head e))) (not_same w (bytes "withdraw") (λ e. n (tail (head e))))
     (not_same w (bytes "degree") (λ e. n (tail (tail (head e))))) (not_same w (bytes "octant") (λ e. n (tail (tail (tail (head e)))))))
 
-none_three : (x y z : ℤ) → OnlyNames (bytes "add" ∷ []) (Three x y z)
+none_three : (x y z : ℤ) → OnlyNames (bytes "add" ∷ []) (Some (Three x y z))
 unfolding of_numbers
 none_three x y z w n = sym (three_none x y z w (not_same w (bytes "add") (λ e. n (head e))))
 
 -- A negative kind, whatever the name is.
-none_kind : (x y : ℤ) (k : ℕ) → OnlyNames [] (Three x y (negsuc k))
+none_kind : (x y : ℤ) (k : ℕ) → OnlyNames [] (Some (Three x y (negsuc k)))
 unfolding of_numbers
 none_kind x y k w n = go (same_list w (bytes "add")) refl
   where
@@ -73,12 +75,12 @@ none_kind x y k w n = go (same_list w (bytes "add")) refl
     go true e = sym (kind_negative x y (negsuc k) refl ∙ three-add x y (negsuc k) w e)
     go false e = sym (three_none x y (negsuc k) w e)
 
-none_five : (x y u v p : ℤ) → OnlyNames (bytes "arrow" ∷ []) (Five x y u v p)
+none_five : (x y u v p : ℤ) → OnlyNames (bytes "arrow" ∷ []) (Some (Five x y u v p))
 unfolding of_numbers
 none_five x y u v p w n = sym (five_none w x y u v p (not_same w (bytes "arrow") (λ e. n (head e))))
 
 -- Places beyond 16 bits, whatever the name is.
-none_beyond : (x y u v p : ℤ) → ¬ T (are_short x y u v) → OnlyNames [] (Five x y u v p)
+none_beyond : (x y u v p : ℤ) → ¬ T (are_short x y u v) → OnlyNames [] (Some (Five x y u v p))
 unfolding of_numbers
 none_beyond x y u v p h w n = go (same_list w (bytes "arrow")) refl
   where
@@ -88,7 +90,7 @@ none_beyond x y u v p h w n = go (same_list w (bytes "arrow")) refl
 
 -- The file of `read`.
 read_file_lem : (x : List ℕ) → (of_words (bytes "read" ∷ x ∷ []) ≡ Read) ↔ ((x ≡ bytes "-") ⊎ T (is_hex x))
-unfolding same_list of_file with_file of_words
+unfolding of_file with_file of_words
 read_file_lem x = (
   from (same_list x (bytes "-")) refl (is_hex x) refl,
   ⊎_elim (λ e. rw (true_of (same_list x (bytes "-")) (subst (λ (y : List ℕ). T (same_list x y)) e (same_refl x))) refl) (λ t. to (same_list x (bytes "-")) t),
@@ -109,7 +111,7 @@ unfolding of_words
 other_name w l n = rw (not_same w (bytes "read") n) refl
 
 pub names : Names
-unfolding same_list question_word of_one_word with_size with_number with_pair with_kind with_three with_five of_numbers of_words
+unfolding question_word of_one_word with_size with_natural with_number with_pair with_kind with_three with_places with_five of_numbers of_words
 names =
     record {
       write = refl;

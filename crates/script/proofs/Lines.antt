@@ -1,17 +1,17 @@
--- The command of a line from the places of its words, the bytes of its second word, and the lines that are no command.
-use mathlib.Core.Path.{◌≡◌, refl, sym, ap, ◌∙◌}
+-- The command of a line from its words, the bytes of its second word, and the lines that are no command.
+use mathlib.Core.Path.{◌≡◌, refl, ap, ◌∙◌}
 use mathlib.Core.Bool.{true, false}
 use mathlib.Core.List.{List, [], ◌∷◌}
-use Prim.Native.Nat.{ℕ, ◌-◌, ◌≤◌, ◌<◌}
+use Prim.Native.Nat.{ℕ, ◌≤◌, ◌<◌}
 use native.Mathlib.Omega.{arith}
-use native.Mathlib.Decide.{ℕ_discrete}
 use lib.Dec.{eqb}
-use lib.ListN.{length, take, drop, get_or}
+use lib.ListN.{length, take, get_or}
 use lib.Seq.{take-nil}
 use borrow.Author.Tests.{lt-ltb, le-ltb, eq-eqb, ne_eqb}
 use Rattle.commands.specs.declared.Command.{Command}
 use Rattle.commands.specs.declared.Command.TheVariants.{Blank, Error}
-use Rattle.words.specs.Words.{split, words_of, Next}
+use Rattle.std.proofs.Common.{Option}
+use Rattle.words.specs.Words.{words_of, Next}
 use Rattle.arrays.specs.Paste.{Pasted}
 use Rattle.arrays.proofs.paste.Parts.{front_same}
 use Rattle.words.specs.Hex.{is_hex, pairs}
@@ -22,67 +22,59 @@ use Rattle.arrays.specs.Same.{same_list}
 use Rattle.arguments.specs.declared.Arguments.{Arguments}
 use Rattle.arguments.specs.Arguments.{arguments_of}
 
--- The bytes from place a up to place b.
-abbrev part : ℕ → ℕ → List ℕ → List ℕ
-part a b line = take (b - a) (drop a line)
+-- A line with no word, and one with a name before the rest.
+pub words_none : (line : List ℕ) → words_of line ≡ [] → Error ≡ of_words (words_of line)
+unfolding of_words
+words_none line e = rw e refl
 
--- The name stands from a to b.
-module _ (line : List ℕ) (a b : ℕ) (n : Next line 0 a b) where
-  pub words_none : a ≡ b → Error ≡ of_words (words_of line)
+module _ {line name rest : List ℕ} (n : Next line name rest) (r : Command) where
+  pub words_read : same_list name (bytes "read") ≡ true → r ≡ with_file (words_of rest) → r ≡ of_words (words_of line)
   unfolding of_words
-  words_none e = rw (n.none e) refl
+  words_read e f = rw (n.words, e) f
 
-  module _ (s : ¬ (a ≡ b)) (r : Command) where
-    pub words_read : same_list (part a b line) (bytes "read") ≡ true → r ≡ with_file (words_of (drop b line)) → r ≡ of_words (words_of line)
-    unfolding of_words
-    words_read e f = rw (n.some s, e) f
+  pub words_named : same_list name (bytes "read") ≡ false → (a : Option Arguments) → a ≡ arguments_of (words_of rest) → r ≡ of_numbers name a
+      → r ≡ of_words (words_of line)
+  unfolding of_words
+  words_named e a g f = rw (n.words, e) (f ∙ ap (of_numbers name) g)
 
-    pub words_named : same_list (part a b line) (bytes "read") ≡ false → (l : Arguments) → l ≡ arguments_of (words_of (drop b line))
-        → r ≡ of_numbers (part a b line) l → r ≡ of_words (words_of line)
-    unfolding of_words
-    words_named e l g f = rw (n.some s, e) (f ∙ ap (of_numbers (part a b line)) g)
+-- The file of `read`, and what may follow.
+pub word_missing : (words : List ℕ) → words_of words ≡ [] → Error ≡ with_file (words_of words)
+unfolding with_file
+word_missing words e = rw e refl
 
--- The file of `read` stands from a to b, and from c to d what may follow.
-module _ (line : List ℕ) (from a b : ℕ) (n : Next line from a b) where
-  pub word_missing : a ≡ b → Error ≡ with_file (words_of (drop from line))
+module _ {words word rest : List ℕ} (n : Next words word rest) where
+  pub word_more : {x l : List ℕ} → Next rest x l → Error ≡ with_file (words_of words)
   unfolding with_file
-  word_missing e = rw (n.none e) refl
+  word_more m = rw (n.words, m.words) refl
 
-  module _ (s : ¬ (a ≡ b)) (c d : ℕ) (m : Next line b c d) where
-    pub word_more : ¬ (c ≡ d) → Error ≡ with_file (words_of (drop from line))
-    unfolding with_file
-    word_more t = rw (n.some s, m.some t) refl
+  pub word_alone : words_of rest ≡ [] → (r : Command) → r ≡ of_file word → r ≡ with_file (words_of words)
+  unfolding with_file
+  word_alone e r f = rw (n.words, e) f
 
-    pub word_alone : c ≡ d → (r : Command) → r ≡ of_file (part a b line) → r ≡ with_file (words_of (drop from line))
-    unfolding with_file
-    word_alone e r f = rw (n.some s, m.none e) f
+-- The bytes of the second word; there are none where there is no second word.
+file_missing : (line before : List ℕ) → second (words_of line) ≡ [] → Pasted (take (length before) (file_in_line line)) before before 0 0
+unfolding file_in_line is_hex pairs
+file_missing line before e = rw (e, take-nil) (front_same 0 before (omega arith))
 
--- The second word, which is empty where there is none.
-module _ (line : List ℕ) (a b c d : ℕ) (n : Next line 0 a b) (m : Next line b c d) where
-  cons-nil : {x : List ℕ} {l : List (List ℕ)} → x ∷ l ≡ [] → ⊥
-  cons-nil e = let z : ◌≡◌ {A = ℕ} 0 1 = cc in omega arith
+pub no_first : (line before : List ℕ) → words_of line ≡ [] → Pasted (take (length before) (file_in_line line)) before before 0 0
+no_first line before e = file_missing line before (ap second e)
 
-  second_is : second (words_of line) ≡ part c d line
-  unfolding split
-  second_is = go (ℕ_discrete a b) (ℕ_discrete c d)
-    where
-      empty : c ≡ d → part c d line ≡ []
-      empty e = let z : d - c ≡ 0 = omega arith in ap (λ (k : ℕ). take k (drop c line)) z
+module _ {line name rest : List ℕ} (n : Next line name rest) (before : List ℕ) where
+  pub no_second : words_of rest ≡ [] → Pasted (take (length before) (file_in_line line)) before before 0 0
+  no_second e = file_missing line before (ap second (n.words ∙ ap (λ (l : List (List ℕ)). name ∷ l) e))
 
-      go : Dec (a ≡ b) → Dec (c ≡ d) → second (words_of line) ≡ part c d line
-      go (yes e) (yes f) = rw (n.none e) (sym (empty f))
-      go (yes e) (no f) = absurd (cons-nil (sym (m.some f) ∙ ap words_of (n.done e)))
-      go (no e) (yes f) = rw (n.some e, m.none f) (sym (empty f))
-      go (no e) (no f) = rw (n.some e, m.some f) refl
+  module _ {word behind : List ℕ} (m : Next rest word behind) where
+    second_is : second (words_of line) ≡ word
+    second_is = ap second (n.words ∙ ap (λ (l : List (List ℕ)). name ∷ l) m.words)
 
-  pub file_none : (before : List ℕ) → is_hex (part c d line) ≡ false → Pasted (take (length before) (file_in_line line)) before before 0 0
-  unfolding file_in_line
-  file_none before e = rw (second_is, e, take-nil) (front_same 0 before (omega arith))
+    pub file_none : is_hex word ≡ false → Pasted (take (length before) (file_in_line line)) before before 0 0
+    unfolding file_in_line
+    file_none e = rw (second_is, e, take-nil) (front_same 0 before (omega arith))
 
-  pub file_some : (before after : List ℕ) (r : ℕ) → is_hex (part c d line) ≡ true → Pasted (take (length before) (pairs (part c d line))) before after 0 r
-      → Pasted (take (length before) (file_in_line line)) before after 0 r
-  unfolding file_in_line
-  file_some before after r e f = rw (second_is, e) f
+    pub file_some : (after : List ℕ) (r : ℕ) → is_hex word ≡ true → Pasted (take (length before) (pairs word)) before after 0 r
+        → Pasted (take (length before) (file_in_line line)) before after 0 r
+    unfolding file_in_line
+    file_some after r e f = rw (second_is, e) f
 
 is_blank_lem : (line : List ℕ) → ¬ (length line ≡ 0) → is_blank line ≡ eqb (get_or line 0 0) 35
 is_blank_lem [] n = absurd (n refl)

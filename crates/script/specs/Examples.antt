@@ -7,19 +7,19 @@ use Rattle.commands.specs.declared.Change.TheVariants.{Add, Withdraw, Round, Fin
 use Rattle.commands.specs.declared.Query.TheVariants.{Run, Kinds, Column}
 use Rattle.commands.specs.declared.Direction.TheVariants.{Octant, Arrow, Glyph}
 use Rattle.arrays.specs.Text.{bytes}
-use Rattle.arrays.specs.Same.{same_list}
 use Rattle.words.specs.Words.{is_space, split}
 use Rattle.numbers.specs.Numbers.{are_digits, value_from, number_of}
 use Rattle.arguments.specs.Arguments.{numbers_of, arguments_of}
 use Rattle.words.specs.Hex.{digit_of, is_hex, pairs}
-use Rattle.commands.specs.Commands.{question_word, of_one_word, with_size, with_number, with_pair, with_kind, with_three, is_short, are_short, with_five}
+use Rattle.commands.specs.Commands.{question_word, of_one_word, with_size, with_natural, with_number, with_pair, with_kind}
+use Rattle.commands.specs.Commands.{with_three, is_short, are_short, with_places, with_five}
 use Rattle.commands.specs.Commands.{of_numbers}
 use Rattle.script.specs.Line.{of_file, with_file, of_words, command_of, file_in_line}
 
 -- The commands of lines.
 unfoldable pub commands : List String → List Command
-unfolding is_space split same_list are_digits value_from number_of numbers_of arguments_of digit_of is_hex question_word of_one_word with_size with_number
-    with_pair with_kind with_three is_short are_short with_five of_numbers of_file with_file of_words command_of
+unfolding is_space split are_digits value_from number_of numbers_of arguments_of digit_of is_hex question_word of_one_word with_size
+    with_natural with_number with_pair with_kind with_three is_short are_short with_places with_five of_numbers of_file with_file of_words command_of
 commands [] = []
 commands (s ∷ l) = command_of (bytes s) ∷ commands l
 

@@ -2,13 +2,12 @@
 // line that is no command have their own variants, so every line has an answer.
 #![tactic(auto)]
 
-ghost use Rattle.std.specs.Prelude.{◌≡◌, ◌≤◌, length, take, drop};
+ghost use Rattle.std.specs.Prelude.{◌≡◌, length, take};
 ghost use Rattle.script.specs.Line.{command_of, of_words, with_file, of_file, file_in_line};
 ghost use Rattle.arrays.specs.Paste.{Pasted};
 ghost use Rattle.words.specs.Words.{words_of};
 
 use arguments::arguments_of;
-use arrays::same::same_bytes;
 use commands::{Command, of_numbers};
 use lines::LINE_LIMIT;
 use words::hex::{decode, is_hex};
@@ -21,63 +20,48 @@ pub fn parse(line: &[u8]) -> Command
     if line.len() > LINE_LIMIT {
         return Command::Error;
     }
-    if line.len() == 0 {
-        return Command::Blank;
+    match line {
+        [] | [b'#', ..] => Command::Blank,
+        _ => by_words(line),
     }
-    if line[0] == b'#' {
-        return Command::Blank;
-    }
-    by_words(line)
 }
 
-// The command of a line's words: its name, which stands from a to b, and what is behind it.
+// The command of a line's words: its name, and what is behind it.
 fn by_words(line: &[u8]) -> Command
     ensures { result ≡ of_words (words_of line.now) }
 {
-    let w = next(line, 0);
-    let a = w.start;
-    let b = w.end;
-    if a == b {
+    let Some((name, rest)) = next(line) else {
         return Command::Error;
+    };
+    match name {
+        b"read" => with_file(rest),
+        _ => of_numbers(name, arguments_of(rest)),
     }
-    let name = &line[a..b];
-    if same_bytes(name, b"read") {
-        return with_file(line, b);
-    }
-    of_numbers(name, arguments_of(line, b))
 }
 
-// The command `read` with the words from `from` on: one word, which is the file.
-fn with_file(line: &[u8], from: usize) -> Command
-    requires { from ≤ length line.now }
-    ensures { result ≡ with_file (words_of (drop from line.now)) }
+// The command `read` with the words behind it: one word, which is the file.
+fn with_file(words: &[u8]) -> Command
+    ensures { result ≡ with_file (words_of words.now) }
 {
-    let w = next(line, from);
-    let a = w.start;
-    let b = w.end;
-    if a == b {
+    let Some((word, rest)) = next(words) else {
         return Command::Error;
+    };
+    match next(rest) {
+        None => of_file(word),
+        Some(_) => Command::Error,
     }
-    let x = next(line, b);
-    let c = x.start;
-    let d = x.end;
-    if c != d {
-        return Command::Error;
-    }
-    of_file(&line[a..b])
 }
 
 // The command `read` of a file in hexadecimal digits, `-` for no bytes.
+#[tactic(auto, using(commands::proofs::Tests::compared), unfolding(crate::specs::Line::of_file))]
 fn of_file(word: &[u8]) -> Command
     ensures { result ≡ of_file word.now }
 {
-    if same_bytes(word, b"-") {
-        return Command::Read;
+    match word {
+        b"-" => Command::Read,
+        _ if is_hex(word) => Command::Read,
+        _ => Command::Error,
     }
-    if is_hex(word) {
-        return Command::Read;
-    }
-    Command::Error
 }
 
 // Writes the bytes that the second word of a line stands for to the front of `out`, as many as it holds, and returns how many. A
@@ -85,11 +69,12 @@ fn of_file(word: &[u8]) -> Command
 pub fn bytes_of(line: &[u8], out: &mut [u8]) -> usize
     ensures { Pasted (take (length out.old) (file_in_line line.now)) out.old out.new 0 result }
 {
-    let w = next(line, 0);
-    let x = next(line, w.end);
-    let c = x.start;
-    let d = x.end;
-    let word = &line[c..d];
+    let Some((_, rest)) = next(line) else {
+        return 0;
+    };
+    let Some((word, _)) = next(rest) else {
+        return 0;
+    };
     if !is_hex(word) {
         return 0;
     }

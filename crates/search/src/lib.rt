@@ -3,17 +3,17 @@
 
 pub mod found;
 
-ghost use Rattle.std.specs.Prelude.{◌≡◌, List, map, ℕ, ◌≤◌, length, take};
+ghost use Rattle.std.specs.Prelude.{◌≡◌, List, map, ℕ, length};
 ghost use Rattle.plane.specs.Point.{Point};
 ghost use Rattle.plane.specs.Coordinate.{coordinate};
 ghost use Rattle.model.specs.Round as round;
-ghost use Rattle.regions.specs.Rays.{places, table_size};
+ghost use Rattle.regions.specs.Rays.{table_size};
 ghost use Rattle.regions.specs.Nearest.{Complements};
 ghost use Rattle.score.specs.Prepared.{Prepared};
-ghost use Rattle.search.specs.Search.{SearchGiven, Spares, points_of, greater, try_all};
+ghost use Rattle.search.specs.Search.{Spares, points_of, greater, try_all};
 
-use found::{Best, Greatest};
-use regions::nearest::{nearest, no_rays};
+use found::{Crossing, Greatest};
+use regions::nearest::{Points, no_rays};
 use score::gain::gain_at;
 
 // A crossing of the gain g: it takes the place of the best so far where it gains more.
@@ -23,78 +23,48 @@ fn better(known: Greatest, g: u64, x: u16, y: u16) -> Greatest
     if known.gain < g {
         return Greatest {
             gain: g,
-            best: Best::At(x, y),
+            best: Some(Crossing { x, y }),
         };
     }
     known
 }
 
-// The crossings of one x with the first `count` rows, by the least rays at the rows.
-fn pick(
-    table: &[u32],
-    x: u16,
-    rows: &[u16],
-    count: usize,
-    least: &[u32],
-    known: Greatest,
-) -> Greatest
-    requires { (length table.now ≡ table_size) × Complements least.now × (count ≤ length rows.now) × (count ≤ places) }
-    ensures { (ps : List Point) → Spares table.now x rows.now count least.now ps
-        → result ≡ try_all ps known (round.column (coordinate x) (map coordinate (take count rows.now))) }
+// The crossings of one x with the rows, by the least rays at the rows.
+// Stays: the table is a slice of a length that a clause says, as `column` has one and hands it on.
+fn pick(points: &Points, table: &[u32], x: u16, least: &[u32], known: Greatest) -> Greatest
+    requires { (length table.now ≡ table_size) × Complements least.now }
+    ensures { (ps : List Point) → Spares table.now x points.now.rows.now least.now ps
+        → result ≡ try_all ps known (round.column (coordinate x) (map coordinate points.now.rows.now)) }
 {
     let mut best = known;
-    let mut row = 0;
-    while row < count {
-        best = better(best, gain_at(table, least, row), x, rows[row]);
-        row += 1;
+    for (row, y) in points.rows.iter().enumerate() {
+        best = better(best, gain_at(table, least, row), x, *y);
     }
     best
 }
 
-// Tries the crossings of one x with the first `count` rows. Returns the best so far: the one handed in, or one that gains more.
-pub fn column(
-    xs: &[u16],
-    n: usize,
-    table: &[u32],
-    gaps: &[u32],
-    ranks: &[usize],
-    x: u16,
-    rows: &[u16],
-    count: usize,
-    known: Greatest,
-) -> Greatest
-    requires { SearchGiven xs.now n table.now gaps.now ranks.now rows.now count }
-    ensures { (ys : List ℕ) → Prepared xs.now ys n table.now gaps.now ranks.now rows.now count
-        → result ≡ try_all (points_of xs.now ys n) known (round.column (coordinate x) (map coordinate (take count rows.now))) }
+// Tries the crossings of one x with the rows. Returns the best so far: the one handed in, or one that gains more.
+// Stays: a slice of a length that a clause says, as an array would ask more of who calls `column`, which docs/CLAIMS.md names.
+pub fn column(points: &Points, table: &[u32], x: u16, known: Greatest) -> Greatest
+    requires { length table.now ≡ table_size }
+    ensures { let p = points.now in (ys : List ℕ) → Prepared p.xs.now ys table.now p.gaps.now p.ranks.now p.rows.now
+        → result ≡ try_all (points_of p.xs.now ys) known (round.column (coordinate x) (map coordinate p.rows.now)) }
 {
     let mut least = no_rays();
-    nearest(xs, n, gaps, ranks, count, x, &mut least);
-    pick(table, x, rows, count, &least, known)
+    points.nearest(x, &mut least);
+    pick(points, table, x, &least, known)
 }
 
-// Tries the crossings of the first `width` columns with the first `count` rows. Returns the best of all, or what was handed in.
-pub fn all_columns(
-    xs: &[u16],
-    n: usize,
-    table: &[u32],
-    gaps: &[u32],
-    ranks: &[usize],
-    columns: &[u16],
-    width: usize,
-    rows: &[u16],
-    count: usize,
-    known: Greatest,
-) -> Greatest
-    requires { SearchGiven xs.now n table.now gaps.now ranks.now rows.now count × (width ≤ length columns.now) }
-    ensures { (ys : List ℕ) → Prepared xs.now ys n table.now gaps.now ranks.now rows.now count
-        → result ≡ try_all (points_of xs.now ys n) known
-        (round.crossings (map coordinate (take width columns.now)) (map coordinate (take count rows.now))) }
+// Tries the crossings of the columns with the rows. Returns the best of all, or what was handed in.
+// Stays: a slice of a length that a clause says, as an array would ask more of who calls `all_columns`, which docs/CLAIMS.md names.
+pub fn all_columns(points: &Points, table: &[u32], columns: &[u16], known: Greatest) -> Greatest
+    requires { length table.now ≡ table_size }
+    ensures { let p = points.now in (ys : List ℕ) → Prepared p.xs.now ys table.now p.gaps.now p.ranks.now p.rows.now
+        → result ≡ try_all (points_of p.xs.now ys) known (round.crossings (map coordinate columns.now) (map coordinate p.rows.now)) }
 {
     let mut best = known;
-    let mut at = 0;
-    while at < width {
-        best = column(xs, n, table, gaps, ranks, columns[at], rows, count, best);
-        at += 1;
+    for x in columns {
+        best = column(points, table, *x, best);
     }
     best
 }

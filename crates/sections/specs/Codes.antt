@@ -1,11 +1,10 @@
 -- The points of a section as codes, and check 5 on them (SPEC 8.2).
-use Rattle.std.specs.Prelude.{◌≡◌, Bool, ◌&&◌, List, [], ◌∷◌, ◌++◌, map, ℕ, ◌+◌, ◌*◌, ◌-◌, ◌/◌, T, ltb, length, take, drop, get_or}
-use Rattle.arrays.specs.Test.{if}
+use Rattle.std.specs.Prelude.{◌≡◌, Bool, true, false, ◌&&◌, List, map, ℕ, ◌+◌, ◌-◌, ◌/◌, Option, MatchOption, ltb, get_or}
 use Rattle.plane.specs.Point.{Point, in_range}
 use Rattle.plane.specs.Coordinate.{signed16}
-use Rattle.arrays.specs.Set.{rising}
+use Rattle.arrays.specs.Set.{rising, all}
 use Rattle.model.specs.State.{max_pins, placed}
-use Rattle.model.specs.File.{shortest, longest, points_of, file_state}
+use Rattle.model.specs.File.{shortest, longest, file_state}
 use Rattle.points.specs.Coded.{padded}
 use Rattle.sections.specs.declared.codes.FilePoints.{FilePoints}
 use Rattle.plane.specs.Code.{code}
@@ -15,18 +14,9 @@ use Rattle.arrays.specs.Array.{none_in}
 abbrev pub point_in : List ℕ → ℕ → Point
 point_in b i = record { x = signed16 (get_or b i 0) (get_or b (i + 1) 0); y = signed16 (get_or b (i + 2) 0) (get_or b (i + 3) 0) }
 
--- The n points from place `at` on.
-abbrev pub points_in : List ℕ → ℕ → ℕ → List Point
-points_in b at n = points_of (take (4 * n) (drop at b))
-
--- The codes of the points before the first that is out of range, or of all.
-unfoldable pub codes_in_front : List Point → List ℕ
-codes_in_front [] = []
-codes_in_front (p ∷ l) = if (in_range p) (λ _. code p ∷ codes_in_front l) (λ _. [])
-
--- An array with these codes at its front.
-abbrev pub decoded : List Point → List ℕ → List ℕ
-decoded ps old = codes_in_front ps ++ drop (length (codes_in_front ps)) old
+-- The codes of points that are all in range, at the front of an array of n places.
+abbrev pub decoded : ℕ → List Point → Option (List ℕ) → Type 0
+decoded n ps r = MatchOption r (all in_range ps ≡ false) (λ codes. (all in_range ps ≡ true) × (codes ≡ padded n (map code ps)))
 
 -- What check 5 still asks where all points are in range, on their codes.
 abbrev pub placed_codes : List ℕ → List ℕ → Bool
@@ -36,8 +26,8 @@ placed_codes pins steiner = rising ltb pins && (rising ltb steiner && none_in st
 abbrev pub file_places : ℕ
 file_places = (longest - shortest) / 4
 
--- Check 5, and the codes of the points that the file shows where it passes.
-pub record Decodes (b : List ℕ) (r : FilePoints) : Type 0 where
-  pub ok : r.ok ≡ placed (file_state b)
-  pub pins : T (placed (file_state b)) → r.pins ≡ padded max_pins (map code (file_state b).pins)
-  pub steiner : T (placed (file_state b)) → r.steiner ≡ padded file_places (map code (file_state b).steiner)
+-- Check 5 passes, and these are the codes of the points that the file shows.
+pub record Decodes (b : List ℕ) (found : FilePoints) : Type 0 where
+  pub passes : placed (file_state b) ≡ true
+  pub pins : found.pins ≡ padded max_pins (map code (file_state b).pins)
+  pub steiner : found.steiner ≡ padded file_places (map code (file_state b).steiner)

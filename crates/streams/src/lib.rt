@@ -15,6 +15,7 @@ pub fn read_full<R: Read>(input: &mut R, buf: &mut [u8]) -> io::Result<usize>
     ensures end { IfOk result (λ n. n < length buf.new → IsAtEnd (R.remaining input.new)) }
 {
     let mut done = 0;
+    // Stays: no index is counted here, since a turn goes on by as many bytes as the read gave; `read_exact` fails where the input ends.
     while done < buf.len() {
         let n = input.read(&mut buf[done..])?;
         if n == 0 {

@@ -32,12 +32,11 @@ pub fn worked_out() -> [u8; ARROW_COUNT]
     ensures { result ≡ arrow_table }
 {
     let mut numbers = [0u8; ARROW_COUNT];
-    let mut i: usize = 0;
-    while i < ARROW_COUNT {
+    for i in 0..ARROW_COUNT {
+        // Stays: `as`, since the number fits, as is proved; try_from would hand out an error that never comes.
         let dx = (i % ROW) as i32 - LIMIT;
         let dy = (i / ROW) as i32 - LIMIT;
         numbers[i] = octant(dx, dy);
-        i += 1;
     }
     numbers
 }

@@ -28,6 +28,7 @@ fn put_coordinate(out: &mut [u8], at: usize, u: u16) -> usize
 }
 
 // One byte of a template, of whose numbers the first `used` are used.
+// Stays: all numbers and how many are used, since `Puts` speaks of both.
 fn put_item(out: &mut [u8], at: usize, b: u8, numbers: &[u64], used: usize) -> Place
     requires number_room_in_bounds { at + number_room ≤ length out.old }
     requires used_in_bounds { used ≤ length numbers.now }
@@ -39,21 +40,20 @@ fn put_item(out: &mut [u8], at: usize, b: u8, numbers: &[u64], used: usize) -> P
             used,
         };
     }
-    if b == b'%' {
-        return Place {
+    match b {
+        b'%' => Place {
             next: decimal(out, at, numbers[used]),
             used: used + 1,
-        };
-    }
-    if b == b'@' {
-        return Place {
+        },
+        b'@' => Place {
+            // Stays: `as`, since the number fits, as is proved; try_from would hand out an error that never comes.
             next: put_coordinate(out, at, (numbers[used] % BASE) as u16),
             used: used + 1,
-        };
-    }
-    Place {
-        next: put_byte(out, at, b),
-        used,
+        },
+        _ => Place {
+            next: put_byte(out, at, b),
+            used,
+        },
     }
 }
 
@@ -65,12 +65,10 @@ pub fn fill(out: &mut [u8], at: usize, template: &[u8], numbers: &[u64]) -> usiz
 {
     let mut next = at;
     let mut used = 0;
-    let mut i = 0;
-    while i < template.len() {
-        let p = put_item(out, next, template[i], numbers, used);
+    for b in template {
+        let p = put_item(out, next, *b, numbers, used);
         next = p.next;
         used = p.used;
-        i += 1;
     }
     next
 }

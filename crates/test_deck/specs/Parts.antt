@@ -1,10 +1,9 @@
 -- A reply or an answer in parts: its kind, three numbers and two points.
-use Rattle.std.specs.Prelude.{◌≡◌, List, [], ◌∷◌, ℕ, ℤ, pos}
+use Rattle.std.specs.Prelude.{◌≡◌, List, [], ◌∷◌, ℕ, ℤ, pos, Option, Some, None}
 use Rattle.deck.specs.declared.Outcome.{Outcome}
 use Rattle.calls.specs.declared.Reply.{Reply}
 use Rattle.calls.specs.declared.Reply.TheVariants as reply
-use Rattle.columns.specs.declared.Choice.{Choice}
-use Rattle.columns.specs.declared.Choice.TheVariants as choice
+use Rattle.columns.specs.declared.Candidate.{Candidate}
 use Rattle.questions.specs.declared.Answer.{Answer}
 use Rattle.questions.specs.declared.Answer.TheVariants as answer
 use Rattle.test_deck.specs.declared.parts.Parts.{Parts}
@@ -27,9 +26,9 @@ parts_of_reply (reply.Tap x y fall) = parts_in 3 (fall ∷ 0 ∷ 0 ∷ []) (x �
 parts_of_reply (reply.Rounds n) = one_number 4 n
 
 -- What a column answers: the candidate stands where the first point does, and its saving, which may be negative, where the x of the second does.
-abbrev pub parts_of_column : Choice → Parts
-parts_of_column choice.Nothing = one_number 12 0
-parts_of_column (choice.Candidate x y saving) = parts_in 11 (0 ∷ 0 ∷ 0 ∷ []) (x ∷ y ∷ saving ∷ pos 0 ∷ [])
+abbrev pub parts_of_column : Option Candidate → Parts
+parts_of_column None = one_number 12 0
+parts_of_column (Some c) = parts_in 11 (0 ∷ 0 ∷ 0 ∷ []) (c.x ∷ c.y ∷ c.saving ∷ pos 0 ∷ [])
 
 -- The numbers of an answer are that of a refusal, a length, a degree, the three counts or the three lengths by kind; its points are the ends of an edge, the
 -- lower one first, or what `parts_of_column` says. A refusal has the kind that it has for a reply, and no other answer has a kind of those.

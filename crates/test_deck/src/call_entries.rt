@@ -21,22 +21,21 @@ pub extern "C" fn entry_empty(words: &mut [u64; WORDS], kinds: &mut [u8; KIND_PL
 }
 
 // Puts an outcome into the caller's arrays. Returns the kind of the reply.
-fn put_outcome<'a>(
+fn put_outcome(
     o: Outcome,
-    words: &'a mut [u64; WORDS],
-    kinds: &'a mut [u8; KIND_PLACES],
-    numbers: &'a mut [u64; 3],
-    places: &'a mut [i32; 4],
+    words: &mut [u64; WORDS],
+    kinds: &mut [u8; KIND_PLACES],
+    numbers: &mut [u64; 3],
+    places: &mut [i32; 4],
 ) -> u8
     ensures { Holds o words.new kinds.new (parts_in result numbers.new places.new) }
 {
-    let next = o.next;
-    let reply = o.reply;
-    put_deck(next, words, kinds);
-    put_parts(parts_of_reply(reply), numbers, places)
+    put_deck(o.next, words, kinds);
+    put_parts(parts_of_reply(o.reply), numbers, places)
 }
 
 // Adds a pin of a kind. Returns the kind of the reply; its numbers and its point stand in the caller's arrays.
+// Stays: seven parameters: the C interface.
 #[unsafe(no_mangle)]
 pub extern "C" fn entry_add(
     x: i32,

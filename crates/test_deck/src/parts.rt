@@ -3,7 +3,7 @@ ghost use Rattle.std.specs.Prelude.{◌≡◌};
 ghost use Rattle.test_deck.specs.Parts.{one_number, parts_of_reply, parts_of_column, parts_of_answer, parts_in};
 
 use calls::Reply;
-use columns::Choice;
+use columns::Candidate;
 use questions::Answer;
 
 #[derive(Clone, Copy)]
@@ -14,6 +14,7 @@ pub struct Parts {
 }
 
 // The parts of a kind that has one number and no point.
+// Stays: kinds by number, here and below, for another language (`parts_of_reply`, `parts_of_answer`).
 fn one_number(kind: u8, number: u64) -> Parts
     ensures { result ≡ one_number kind number }
 {
@@ -30,7 +31,7 @@ pub fn parts_of_reply(reply: Reply) -> Parts
 {
     match reply {
         Reply::Done => one_number(0, 0),
-        Reply::Refused(number) => one_number(1, number as u64),
+        Reply::Refused(number) => one_number(1, u64::from(number)),
         Reply::Finished => one_number(2, 0),
         Reply::Tap(x, y, fall) => Parts {
             kind: 3,
@@ -42,15 +43,15 @@ pub fn parts_of_reply(reply: Reply) -> Parts
 }
 
 // The parts of what a column answers.
-fn parts_of_column(choice: Choice) -> Parts
+fn parts_of_column(choice: Option<Candidate>) -> Parts
     ensures { result ≡ parts_of_column choice }
 {
     match choice {
-        Choice::Nothing => one_number(12, 0),
-        Choice::Candidate(x, y, saving) => Parts {
+        None => one_number(12, 0),
+        Some(c) => Parts {
             kind: 11,
             numbers: [0, 0, 0],
-            places: [x, y, saving, 0],
+            places: [c.x, c.y, c.saving, 0],
         },
     }
 }
@@ -60,7 +61,7 @@ pub fn parts_of_answer(answer: Answer) -> Parts
     ensures { result ≡ parts_of_answer answer }
 {
     match answer {
-        Answer::Refused(number) => one_number(1, number as u64),
+        Answer::Refused(number) => one_number(1, u64::from(number)),
         Answer::Length(length) => one_number(5, length),
         Answer::Counts(pins, steiner, edges) => Parts {
             kind: 6,
@@ -84,12 +85,15 @@ pub fn parts_of_answer(answer: Answer) -> Parts
 }
 
 // Puts parts into the caller's arrays. Returns the kind.
-pub fn put_parts<'a>(p: Parts, numbers: &'a mut [u64; 3], places: &'a mut [i32; 4]) -> u8
+pub fn put_parts(p: Parts, numbers: &mut [u64; 3], places: &mut [i32; 4]) -> u8
     ensures { parts_in result numbers.new places.new ≡ p }
 {
-    let a = p.numbers;
-    let b = p.places;
-    *numbers = a;
-    *places = b;
-    p.kind
+    let Parts {
+        kind,
+        numbers: three,
+        places: four,
+    } = p;
+    *numbers = three;
+    *places = four;
+    kind
 }

@@ -7,7 +7,7 @@ use super::places::{
     END_PLACES, ENDS, KIND_PLACES, PIN_COUNT, PIN_PLACES, PINS, STEINER, STEINER_COUNT,
     STEINER_PLACES, TAIL, WORDS,
 };
-use arrays::paste::put_numbers;
+use arrays::paste::put_items;
 use deck::Deck;
 use points::Points;
 
@@ -18,9 +18,10 @@ pub fn deck_in(words: [u64; WORDS], kinds: [u8; KIND_PLACES]) -> Deck
     let mut pins = [0u64; PIN_PLACES];
     let mut steiner = [0u64; STEINER_PLACES];
     let mut ends = [0u64; END_PLACES];
-    put_numbers(&mut pins, 0, &words[PINS..PIN_COUNT]);
-    put_numbers(&mut steiner, 0, &words[STEINER..STEINER_COUNT]);
-    put_numbers(&mut ends, 0, &words[ENDS..WORDS]);
+    pins.copy_from_slice(&words[PINS..PIN_COUNT]);
+    steiner.copy_from_slice(&words[STEINER..STEINER_COUNT]);
+    ends.copy_from_slice(&words[ENDS..WORDS]);
+    // Stays: `as`, since no From takes a u64 to a usize.
     let npins = words[PIN_COUNT] as usize;
     let nsteiner = words[STEINER_COUNT] as usize;
     let points = Points {
@@ -38,21 +39,17 @@ pub fn deck_in(words: [u64; WORDS], kinds: [u8; KIND_PLACES]) -> Deck
 }
 
 // Puts a deck into the words and the kinds. Returns nothing.
-pub fn put_deck<'a>(d: Deck, words: &'a mut [u64; WORDS], kinds: &'a mut [u8; KIND_PLACES])
+pub fn put_deck(d: Deck, words: &mut [u64; WORDS], kinds: &mut [u8; KIND_PLACES])
     ensures words_after { words.new ≡ words_of d }
     ensures kinds_after { deck_in words.new kinds.new ≡ d }
 {
-    let pins = d.points.pins;
-    let steiner = d.points.steiner;
-    let ends = d.ends;
-    let k = d.kinds;
-    let mut w = [0u64; WORDS];
-    put_numbers(&mut w, PINS, &pins);
-    w[PIN_COUNT] = d.points.npins as u64;
-    put_numbers(&mut w, STEINER, &steiner);
-    w[STEINER_COUNT] = d.points.nsteiner as u64;
-    w[TAIL] = d.tail;
-    put_numbers(&mut w, ENDS, &ends);
-    *words = w;
-    *kinds = k;
+    put_items(words, PINS, &d.points.pins);
+    // Stays: `as`, since no From takes a usize to a u64.
+    words[PIN_COUNT] = d.points.npins as u64;
+    put_items(words, STEINER, &d.points.steiner);
+    // Stays: `as`, since no From takes a usize to a u64.
+    words[STEINER_COUNT] = d.points.nsteiner as u64;
+    words[TAIL] = d.tail;
+    put_items(words, ENDS, &d.ends);
+    kinds.copy_from_slice(&d.kinds);
 }

@@ -1,13 +1,9 @@
 -- What an entry answers, from whether it takes its input.
-use mathlib.Core.Path.{◌≡◌, refl, sym, ap, ◌∙◌, subst}
-use mathlib.Core.List.{List, ◌++◌, map}
+use mathlib.Core.Path.{◌≡◌, refl, sym, ap, ◌∙◌}
+use mathlib.Core.List.{List, ◌++◌}
 use Prim.Native.Nat.{ℕ, ◌+◌, ◌≤◌}
 use native.Mathlib.Omega.{arith}
-use lib.Dec.{ltb}
-use lib.ListN.{length, take, drop}
-use lib.Seq.{take-length}
-use Rattle.arrays.specs.Set.{set_of}
-use Rattle.keys.specs.Keys.{ends_of}
+use lib.ListN.{length, drop}
 use Rattle.arrays.specs.Tab.{tab}
 use Rattle.tree.specs.Build.{BuildRequires}
 use Rattle.arrays.specs.Paste.{Pasted}
@@ -30,8 +26,3 @@ build_given xs ys room p h =
 pub row-front : (f : ℕ → ℕ) (c : ℕ) (before after : List ℕ) → after ≡ tab f c ++ drop c before → Pasted (tab f c) before after 0 c
 row-front f c before after e =
     front_of (sym (tab-length f c)) (e ∙ ap (λ (k : ℕ). tab f c ++ drop k before) (sym (tab-length f c)))
-
--- The listing of as many keys as there are is that of them all.
-pub list_all : (keys before after : List ℕ) (r : ℕ) → Pasted (set_of ltb (map ends_of (take (length keys) keys))) before after 0 r
-    → Pasted (set_of ltb (map ends_of keys)) before after 0 r
-list_all keys before after r f = subst (λ (l : List ℕ). Pasted (set_of ltb (map ends_of l)) before after 0 r) (take-length keys) f

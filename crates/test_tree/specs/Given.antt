@@ -3,7 +3,7 @@ use Rattle.std.specs.Prelude.{List, ℕ, ◌≤◌, length}
 use Rattle.score.specs.Length.{Measured}
 
 -- There are crossings to try on a tree, with room for their lengths.
-pub record Tried (xs ys : List ℕ) (n : ℕ) (table : List ℕ) (plain : ℕ) (cx cy : List ℕ) (room : ℕ) : Type 0 where
-  pub given : Measured xs ys n table plain
+pub record Tried (xs ys table : List ℕ) (plain : ℕ) (cx cy : List ℕ) (room : ℕ) : Type 0 where
+  pub given : Measured xs ys table plain
   pub both : length cx ≤ length cy
   pub fits : length cx ≤ room

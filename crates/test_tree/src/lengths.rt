@@ -13,11 +13,11 @@ use score::length::length_with;
 use tree::build::build;
 use tree::list::total_of;
 
-// The length of the tree of the first n points and the point at (x, y): 0 where there is no other. The last two slices are scratch.
+// The length of the tree of the points and the point at (x, y): 0 where there is no other. The last two slices are scratch.
+// Stays: eight parameters, since the tables to work in are lent by the caller (no heap), and the rest is a tree and one point.
 fn length_at(
     xs: &[u16],
     ys: &[u16],
-    n: usize,
     table: &[u32],
     plain: u64,
     x: u16,
@@ -25,37 +25,35 @@ fn length_at(
     gaps: &mut [u32],
     ranks: &mut [usize],
 ) -> u64
-    requires { Measured xs.now ys.now n table.now plain × (length gaps.old ≡ table_size) × (length ranks.old ≡ places) }
-    ensures { result ≡ length_with xs.now ys.now n x y }
+    requires { Measured xs.now ys.now table.now plain × (length gaps.old ≡ table_size) × (length ranks.old ≡ places) }
+    ensures { result ≡ length_with xs.now ys.now (length xs.now) x y }
 {
-    if n == 0 {
+    if xs.is_empty() {
         return 0;
     }
-    length_with(xs, ys, n, table, plain, x, y, gaps, ranks)
+    length_with(xs, ys, table, plain, x, y, gaps, ranks)
 }
 
 // Tries each crossing on a tree.
+// Stays: seven parameters, since the tables to work in are lent by the caller (no heap), and the rest is what the entry was handed.
 fn try_each(
     xs: &[u16],
     ys: &[u16],
-    n: usize,
     table: &[u32],
     plain: u64,
     cx: &[u16],
     cy: &[u16],
     out: &mut [u64],
 )
-    requires { Tried xs.now ys.now n table.now plain cx.now cy.now (length out.old) }
+    requires { Tried xs.now ys.now table.now plain cx.now cy.now (length out.old) }
     ensures { out.new
-        ≡ lengths_with xs.now ys.now n cx.now cy.now (length cx.now)
+        ≡ lengths_with xs.now ys.now (length xs.now) cx.now cy.now (length cx.now)
         ++ drop (length cx.now) out.old }
 {
     let mut gaps = blank();
     let mut ranks = [0usize; PLACES];
-    let mut i = 0;
-    while i < cx.len() {
-        out[i] = length_at(xs, ys, n, table, plain, cx[i], cy[i], &mut gaps, &mut ranks);
-        i += 1;
+    for (i, x) in cx.iter().enumerate() {
+        out[i] = length_at(xs, ys, table, plain, *x, cy[i], &mut gaps, &mut ranks);
     }
 }
 
@@ -68,9 +66,9 @@ pub fn lengths(xs: &[u16], ys: &[u16], cx: &[u16], cy: &[u16], out: &mut [u64])
 {
     let n = xs.len();
     let mut keys = [0u64; 144];
-    let m = build(xs, ys, n, &mut keys);
-    let plain = total_of(&keys, m);
+    let m = build(xs, ys, &mut keys);
+    let plain = total_of(&keys[..m]);
     let mut table = blank();
-    bottleneck::fill(&keys, m, n, &mut table);
-    try_each(xs, ys, n, &table, plain, cx, cy, out);
+    bottleneck::fill(&keys[..m], n, &mut table);
+    try_each(xs, ys, &table, plain, cx, cy, out);
 }

@@ -16,7 +16,8 @@ use tree::build::build;
 use tree::list::{degree_of, listing};
 
 // No count: the largest usize.
-const REFUSED: usize = 18446744073709551615;
+// Stays: a number and no Option, since another language calls these functions.
+const REFUSED: usize = usize::MAX;
 
 // Puts the keys of the tree of the points at the front of `keys`. Returns their number, or REFUSED where the points do not rise or there is
 // too little room.
@@ -31,7 +32,7 @@ pub extern "C" fn entry_build(xs: &[u16], ys: &[u16], keys: &mut [u64]) -> usize
     if keys.len() < n + 8 {
         return REFUSED;
     }
-    build(xs, ys, n, keys)
+    build(xs, ys, keys)
 }
 
 // Puts for each crossing the length of the tree of the points and the point there at the front of `out`. Returns the number of crossings, or
@@ -65,7 +66,7 @@ pub extern "C" fn entry_lengths(
 pub extern "C" fn entry_degree(keys: &[u64], i: usize) -> usize
     ensures { result ≡ degree key_graph i keys.now }
 {
-    degree_of(keys, keys.len(), i)
+    degree_of(keys, i)
 }
 
 // Puts the two numbers of each key as one code, least first, at the front of `out`. Returns their number, or REFUSED where there is too
@@ -77,5 +78,5 @@ pub extern "C" fn entry_listing(keys: &[u64], out: &mut [u64]) -> usize
     if out.len() < keys.len() {
         return REFUSED;
     }
-    listing(keys, keys.len(), out)
+    listing(keys, out)
 }

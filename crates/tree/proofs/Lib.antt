@@ -3,3 +3,4 @@ pub mod Numbers
 pub mod Size
 pub mod Sorted
 pub mod Total
+pub mod Taken

@@ -1,7 +1,7 @@
 -- For different points in any order, the total of the tree's keys is the length of the tree of the point set: each is a cover of
 -- the other's graph, so that neither is longer. With it, the length of the tree with one more point, whatever its number.
 use mathlib.Core.Path.{◌≡◌, refl, sym, ap, ◌∙◌, subst, subst⁻¹}
-use mathlib.Core.Logic.{◌⊎◌, ⊎_elim, ◌↔◌, dite}
+use mathlib.Core.Logic.{⊎_elim, ◌↔◌, dite}
 use mathlib.Core.List.Memᴰ.{cases_cons as cases}
 use mathlib.Core.List.Memᴰ.{head}
 use mathlib.Core.List.Memᴰ.{tail}
@@ -11,7 +11,7 @@ use Prim.Native.Nat.{ℕ, zero, suc, ◌≤◌, ◌<◌}
 use native.Mathlib.Decide.{ℕ_discrete, dec_lt}
 use native.Mathlib.Nat.{le_antisymm, le_trans}
 use native.Mathlib.Omega.{arith}
-use lib.Dec.{ltb, ltb→lt}
+use lib.Dec.{ltb→lt}
 use Rattle.spanning.specs.Graph.{Conn, In, total}
 use Rattle.arrays.specs.Order.{Sorted}
 use Rattle.spanning.specs.Kruskal.{kruskal}

@@ -1,78 +1,65 @@
 -- The words of a line by places: white space and words are passed one byte after the other, and what is passed is the next word.
 use mathlib.Core.Path.{◌≡◌, refl, sym, ap, ◌∙◌}
-use mathlib.Core.Bool.{Bool, true, false, not}
+use mathlib.Core.Bool.{Bool, true, false}
 use mathlib.Core.List.{List, [], ◌∷◌, ◌++◌, append_assoc, append-nil}
-use Prim.Native.Nat.{ℕ, suc, ◌+◌, ◌-◌, ◌≤◌, ◌<◌}
+use Prim.Native.Nat.{ℕ, suc, ◌+◌, ◌≤◌, ◌<◌}
 use native.Mathlib.Numerals.{add-one}
 use native.Mathlib.Omega.{arith}
-use native.Mathlib.Decide.{ℕ_discrete}
-use lib.Dec.{eqb}
-use lib.ListN.{length, take, drop, get_or, drop_of_length-le, length-drop}
-use lib.Seq.{drop-cons, drop-drop, length-take-le}
-use borrow.Author.Tests.{ne_eqb}
-use Rattle.words.specs.Words.{is_space, ended, split, words_of, spaces, letters, Next}
+use lib.ListN.{length, take, drop, get_or, length-drop}
+use lib.Seq.{drop-cons, length-take-le}
+use Rattle.std.proofs.lemmas.Bool.Decides.{nat_tests}
+use Rattle.std.proofs.Common.{cond, not, ltb, Some, None}
+use Rattle.std.proofs.lemmas.Str.Ascii.{trim_ascii_start_is}
+use Rattle.std.specs.Char.{is_ascii_whitespace}
+use Rattle.std.specs.List.{prefix_len, position_or_len}
+use Rattle.std.specs.Option.{unwrap_or}
+use Rattle.std.specs.Str.{IsTrimAsciiStart}
+use Rattle.arrays.specs.Test.{if}
+use Rattle.words.specs.Words.{is_space, ended, split, words_of, spaces, letters, without_spaces, Next}
 
--- White space by the tests of the code.
-pub space-outside : (b : ℕ) → ¬ (b ≡ 32) → (9 ≤ b → 13 < b) → false ≡ is_space b
+-- White space by the library's test, which has two ranges and one byte.
+pub space-is : (b : ℕ) → is_ascii_whitespace b ≡ is_space b
 unfolding is_space
-space-outside b n h =
-    sym (rw (
-      ne_eqb b 9 (other 9 (omega arith) (omega arith)),
-      ne_eqb b 10 (other 10 (omega arith) (omega arith)),
-      ne_eqb b 12 (other 12 (omega arith) (omega arith)),
-      ne_eqb b 13 (other 13 (omega arith) (omega arith)),
-      ne_eqb b 32 n,
-    ) refl)
-  where
-    other : (k : ℕ) → 9 ≤ k → k ≤ 13 → ¬ (b ≡ k)
-    other k p q e = omega (arith, h (omega arith))
-
-pub space-between : (b : ℕ) → 9 ≤ b → b ≤ 13 → not (eqb b 11) ≡ is_space b
-unfolding is_space
-space-between b h k = go (ℕ_discrete b 9) (ℕ_discrete b 10) (ℕ_discrete b 11) (ℕ_discrete b 12)
-  where
-    go : Dec (b ≡ 9) → Dec (b ≡ 10) → Dec (b ≡ 11) → Dec (b ≡ 12) → not (eqb b 11) ≡ is_space b
-    go (yes e) q r s = rw e refl
-    go (no p) (yes e) r s = rw e refl
-    go (no p) (no q) (yes e) s = rw e refl
-    go (no p) (no q) (no r) (yes e) = rw e refl
-    go (no p) (no q) (no r) (no s) = let e : b ≡ 13 = omega arith in rw e refl
+space-is b = grind (arith, nat_tests)
 
 -- What is left of a line at a place.
 pub here : (l : List ℕ) (i : ℕ) → i < length l → drop i l ≡ get_or l i 0 ∷ drop (i + 1) l
 here l i h = drop-cons l i 0 h ∙ ap (λ (j : ℕ). get_or l i 0 ∷ drop j l) (sym (add-one i))
 
--- White space is passed.
-module _ (line : List ℕ) (from i : ℕ) (inv : from + spaces (drop from line) ≡ i + spaces (drop i line)) where
-  pub spaces_on : i < length line → is_space (get_or line i 0) ≡ true → from + spaces (drop from line) ≡ i + 1 + spaces (drop (i + 1) line)
-  unfolding spaces
-  spaces_on h e =
-      let one : spaces (drop i line) ≡ suc (spaces (drop (i + 1) line)) = rw (here line i h, e) refl in
-      omega arith
+-- How many bytes a line begins with that are white space, and that are none, by the library's tests.
+spaces-are : (l : List ℕ) → prefix_len is_ascii_whitespace l ≡ spaces l
+unfolding spaces
+spaces-are [] = refl
+spaces-are (b ∷ l) = rw (space-is b, spaces-are l) (one (is_space b) (spaces l))
+  where
+    one : (t : Bool) (n : ℕ) → cond t (1 + n) 0 ≡ if t (λ _. suc n) (λ _. 0)
+    one true n = omega arith
+    one false n = refl
 
-  pub spaces-stop : i < length line → is_space (get_or line i 0) ≡ false → i ≡ from + spaces (drop from line)
-  unfolding spaces
-  spaces-stop h e = let one : spaces (drop i line) ≡ 0 = rw (here line i h, e) refl in omega arith
+letters-are : (l : List ℕ) → position_or_len is_ascii_whitespace l ≡ letters l
+unfolding letters
+letters-are [] = refl
+letters-are (b ∷ l) = rw (space-is b, letters-are l) (one (is_space b) (letters l))
+  where
+    one : (t : Bool) (n : ℕ) → cond (not t) (1 + n) 0 ≡ if t (λ _. 0) (λ _. suc n)
+    one true n = refl
+    one false n = omega arith
 
-  pub spaces_end : length line ≤ i → i ≡ from + spaces (drop from line)
-  unfolding spaces
-  spaces_end h = let one : spaces (drop i line) ≡ 0 = ap spaces (drop_of_length-le line {i = i} h) in omega arith
+pub letters_most : (l : List ℕ) → letters l ≤ length l
+unfolding letters
+letters_most [] = omega arith
+letters_most (b ∷ l) = most (is_space b) (letters_most l)
+  where
+    most : (t : Bool) → letters l ≤ length l → if t (λ _. 0) (λ _. suc (letters l)) ≤ suc (length l)
+    most true h = omega arith
+    most false h = omega arith
 
--- A word is passed.
-module _ (line : List ℕ) (from i : ℕ) (inv : from + letters (drop from line) ≡ i + letters (drop i line)) where
-  pub letters_on : i < length line → is_space (get_or line i 0) ≡ false → from + letters (drop from line) ≡ i + 1 + letters (drop (i + 1) line)
-  unfolding letters
-  letters_on h e =
-      let one : letters (drop i line) ≡ suc (letters (drop (i + 1) line)) = rw (here line i h, e) refl in
-      omega arith
-
-  pub letters-stop : i < length line → is_space (get_or line i 0) ≡ true → i ≡ from + letters (drop from line)
-  unfolding letters
-  letters-stop h e = let one : letters (drop i line) ≡ 0 = rw (here line i h, e) refl in omega arith
-
-  pub letters_end : length line ≤ i → i ≡ from + letters (drop from line)
-  unfolding letters
-  letters_end h = let one : letters (drop i line) ≡ 0 = ap letters (drop_of_length-le line {i = i} h) in omega arith
+pub letters_found : (l : List ℕ)
+    → unwrap_or (cond (ltb (position_or_len is_ascii_whitespace l) (length l)) (Some (position_or_len is_ascii_whitespace l)) None) (length l) ≡ letters l
+letters_found l = rw letters-are (found (letters l) (length l) (letters_most l))
+  where
+    found : (p n : ℕ) → p ≤ n → unwrap_or (cond (ltb p n) (Some p) None) n ≡ p
+    found p n h = grind (arith, nat_tests)
 
 -- The words of a line are those without the white space that it begins with.
 without-spaces : (l : List ℕ) → split [] l ≡ split [] (drop (spaces l) l)
@@ -111,36 +98,27 @@ word_some : (w : List ℕ) (ws : List (List ℕ)) → 0 < length w → ended w w
 word_some [] ws h = absurd (omega arith)
 word_some (b ∷ w) ws h = refl
 
--- The place past white space and the place past the word there show the next word.
-module _ (line : List ℕ) (from start end : ℕ) (a : start ≡ from + spaces (drop from line)) (b : end ≡ start + letters (drop start line))
-    (fits : end ≤ length line) where
-  begun : drop (spaces (drop from line)) (drop from line) ≡ drop start line
-  begun = drop-drop (spaces (drop from line)) from line ∙ ap (λ (n : ℕ). drop n line) (sym a)
+-- What is left of a line without the white space that it begins with is at its end, or begins with a word.
+module _ (line from : List ℕ) (trimmed : IsTrimAsciiStart line from) where
+  from_is : from ≡ without_spaces line
+  from_is = trim_ascii_start_is line from trimmed ∙ ap (λ (n : ℕ). drop n line) (spaces-are line)
 
-  words_here : words_of (drop from line) ≡ words_of (drop start line)
-  words_here = without-spaces (drop from line) ∙ ap words_of begun
-
-  long : length (take (letters (drop start line)) (drop start line)) ≡ letters (drop start line)
-  long = length-take-le (letters (drop start line)) (drop start line) (omega (arith, length-drop start line))
-
-  over : start ≡ end → drop start line ≡ []
-  over e = sym begun ∙ begins (drop from line) (ap letters begun ∙ (omega arith))
-
-  pub next_word : Next line from start end
+  pub next_none : letters from ≡ 0 → words_of line ≡ []
   unfolding split
-  next_word = record {
-    follows = omega arith;
-    rises = omega arith;
-    fits = fits;
-    none = λ e. words_here ∙ ap words_of (over e);
-    done = λ e. ap (λ (n : ℕ). drop n line) (sym e) ∙ over e;
-    some = λ h. words_here ∙ with_letters [] (drop start line)
-        ∙ word_some (take (letters (drop start line)) (drop start line)) _ (omega (arith, long))
-        ∙ (λ i. take (places i) (drop start line) ∷ words_of (rest i));
+  next_none e = without-spaces line ∙ ap words_of (begins line (ap letters (sym from_is) ∙ e))
+
+  pub next_some : (n : ℕ) → n ≡ letters from → ¬ (n ≡ 0) → {word rest : List ℕ} → word ≡ take n from → rest ≡ drop n from → Next line word rest
+  next_some n e some {word} {rest} front back = record {
+    word_is = first ∙ ap (λ (l : List ℕ). take (letters l) l) from_is;
+    rest_is = behind ∙ ap (λ (l : List ℕ). drop (letters l) l) from_is;
+    words = without-spaces line ∙ ap words_of (sym from_is) ∙ with_letters [] from
+        ∙ word_some (take (letters from) from) _ (omega (arith, length-take-le (letters from) from (letters_most from)))
+        ∙ (λ i. sym first i ∷ words_of (sym behind i));
+    shorter = omega (arith, ap length behind, length-drop (letters from) from, ap length from_is, length-drop (spaces line) line, letters_most from);
   }
     where
-      places : letters (drop start line) ≡ end - start
-      places = omega arith
+      first : word ≡ take (letters from) from
+      first = front ∙ ap (λ (k : ℕ). take k from) e
 
-      rest : drop (letters (drop start line)) (drop start line) ≡ drop end line
-      rest = drop-drop (letters (drop start line)) start line ∙ ap (λ (n : ℕ). drop n line) (sym b)
+      behind : rest ≡ drop (letters from) from
+      behind = back ∙ ap (λ (k : ℕ). drop k from) e

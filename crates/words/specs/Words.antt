@@ -1,5 +1,5 @@
 -- The words of a line (SPEC 9.3): what stands between white space.
-use Rattle.std.specs.Prelude.{◌≡◌, Bool, ◌||◌, List, [], ◌∷◌, ◌++◌, ℕ, suc, ◌-◌, ◌≤◌, eqb, length, take, drop}
+use Rattle.std.specs.Prelude.{◌≡◌, Bool, ◌||◌, List, [], ◌∷◌, ◌++◌, ℕ, suc, ◌<◌, eqb, length, take, drop}
 use Rattle.arrays.specs.Test.{if}
 use Rattle.arrays.specs.Text.{byte}
 
@@ -31,12 +31,13 @@ unfoldable pub letters : List ℕ → ℕ
 letters [] = 0
 letters (b ∷ l) = if (is_space b) (λ _. 0) (λ _. suc (letters l))
 
--- The first word of a line from the place `from` on stands from `start` up to `end`. These are the same where there is none, and
--- are then the end of the line.
-pub record Next (line : List ℕ) (from start end : ℕ) : Type 0 where
-  pub follows : from ≤ start
-  pub rises : start ≤ end
-  pub fits : end ≤ length line
-  pub none : start ≡ end → words_of (drop from line) ≡ []
-  pub done : start ≡ end → drop end line ≡ []
-  pub some : ¬ (start ≡ end) → words_of (drop from line) ≡ take (end - start) (drop start line) ∷ words_of (drop end line)
+-- A line without the white space that it begins with.
+abbrev pub without_spaces : List ℕ → List ℕ
+without_spaces l = drop (spaces l) l
+
+-- The first word of a line, and the rest behind it: where they stand, and that the words of the line are this one and those of the rest.
+pub record Next (line word rest : List ℕ) : Type 0 where
+  pub word_is : word ≡ take (letters (without_spaces line)) (without_spaces line)
+  pub rest_is : rest ≡ drop (letters (without_spaces line)) (without_spaces line)
+  pub words : words_of line ≡ word ∷ words_of rest
+  pub shorter : length rest < length line

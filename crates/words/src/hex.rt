@@ -1,18 +1,18 @@
 // Bytes as pairs of hexadecimal digits.
-ghost use Rattle.std.specs.Prelude.{◌≡◌, true, ◌≤◌, length, take};
+ghost use Rattle.std.specs.Prelude.{◌≡◌, true, ◌≤◌, ◌<◌, length, take, MatchOption};
 ghost use Rattle.arrays.specs.Paste.{Pasted};
 ghost use Rattle.words.specs.Hex.{digit_of, is_hex, pairs};
 
-// The value of a hexadecimal digit, 16 where a byte is none.
-fn digit(b: u8) -> u8
-    ensures value { result ≡ digit_of b }
-    ensures upper_bound { result ≤ 16 }
+// The value of a hexadecimal digit, if a byte is one.
+#[tactic(auto, using(std::proofs::lemmas::Bool::Decides::nat_tests), unfolding(crate::specs::Hex::digit_of))]
+fn digit(b: u8) -> Option<u8>
+    ensures { MatchOption result (digit_of b ≡ 16) (λ d. (d ≡ digit_of b) × (d < 16)) }
 {
     match b {
-        b'0'..=b'9' => b - b'0',
-        b'A'..=b'F' => b - b'A' + 10,
-        b'a'..=b'f' => b - b'a' + 10,
-        _ => 16,
+        b'0'..=b'9' => Some(b - b'0'),
+        b'A'..=b'F' => Some(b - b'A' + 10),
+        b'a'..=b'f' => Some(b - b'a' + 10),
+        _ => None,
     }
 }
 
@@ -20,21 +20,7 @@ fn digit(b: u8) -> u8
 pub fn is_hex(word: &[u8]) -> bool
     ensures { result ≡ is_hex word.now }
 {
-    let mut i = 0;
-    while i < word.len() {
-        let j = i + 1;
-        if word.len() <= j {
-            return false;
-        }
-        if digit(word[i]) == 16 {
-            return false;
-        }
-        if digit(word[j]) == 16 {
-            return false;
-        }
-        i = j + 1;
-    }
-    true
+    word.len() % 2 == 0 && word.iter().all(|b| b.is_ascii_hexdigit())
 }
 
 // Writes the bytes of pairs of hexadecimal digits to the front of `out`, as many as it holds, and returns how many.
@@ -42,17 +28,11 @@ pub fn decode(word: &[u8], out: &mut [u8]) -> usize
     requires { is_hex word.now ≡ true }
     ensures { Pasted (take (length out.old) (pairs word.now)) out.old out.new 0 result }
 {
-    let mut i = 0;
-    let mut k = 0;
-    while k < out.len() {
-        if word.len() <= i {
-            return k;
-        }
-        let high = digit(word[i]);
-        let low = digit(word[i + 1]);
+    let count = out.len().min(word.len() / 2);
+    for k in 0..count {
+        let high = digit(word[2 * k]).unwrap();
+        let low = digit(word[2 * k + 1]).unwrap();
         out[k] = 16 * high + low;
-        i += 2;
-        k += 1;
     }
-    k
+    count
 }

@@ -3,70 +3,25 @@
 
 pub mod hex;
 
-ghost use Rattle.std.specs.Prelude.{◌≡◌, ◌+◌, ◌≤◌, length, drop};
-ghost use Rattle.words.specs.Words.{is_space, spaces, letters, Next};
+ghost use Rattle.std.specs.Prelude.{◌≡◌, [], MatchOption};
+ghost use Rattle.words.specs.Words.{words_of, letters, Next};
 
-// A word: from the place `start` of its line up to the place `end`, which is not its own.
-#[derive(Clone, Copy)]
-pub struct Span {
-    pub start: usize,
-    pub end: usize,
+// How many bytes of a line stand before its first white space.
+fn word_length(line: &[u8]) -> usize
+    ensures { result ≡ letters line.now }
+{
+    line.iter()
+        .position(|b| b.is_ascii_whitespace())
+        .unwrap_or(line.len())
 }
 
-// Whether a byte is white space.
-fn is_space(b: u8) -> bool
-    ensures { result ≡ is_space b }
+// Returns the first word of a line and what stands behind it, if there is a word.
+pub fn next(line: &[u8]) -> Option<(&[u8], &[u8])>
+    ensures { MatchOption result (words_of line.now ≡ []) (λ r. Next line.now r.0.now r.1.now) }
 {
-    if b == b' ' {
-        return true;
+    let from_word = line.trim_ascii_start();
+    match word_length(from_word) {
+        0 => None,
+        length => Some(from_word.split_at(length)),
     }
-    if b < 9 {
-        return false;
-    }
-    if 13 < b {
-        return false;
-    }
-    b != 11
-}
-
-// The first place from `from` on that holds no white space.
-fn skip(line: &[u8], from: usize) -> usize
-    requires { from ≤ length line.now }
-    ensures value { result ≡ from + spaces (drop from line.now) }
-    ensures upper_bound { result ≤ length line.now }
-{
-    let mut i = from;
-    while i < line.len() {
-        if !is_space(line[i]) {
-            return i;
-        }
-        i += 1;
-    }
-    i
-}
-
-// The first place from `from` on that holds white space, or the end.
-fn past(line: &[u8], from: usize) -> usize
-    requires { from ≤ length line.now }
-    ensures value { result ≡ from + letters (drop from line.now) }
-    ensures upper_bound { result ≤ length line.now }
-{
-    let mut i = from;
-    while i < line.len() {
-        if is_space(line[i]) {
-            return i;
-        }
-        i += 1;
-    }
-    i
-}
-
-// Returns where the first word from `from` on stands; an empty one where there is none.
-pub fn next(line: &[u8], from: usize) -> Span
-    requires { from ≤ length line.now }
-    ensures { Next line.now from result.start result.end }
-{
-    let start = skip(line, from);
-    let end = past(line, start);
-    Span { start, end }
 }

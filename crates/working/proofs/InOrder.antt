@@ -1,14 +1,14 @@
 -- From arranged codes to a working form in order: the codes merged are the points of the state, their coordinates rise, and the
 -- keys built are those of the tree.
 use mathlib.Core.Path.{◌≡◌, sym, ap, ap₂, ◌∙◌, subst, subst⁻¹}
-use mathlib.Core.Logic.{◌⊎◌, ⊎_elim}
+use mathlib.Core.Logic.{⊎_elim}
 use mathlib.Core.Bool.{true}
 use mathlib.Core.List.{List, map, Memᴰ}
 use Prim.Native.Nat.{ℕ, ◌+◌, ◌≤◌, ◌<◌}
 use native.Mathlib.Omega.{arith}
 use lib.Dec.{T, ltb, lt→ltb}
 use lib.ListN.{length, take, get_or, length-map, get_or-map}
-use lib.Seq.{ext_get_or, get_or-take}
+use lib.Seq.{ext_get_or}
 use Rattle.arrays.specs.Order.{Sorted}
 use Rattle.plane.specs.Point.{Point, in_range, lower, Lower}
 use Rattle.arrays.proofs.Order.{nat_order}
@@ -31,7 +31,8 @@ use Rattle.points.specs.declared.Points.{Points}
 use Rattle.points.specs.Coded.{Arranged, state_of}
 use Rattle.points.proofs.Codes.{codes-sorted, codes_full}
 use Rattle.working.specs.declared.Working.{Working}
-use Rattle.working.specs.InOrder.{all_codes, InOrder}
+use Rattle.working.specs.Held.{all_codes, HeldInOrder}
+use Rattle.working.specs.InOrder.{InOrder}
 use Rattle.working.specs.InOrder as work
 use Rattle.plane.proofs.codes.Points.{AllCodes, code-point, code-order, code-in_range}
 use Rattle.plane.proofs.codes.Sets.{points-union, points-rising, points_has}
@@ -90,18 +91,15 @@ module _ (q : Points) (a : Arranged q) where
 
   -- Codes merged and unpacked.
   module _ (codes₀ codes xs ys : List ℕ) (n : ℕ) (w : Pasted all codes₀ codes 0 n)
-      (u : (i : ℕ) → i < n → held xs ys i ≡ point_of (get_or codes i 0)) where
+      (u : (i : ℕ) → i < length (take n codes) → held xs ys i ≡ point_of (get_or (take n codes) i 0)) where
     merged : take n codes ≡ all
     merged = front-take w
 
     count_is : n ≡ length all
     count_is = front-count w
 
-    get_is : (i : ℕ) → i < n → get_or codes i 0 ≡ get_or all i 0
-    get_is i h = sym (get_or-take n codes i 0 h) ∙ ap (λ (l : List ℕ). get_or l i 0) merged
-
     held_is : (i : ℕ) → i < n → held xs ys i ≡ point_of (get_or all i 0)
-    held_is i h = u i h ∙ ap point_of (get_is i h)
+    held_is i h = u i (omega (arith, h, ap length merged, count_is)) ∙ ap (λ (l : List ℕ). point_of (get_or l i 0)) merged
 
     code_at : (i : ℕ) → i < n → T (is_code (get_or all i 0))
     code_at i h = all_codes_lem (get_or all i 0) (get_in all i (omega (arith, count_is)))
@@ -126,7 +124,7 @@ module _ (q : Points) (a : Arranged q) where
         record { in_xs = hx; in_ys = hy; few = omega (arith, few); fits = omega (arith, few); rises = held-rises }
 
     pub order_of : (keys₀ keys : List ℕ) (m : ℕ) → Pasted (tree_keys (held xs ys) n) keys₀ keys 0 m
-        → InOrder (record { points = q; codes = codes; xs = xs; ys = ys; npoints = n; keys = keys; nkeys = m })
+        → HeldInOrder q codes xs ys n keys m
     order_of keys₀ keys m f =
         record {
           arranged = a;
@@ -141,7 +139,7 @@ module _ (q : Points) (a : Arranged q) where
         }
 
 -- In a working form in order a code is held exactly if its point is.
-pub held_has : (w : Working) → InOrder w → (k : ℕ) → T (is_code k) → has ltb k (take w.npoints w.codes) ≡ has lower (point_of k) (points (work.state_of w))
-held_has w p k t =
-    ap (has ltb k) p.codes ∙ points_has k t _ (all_codes_lem w.points p.arranged)
-    ∙ ap (has lower (point_of k)) (all_points w.points p.arranged)
+pub held_has : (w : Working) (k : ℕ) → T (is_code k) → has ltb k (take w.npoints w.codes) ≡ has lower (point_of k) (points (work.state_of w))
+held_has w k t =
+    ap (has ltb k) w.in_order.codes ∙ points_has k t _ (all_codes_lem w.points w.in_order.arranged)
+    ∙ ap (has lower (point_of k)) (all_points w.points w.in_order.arranged)

@@ -23,7 +23,7 @@ use Rattle.points.specs.Coded.{places}
 use Rattle.points.proofs.Codes.{padded-take}
 use Rattle.points.proofs.Coded.{pins-count, steiner_count_lem}
 use Rattle.working.specs.declared.Working.{Working}
-use Rattle.working.specs.InOrder.{InOrder, state_of}
+use Rattle.working.specs.InOrder.{state_of}
 use Rattle.edges.specs.Edges.{edge_numbers, edge_row}
 use Rattle.edges.proofs.Numbers.{listed-length}
 use Rattle.arrays.specs.Paste.{each}
@@ -58,22 +58,22 @@ section-edges s v =
     (λ e i. (mst-run-tree (points s) (points-rise s v.placed.steiner_rise)).tree.ends e ((set_of_in listed_before listed-order (tree_of s) e).0 i))
 
 -- The edges of a working form.
-module _ (w : Working) (p : InOrder w) (v : Valid (state_of w)) where
+module _ (w : Working) (v : Valid (state_of w)) where
   pub count_is : w.nkeys ≡ w.points.npins + w.points.nsteiner - 1
   count_is =
       omega (
         arith,
-        listed-length w p,
+        listed-length w,
         edge_count_lem (state_of w) v,
-        pins-count w.points p.arranged,
-        steiner_count_lem w.points p.arranged,
+        pins-count w.points w.in_order.arranged,
+        steiner_count_lem w.points w.in_order.arranged,
       )
 
   pub edges_are : edge_bytes (take w.nkeys (edge_row (state_of w))) ≡ run_section (state_of w)
   edges_are =
       ap edge_bytes (padded-take places (edge_numbers (state_of w)) w.nkeys
-      (length-map (listed (state_of w)) (ends_at (points (state_of w))) ∙ listed-length w p))
+      (length-map (listed (state_of w)) (ends_at (points (state_of w))) ∙ listed-length w))
       ∙ section-edges (state_of w) v
 
   pub edges-long : length (run_section (state_of w)) ≡ 2 * w.nkeys
-  edges-long = omega (arith, runs-length (points (state_of w)) (listed (state_of w)), listed-length w p)
+  edges-long = omega (arith, runs-length (points (state_of w)) (listed (state_of w)), listed-length w)

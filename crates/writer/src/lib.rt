@@ -4,7 +4,6 @@
 ghost use Rattle.std.specs.Prelude.{◌≡◌, ◌≤◌, length};
 ghost use Rattle.model.specs.Contents.{ValidContents};
 ghost use Rattle.model.specs.File.{file_of};
-ghost use Rattle.working.specs.InOrder.{InOrder};
 ghost use Rattle.working.specs.WorkingDeck.{contents_of};
 ghost use Rattle.arrays.specs.Paste.{Pasted};
 
@@ -15,7 +14,6 @@ use working::deck::WorkingDeck;
 
 // Returns how many bytes the file has.
 pub fn file_length(w: WorkingDeck) -> usize
-    requires in_order { InOrder w.form }
     requires valid_contents { ValidContents (contents_of w) }
     ensures { result ≡ length (file_of (contents_of w)) }
 {
@@ -24,24 +22,18 @@ pub fn file_length(w: WorkingDeck) -> usize
 
 // Puts the file into a buffer that has room for it, and returns its length.
 pub fn put_file(w: WorkingDeck, out: &mut [u8]) -> usize
-    requires in_order { InOrder w.form }
     requires valid_contents { ValidContents (contents_of w) }
     requires w_in_bounds { length (file_of (contents_of w)) ≤ length out.old }
     ensures { Pasted (file_of (contents_of w)) out.old out.new 0 result }
 {
-    let bare = is_bare(w);
     let ends = edge_numbers(w.form);
-    let pins = w.form.points.pins;
-    let steiner = w.form.points.steiner;
-    let kinds = w.kinds;
+    let q = w.form.points;
     put_parts(
-        &pins,
-        w.form.points.npins,
-        &steiner,
-        w.form.points.nsteiner,
-        &ends,
-        &kinds,
-        bare,
+        &q.pins[..q.npins],
+        &q.steiner[..q.nsteiner],
+        &ends[..w.form.nkeys],
+        &w.kinds[..q.npins],
+        is_bare(w),
         out,
     )
 }

@@ -3,16 +3,10 @@ use mathlib.Core.Path.{ap, ◌∙◌}
 use Rattle.script.proofs.FileSize.{read_fits}
 use Rattle.deckfile.specs.Reading.{reading}
 use Rattle.answer.specs.Play.{changes}
-use Rattle.arrays.proofs.paste.Parts.{front-within}
 use Rattle.answer.proofs.Texts.{plays_same, filled-file}
 use Rattle.answer.proofs.read.Goals as goal
 
-pub slice_bounds-file-end : goal.slice_bounds-file-end
-slice_bounds-file-end c = (front-within c.bytes_of-n.ensures).0
-
-pub slice_bounds-read-end : goal.slice_bounds-read-end
-slice_bounds-read-end c = (front-within c.bytes_of-n.ensures).1
-
 pub returns : goal.returns
-returns c = let f = filled-file _ _ _ c.bytes_of-n.ensures (read_fits _ c.requires.line_value) in
+returns c =
+    let f = filled-file _ _ _ c.bytes_of-n.ensures (read_fits _ c.requires.line_value) in
     plays_same _ _ _ _ _ (ap changes (c.read.ensures ∙ ap reading f)) c.changed.ensures

@@ -1,29 +1,26 @@
--- `arguments::arguments_of` meets its contract. The invariant: the numbers asked for are those so far and those of the words from `at`
--- on. The measure: how many bytes are left.
-use mathlib.Core.Path.{sym}
-use Prim.Native.Nat.{◌-◌}
-use native.Mathlib.Omega.{arith}
-use Rattle.arguments.proofs.Numbers.{arguments_are, numbers_none, numbers_more, numbers_end}
+-- `arguments::arguments_of` meets its contract. The invariant: the numbers asked for are those so far and those of the words of what is left.
+-- The measure: how many bytes are left.
+use mathlib.Core.Path.{◌∙◌}
+use borrow.Author.Rules.{rules}
+use Rattle.arrays.proofs.Signed.{read_one}
+use Rattle.arguments.specs.Arguments.{appended}
+use Rattle.arguments.proofs.Numbers.{arguments_are, numbers_none, numbers_full, numbers_more, numbers_end}
 use Rattle.arguments.proofs.arguments_of.Goals as goal
 
-pub loop-at-init : goal.loop-at-init
-loop-at-init c = sym (arguments_are _)
+pub loop-word-init : goal.loop-word-init
+loop-word-init c = arguments_are _
 
-pub next-w-requires : goal.next-w-requires
-next-w-requires c = omega (arith, c.loop-at-test.true)
+pub returns-in_err-number_of : goal.returns-in_err-number_of
+returns-in_err-number_of c = c.from_residual.ensures ∙ numbers_none _ _ c.loop-word.invariant c.in-Some.ensures c.in_err-number_of.ensures
 
-pub returns-then-start-end : goal.returns-then-start-end
-returns-then-start-end c = let l = c.loop-at in
-    numbers_none _ _ _ l.invariant _ _ c.next-w.ensures c.if-start-end.true
+pub returns-in_err-numbers : goal.returns-in_err-numbers
+returns-in_err-numbers c = c.from_residual-in_err-numbers.ensures
+    ∙ numbers_full _ _ c.loop-word.invariant c.in-Some.ensures _ c.in_ok-number_of.ensures
+    (c.in_err-numbers.ensures ∙ read_one (appended c.loop-word.numbers) (search rules))
 
-pub loop-at-smaller : goal.loop-at-smaller
-loop-at-smaller c = let n = c.next-w.ensures in
-    omega (arith, n.follows, n.rises, n.fits, c.if-start-end.false)
-
-pub loop-at-preserved : goal.loop-at-preserved
-loop-at-preserved c = let l = c.loop-at in
-    let n = c.next-w.ensures in
-    numbers_more _ _ _ l.invariant _ _ n c.if-start-end.false _ c.with_word-a.ensures
+pub loop-word-preserved : goal.loop-word-preserved
+loop-word-preserved c = numbers_more _ _ c.loop-word.invariant c.in-Some.ensures _ c.in_ok-number_of.ensures _
+    (c.in_ok-numbers.ensures ∙ read_one (appended c.loop-word.numbers) (search rules))
 
 pub returns : goal.returns
-returns c = numbers_end _ _ _ c.loop-at.invariant c.loop-at-test.false
+returns c = numbers_end _ _ c.loop-word.invariant c.in_default.ensures

@@ -1,47 +1,35 @@
--- Items put over a part of an array: nothing, one item, a few stores, one part behind another, what a caller reads afterwards, and a
+-- Items put over a part of an array: nothing, one item, one part behind another, what a caller reads afterwards, and a
 -- part at the front. By the seams of the lists.
 use mathlib.Core.Path.{◌≡◌, refl, sym, ap, ap₂, ◌∙◌, subst}
 use mathlib.Core.List.{List, [], ◌∷◌, ◌++◌, append_assoc}
-use Prim.Native.Nat.{ℕ, suc, ◌+◌, ◌-◌, ◌≤◌, ◌<◌}
+use Prim.Native.Nat.{ℕ, ◌+◌, ◌-◌, ◌≤◌, ◌<◌}
 use native.Mathlib.Nat.{zero-add}
-use native.Mathlib.Numerals.{add-one}
 use native.Mathlib.Omega.{arith}
 use lib.ListN.{length, take, drop, set, length-append, length-drop, take-append-drop}
 use lib.Seq.{paste-zero, sets-eq, length-take-le, take-length, take_all, take_at, drop_at, drop-drop, drop-append-add}
 use Rattle.arrays.specs.Paste.{Pasted}
 
 -- The array as three parts.
-pub pasted_parts : {items before after : List ℕ} {at r : ℕ} → Pasted items before after at r
+pub pasted_parts : {A : Type 0} {items before after : List A} {at r : ℕ} → Pasted items before after at r
     → after ≡ (take at before ++ items) ++ drop (at + length items) before
-pasted_parts {items} {before} {after} {at} p =
-    p.is ∙ ap (λ (s : List ℕ). (take at before ++ s) ++ drop (at + length items) before) (take-length items)
+pasted_parts {A} {items} {before} {after} {at} p =
+    p.is ∙ ap (λ (s : List A). (take at before ++ s) ++ drop (at + length items) before) (take-length items)
 
-pub pasted_of : {items before after : List ℕ} {at r : ℕ} → r ≡ at + length items
+pub pasted_of : {A : Type 0} {items before after : List A} {at r : ℕ} → r ≡ at + length items
     → after ≡ (take at before ++ items) ++ drop (at + length items) before → Pasted items before after at r
-pasted_of {items} {before} {after} {at} n e =
-    record { next = n; is = e ∙ ap (λ (s : List ℕ). (take at before ++ s) ++ drop (at + length items) before) (sym (take-length items)) }
+pasted_of {A} {items} {before} {after} {at} n e =
+    record { next = n; is = e ∙ ap (λ (s : List A). (take at before ++ s) ++ drop (at + length items) before) (sym (take-length items)) }
 
 -- The same items by another name.
 pub pasted_same : {a b l m : List ℕ} {at r : ℕ} → a ≡ b → Pasted a l m at r → Pasted b l m at r
 pasted_same {a} {b} {l} {m} {at} {r} e p = subst (λ (z : List ℕ). Pasted z l m at r) e p
 
--- Nothing, one item, and a few stores in turn.
+-- Nothing, and one item.
 pub pasted_none : (l : List ℕ) (at : ℕ) → Pasted [] l l at (at + 0)
 pasted_none l at = record { next = refl; is = paste-zero l at [] }
 
 pub pasted_one : (l : List ℕ) (at b : ℕ) → at < length l → Pasted (b ∷ []) l (set l at b) at (at + 1)
 pasted_one l at b h = pasted_of refl (sets-eq (b ∷ []) l at (omega arith))
-
-pub pasted_two : (l : List ℕ) (at a b : ℕ) → at + 2 ≤ length l → Pasted (a ∷ b ∷ []) l (set (set l at a) (at + 1) b) at (at + 2)
-pasted_two l at a b h = pasted_of refl (ap (λ (z : ℕ). set (set l at a) z b) (add-one at) ∙ sets-eq (a ∷ b ∷ []) l at h)
-
-pub pasted_four : (l : List ℕ) (at a b c d : ℕ) → at + 4 ≤ length l
-    → Pasted (a ∷ b ∷ c ∷ d ∷ []) l (set (set (set (set l at a) (at + 1) b) (at + 2) c) (at + 3) d) at (at + 4)
-pasted_four l at a b c d h =
-    let e₁ : at + 1 ≡ suc at = omega arith in
-    let e₂ : at + 2 ≡ suc (suc at) = omega arith in
-    let e₃ : at + 3 ≡ suc (suc (suc at)) = omega arith in
-    pasted_of refl ((λ i. set (set (set (set l at a) (e₁ i) b) (e₂ i) c) (e₃ i) d) ∙ sets-eq (a ∷ b ∷ c ∷ d ∷ []) l at h)
 
 module _ {a l m : List ℕ} {at r : ℕ} (p : Pasted a l m at r) (fits : r ≤ length l) where
   front : length (take at l ++ a) ≡ r
@@ -75,7 +63,7 @@ module _ {a l m : List ℕ} {at r : ℕ} (p : Pasted a l m at r) (fits : r ≤ l
       ∙ ap (λ (x : List ℕ). x ++ drop (at + length (a ++ b)) l) (append_assoc (take at l) a b))
 
 -- At the front.
-module _ {items before after : List ℕ} {r : ℕ} where
+module _ {A : Type 0} {items before after : List A} {r : ℕ} where
   pub front_of : r ≡ length items → after ≡ items ++ drop (length items) before → Pasted items before after 0 r
   front_of n e = pasted_of (n ∙ sym (zero-add (length items))) (e ∙ ap (λ (k : ℕ). items ++ drop k before) (sym (zero-add (length items))))
 

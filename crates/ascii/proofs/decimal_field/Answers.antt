@@ -3,5 +3,5 @@ use native.Mathlib.Omega.{arith}
 use Rattle.arrays.proofs.paste.Parts.{pasted_then}
 use Rattle.ascii.proofs.decimal_field.Goals as goal
 
-pub returns : goal.returns
-returns c = record { pasted = pasted_then c.put_byte-next.ensures (omega arith) c.decimal.ensures.pasted; upper_bound = omega arith }
+pub returns-clause-pasted : goal.returns-clause-pasted
+returns-clause-pasted c = pasted_then c.put_byte-next.ensures (omega arith) c.decimal.ensures.pasted

@@ -4,5 +4,5 @@ use Rattle.arrays.proofs.paste.Parts.{pasted_then}
 use Rattle.ascii.proofs.refused_line.Goals as goal
 
 pub returns : goal.returns
-returns c = pasted_then c.put_bytes-a.ensures (omega arith)
+returns c = pasted_then c.put_items-a.ensures (omega arith)
     (pasted_then c.decimal_field-b.ensures.pasted (omega arith) c.put_byte.ensures)

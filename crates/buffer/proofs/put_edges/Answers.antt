@@ -1,18 +1,12 @@
 -- `buffer::put_edges` meets its contract. The invariant: those passed are put.
 use native.Mathlib.Omega.{arith}
-use Rattle.arrays.proofs.paste.Lines.{each-first_none, each-first_more, each-first_end}
+use Rattle.arrays.proofs.paste.Lines.{each-first_none, each-first_more}
 use Rattle.sections.specs.Bytes.{ends_bytes}
 use Rattle.buffer.proofs.put_edges.Goals as goal
 
-pub loop-i-init : goal.loop-i-init
-loop-i-init c = each-first_none ends_bytes 2 _ _ _ _
+pub loop-edge-init : goal.loop-edge-init
+loop-edge-init c = each-first_none ends_bytes 2 _ _ _ _
 
-pub loop-i-preserved : goal.loop-i-preserved
-loop-i-preserved c = each-first_more ends_bytes 2 _ _ _ _ c.loop-i.invariant c.loop-i-test.true c.requires.0 (omega arith)
+pub loop-edge-preserved : goal.loop-edge-preserved
+loop-edge-preserved c = each-first_more ends_bytes 2 _ _ _ _ c.loop-edge.invariant (omega arith) (omega arith) (omega arith)
     c.put_edge-next.ensures (omega (arith, c.put_edge-next.ensures.next)) c.put_edge-next.auto.out
-
-pub shape_of-out : goal.shape_of-out
-shape_of-out c = c.loop-i.invariant.same
-
-pub returns : goal.returns
-returns c = each-first_end ends_bytes 2 _ _ _ _ c.loop-i.invariant c.loop-i-test.false

@@ -10,6 +10,6 @@ pub returns : goal.returns
 unfolding header
 returns c =
     let first = ap (λ (z : ℕ). pairs_from z c.args.sizes.now) c.header_size.ensures in
-    pasted_then c.put_bytes-count.ensures (omega (arith, c.requires.sizes_in_bounds))
-    (pasted_then c.put2-first.ensures (omega (arith, c.requires.sizes_in_bounds, c.put_bytes-count.auto.out))
+    pasted_then c.put_items-count.ensures (omega (arith, c.requires.sizes_in_bounds))
+    (pasted_then c.put2-first.ensures (omega (arith, c.requires.sizes_in_bounds, c.put_items-count.auto.out))
     (pasted_same first c.put_pairs.ensures))

@@ -7,13 +7,13 @@ use Rattle.calls.proofs.PointCalls.{refused_is, by_point, add-out}
 use Rattle.calls.proofs.add.Goals as goal
 
 pub add_at-requires : goal.add_at-requires
-add_at-requires c = let there = read-located _ _ _ c.ranges.x c.ranges.y c.locate.ensures ∙ c.in-At.is in
-    record { in_order = c.requires.in_order; t = (located_is _ _ there).1; valid_contents = c.requires.valid_contents }
+add_at-requires c = let there = read-located _ _ _ c.ranges.x c.ranges.y c.locate.ensures ∙ c.in-Some.is in
+    record { t = (located_is _ _ there).1; valid_contents = c.requires.valid_contents }
 
-pub returns-in-OutOfRange : goal.returns-in-OutOfRange
-returns-in-OutOfRange c = let out = read-located _ _ _ c.ranges.x c.ranges.y c.locate.ensures ∙ c.in-OutOfRange.is in
-    refused_is _ c.requires.in_order _ 7 (add-out _ _ _ (out-located _ out)) _ c.refuse.ensures
+pub returns-in-None : goal.returns-in-None
+returns-in-None c = let out = read-located _ _ _ c.ranges.x c.ranges.y c.locate.ensures ∙ c.in-None.is in
+    refused_is c.args.d _ 7 (add-out _ _ _ (out-located _ out)) _ c.refuse.ensures
 
-pub returns-in-At : goal.returns-in-At
-returns-in-At c = let there = read-located _ _ _ c.ranges.x c.ranges.y c.locate.ensures ∙ c.in-At.is in
+pub returns-in-Some : goal.returns-in-Some
+returns-in-Some c = let there = read-located _ _ _ c.ranges.x c.ranges.y c.locate.ensures ∙ c.in-Some.is in
     by_point _ (λ (p : Point). call.add p c.args.kind) _ _ (located_is _ _ there).0 _ c.add_at.ensures

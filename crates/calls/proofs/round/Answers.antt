@@ -1,13 +1,15 @@
 -- `calls::round` meets its contract, by that of `rounds::round_of`.
-use Rattle.calls.proofs.RoundCalls.{round_is}
+use lib.IntN.{ℤ}
+use borrow.Author.Rules.{rules}
+use Rattle.arrays.proofs.Signed.{read_two}
+use Rattle.calls.specs.declared.Reply.TheVariants.{Tap}
+use Rattle.calls.proofs.RoundCalls.{round_finished, round_added}
 use Rattle.calls.proofs.round.Goals as goal
 
-pub round_of-t-requires : goal.round_of-t-requires
-round_of-t-requires c = record {
-  in_order = c.requires.in_order;
-  valid = c.requires.valid_contents.state;
-  tail_le_longest_tail = c.requires.valid_contents.tailed;
-}
+pub returns-in-None : goal.returns-in-None
+returns-in-None c = round_finished c.args.d c.requires.valid_contents c.in-None.ensures
 
-pub returns : goal.returns
-returns c = round_is _ c.requires.in_order c.requires.valid_contents _ _ c.round_of-t.ensures c.reply_of.ensures
+pub returns-in-Some : goal.returns-in-Some
+returns-in-Some c = let r = c.in-Some.next in
+    round_added c.args.d c.requires.valid_contents r c.in-Some.ensures _
+    (read_two (λ (x y : ℤ). Tap x y r.fall) r.x r.y (search rules) (search rules))

@@ -20,16 +20,16 @@ zero-fits = record { sfits = omega arith }
 
 pub greatest-requires : goal.greatest-requires
 greatest-requires c =
-    let there = read-located _ _ _ c.ranges.x zero-fits c.locate.ensures ∙ c.in-At.is in
-    record { in_order = c.requires.in_order; x_le_stored_limit = located-small _ there c.x_of.ensures }
+    let there = read-located _ _ _ c.ranges.x zero-fits c.locate.ensures ∙ c.in-Some.is in
+    record { x_le_stored_limit = located-small _ there c.x_of.ensures }
 
-pub returns-in-OutOfRange : goal.returns-in-OutOfRange
-returns-in-OutOfRange c = let out = read-located _ _ _ c.ranges.x zero-fits c.locate.ensures ∙ c.in-OutOfRange.is in
-    out-column _ _ (arranged-placed _ c.requires.in_order.arranged) _ (out-located _ out)
+pub returns-in-None : goal.returns-in-None
+returns-in-None c = let out = read-located _ _ _ c.ranges.x zero-fits c.locate.ensures ∙ c.in-None.is in
+    out-column _ _ (arranged-placed _ c.args.w.in_order.arranged) _ (out-located _ out)
 
-pub returns-in-At : goal.returns-in-At
-returns-in-At c = let there = read-located _ _ _ c.ranges.x zero-fits c.locate.ensures ∙ c.in-At.is in
+pub returns-in-Some : goal.returns-in-Some
+returns-in-Some c = let there = read-located _ _ _ c.ranges.x zero-fits c.locate.ensures ∙ c.in-Some.is in
     let x : coordinate c.x_of.result ≡ c.args.x = ap coordinate c.x_of.ensures ∙ ap (λ (p : Point). p.x) (located_is _ _ there).0 in
     c.choice_of.ensures
-    ∙ column_found _ _ (arranged-placed _ c.requires.in_order.arranged) _ c.greatest.ensures.value
+    ∙ column_found _ _ (arranged-placed _ c.args.w.in_order.arranged) _ c.greatest.ensures.value
     ∙ ap (λ (z : ℤ). choice_of (column_answer c.args.tail (points (work.state_of c.args.w)) z)) x

@@ -7,4 +7,4 @@ pub returns-then-has : goal.returns-then-has
 returns-then-has c = record { pasted = row-held _ _ _ _ c.pack.ensures.0 _ _ c.has.ensures c.if-has.true; upper_bound = omega arith }
 
 pub returns : goal.returns
-returns c = record { pasted = row-free _ _ _ _ c.pack.ensures.0 _ _ c.has.ensures c.if-has.false c.requires.1; upper_bound = omega arith }
+returns c = record { pasted = row-free _ _ _ _ c.pack.ensures.0 _ _ c.has.ensures c.if-has.false c.requires; upper_bound = omega arith }

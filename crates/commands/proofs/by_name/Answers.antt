@@ -1,27 +1,17 @@
--- `commands::by_name` meets its contract: the names are tried one after the other.
-use mathlib.Core.Path.{sym, ◌∙◌}
-use Rattle.commands.proofs.Names.{alone_write, alone_round, alone_finish, alone_list, alone_question}
+-- `commands::by_name` meets its contract: a name that is none of the four is a question or none.
+use mathlib.Core.Path.{◌≡◌, ◌∙◌}
+use mathlib.Core.Bool.{false}
+use native.Mathlib.Omega.{arith}
+use Rattle.arrays.specs.Same.{same_list}
+use Rattle.arrays.specs.Text.{bytes}
+use Rattle.commands.proofs.Names.{alone_question}
+use Rattle.commands.proofs.Tests.{compared}
 use Rattle.commands.proofs.by_name.Goals as goal
 
-pub returns-then-same_bytes : goal.returns-then-same_bytes
-returns-then-same_bytes c = alone_write _ (sym c.same_bytes.ensures ∙ c.if-same_bytes.true)
-
-pub returns-then-same_bytes-2 : goal.returns-then-same_bytes-2
-returns-then-same_bytes-2 c = alone_round _ (sym c.same_bytes.ensures ∙ c.if-same_bytes.false) (sym c.same_bytes-2.ensures ∙ c.if-same_bytes-2.true)
-
-pub returns-then-same_bytes-3 : goal.returns-then-same_bytes-3
-returns-then-same_bytes-3 c = alone_finish _ (sym c.same_bytes.ensures ∙ c.if-same_bytes.false)
-    (sym c.same_bytes-2.ensures ∙ c.if-same_bytes-2.false)
-    (sym c.same_bytes-3.ensures ∙ c.if-same_bytes-3.true)
-
-pub returns-then-same_bytes-4 : goal.returns-then-same_bytes-4
-returns-then-same_bytes-4 c = alone_list _ (sym c.same_bytes.ensures ∙ c.if-same_bytes.false)
-    (sym c.same_bytes-2.ensures ∙ c.if-same_bytes-2.false)
-    (sym c.same_bytes-3.ensures ∙ c.if-same_bytes-3.false) (sym c.same_bytes-4.ensures ∙ c.if-same_bytes-4.true)
-
-pub returns : goal.returns
-returns c = c.question_word.ensures
-    ∙ alone_question _ (sym c.same_bytes.ensures ∙ c.if-same_bytes.false)
-    (sym c.same_bytes-2.ensures ∙ c.if-same_bytes-2.false)
-    (sym c.same_bytes-3.ensures ∙ c.if-same_bytes-3.false)
-    (sym c.same_bytes-4.ensures ∙ c.if-same_bytes-4.false)
+pub returns-in_default : goal.returns-in_default
+returns-in_default c =
+    let a : same_list c.args.name.now (bytes "write") ≡ false = grind (arith, compared) in
+    let b : same_list c.args.name.now (bytes "round") ≡ false = grind (arith, compared) in
+    let d : same_list c.args.name.now (bytes "finish") ≡ false = grind (arith, compared) in
+    let e : same_list c.args.name.now (bytes "list") ≡ false = grind (arith, compared) in
+    c.question_word.ensures ∙ alone_question _ a b d e

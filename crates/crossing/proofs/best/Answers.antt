@@ -1,7 +1,8 @@
 -- `crossing::best` meets its contract: with no point there is no crossing, and else the search finds the best.
+use native.Mathlib.Omega.{arith}
+use Rattle.std.proofs.lemmas.Bool.Decides.{nat_tests}
 use Rattle.crossing.proofs.Candidates.{none_best}
 use Rattle.crossing.proofs.best.Goals as goal
 
-pub returns-then-n-eq0 : goal.returns-then-n-eq0
-returns-then-n-eq0 c = let a = c.args in
-    none_best _ a.xs.now a.ys.now _ c.if-n-eq0.true
+pub returns-then-is_empty : goal.returns-then-is_empty
+returns-then-is_empty c = none_best _ _ _ (grind (arith, nat_tests))

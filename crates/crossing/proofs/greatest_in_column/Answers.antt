@@ -3,12 +3,9 @@ use Rattle.score.proofs.Geometry.{column-given}
 use Rattle.crossing.proofs.Candidates.{found_fits}
 use Rattle.crossing.proofs.greatest_in_column.Goals as goal
 
-pub column-requires : goal.column-requires
-column-requires c =
-    let p = c.prepare.ensures in
-    record { room = column-given p; size = p.size_table; within = p.given.within }
+pub invariant_of-points : goal.invariant_of-points
+invariant_of-points c = record { given = column-given c.prepare.ensures }
 
-pub returns : goal.returns
-returns c =
-    let found = c.column.ensures _ c.prepare.ensures in
-    record { value = found; gain_le_most_gain = found_fits c.requires.0 (λ i. (c.type_inv.xs i).fits) (λ i. (c.type_inv.ys i).fits) _ found }
+pub returns-clause-gain_le_most_gain : goal.returns-clause-gain_le_most_gain
+returns-clause-gain_le_most_gain c =
+    found_fits c.requires.0 (λ i. (c.type_inv.xs i).fits) (λ i. (c.type_inv.ys i).fits) _ (c.column.ensures _ c.prepare.ensures)

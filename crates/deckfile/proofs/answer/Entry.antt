@@ -4,7 +4,9 @@ use mathlib.Core.Path.{◌≡◌, refl, sym, ap, ◌∙◌, subst⁻¹}
 use mathlib.Core.Bool.{Bool, true, false}
 use mathlib.Core.List.{List, ◌++◌}
 use Prim.Native.Nat.{ℕ}
+use native.Mathlib.Omega.{arith}
 use lib.Dec.{leb}
+use Rattle.std.specs.Prelude.{Result, Ok, Err}
 use lib.ListN.{length, drop}
 use borrow.Author.Tests.{le-leb, lt-leb}
 use Rattle.arrays.specs.Test.{if}
@@ -12,24 +14,21 @@ use Rattle.model.specs.Contents.{Contents, ValidContents}
 use Rattle.model.specs.Call.{Call, contents_after}
 use Rattle.model.specs.File.{Read, deck, refusal, file_of}
 use Rattle.model.proofs.Step.{step-valid, after-valid}
-use Rattle.model.proofs.FileAnswer.{Possible, taken, refused, not_zero, possible_valid}
+use Rattle.model.proofs.FileAnswer.{Possible, taken, refused, possible_valid}
 use Rattle.model.proofs.FileSize.{file_size_lem}
 use Rattle.model.proofs.FileRoundTrip.{written_read_lem}
-use Rattle.working.specs.InOrder.{InOrder}
 use Rattle.working.specs.WorkingDeck.{contents_of}
+use Rattle.calls.specs.declared.Reply.TheVariants as reply
 use Rattle.calls.specs.declared.Changed.{Changed}
 use Rattle.working.specs.declared.deck.WorkingDeck.{WorkingDeck}
-use Rattle.calls.specs.Changes.{refusal_number, ChangedBy}
+use Rattle.calls.specs.Changes.{ChangedBy}
 use Rattle.deck.specs.declared.Deck.{Deck}
 use Rattle.deck.specs.declared.Outcome.{Outcome}
 use Rattle.deck.specs.Form.{deck_of, without_tail}
 use Rattle.deck.specs.Session.{deck_after}
 use Rattle.deck.proofs.Form.{contents-deck}
 use Rattle.deck.proofs.Session.{valid_passes, after-deck}
-use Rattle.deckfile.specs.declared.Written.TheVariants.{Refused, Length}
-use Rattle.deckfile.specs.declared.Written.{Written}
 use Rattle.deckfile.specs.Reading.{read_outcome, reading, accepted_deck}
-use Rattle.deckfile.specs.ReadWorking.{contents_read, reply_read, ReadTo}
 use Rattle.deckfile.specs.Writing.{stored, stored_answer, stored_buffer, written, buffer_after}
 use Rattle.deckfile.proofs.Stored.{write-stored}
 use Rattle.deckfile.specs.Answer.{read_and_written, answer_number, answer_buffer, written_number, Entered}
@@ -39,7 +38,7 @@ pub number-stored : (c : Contents) (l : List ℕ) → written_number (stored_ans
 unfolding written_number
 number-stored c l = go (leb (length (file_of c)) (length l))
   where
-    go : (t : Bool) → written_number (if t (λ _. Length (length (file_of c))) (λ _. Refused 12)) ≡ if t (λ _. length (file_of c)) (λ _. 12)
+    go : (t : Bool) → written_number (if t (λ _. Ok (length (file_of c))) (λ _. Err 12)) ≡ if t (λ _. length (file_of c)) (λ _. 12)
     go true = refl
     go false = refl
 
@@ -48,49 +47,38 @@ module _ (c : Contents) (v : ValidContents c) (l : List ℕ) where
   writes : (stored_answer c l ≡ written (deck_of c) l) × (stored_buffer c l ≡ buffer_after (deck_of c) l)
   writes = write-stored (deck_of c) l (valid_passes c v) (sym (contents-deck c v)) (refl, refl)
 
--- The refusal of a file.
-pub answer-refused : (r : Read) (calls : List Call) (l : List ℕ) {o : Outcome} (n : ℕ) → o ≡ read_outcome r
-    → n ≡ refusal_number o.reply → ¬ (n ≡ 0) → (n ≡ answer_number r calls l) × (l ≡ answer_buffer r calls l)
-unfolding read_and_written refusal_number read_outcome
-answer-refused (deck c) calls l n e f h = absurd (h (rw e at f))
-answer-refused (refusal k) calls l n e f h = (rw e at f, refl)
-
 -- A deck was read: `last` is the deck after the calls, m and b what writing it answers and leaves.
-pub answer-deck : (r : Read) → Possible r → (calls : List Call) (l : List ℕ) {o : Outcome} {n : ℕ} → o ≡ read_outcome r
-    → n ≡ refusal_number o.reply → n ≡ 0 → {last : Deck} → last ≡ deck_after o.next calls → {m : ℕ} {b : List ℕ}
+pub answer-deck : (r : Read) → Possible r → (calls : List Call) (l : List ℕ) {d last : Deck} → read_outcome r ≡ accepted_deck d
+    → last ≡ deck_after d calls → {m : ℕ} {b : List ℕ}
     → m ≡ written_number (written last l) → b ≡ buffer_after last l → (m ≡ answer_number r calls l) × (b ≡ answer_buffer r calls l)
-unfolding read_and_written refusal_number read_outcome
-answer-deck (deck c) (taken v) calls l e f z is em eb =
-    let q = rw e at is ∙ after-deck calls c v in
+unfolding read_and_written read_outcome
+answer-deck (deck c) (taken v) calls l e is em eb =
+    let q = is ∙ ap (λ (o : Outcome). deck_after o.next calls) (sym e) ∙ after-deck calls c v in
     let w = after-valid calls c v in
     let written = writes (contents_after c calls) w l in
     (rw q at em ∙ ap written_number (sym written.0) ∙ number-stored (contents_after c calls) l, rw q at eb ∙ sym written.1)
-answer-deck (refusal k) (refused h) calls l e f z is em eb = absurd (not_zero h (sym (rw e at f) ∙ z))
+answer-deck (refusal k) p calls l e is em eb =
+    let f : reply.Refused k ≡ reply.Done = ap (λ (o : Outcome). o.reply) e in
+    let z : ◌≡◌ {A = ℕ} 0 1 = cc in
+    absurd (omega arith)
 
--- The same where the deck is handed on in working form. A file that was read has that of valid contents.
-pub read-refused : (r : Read) (calls : List Call) (l : List ℕ) {c : Changed} (n : ℕ) → ReadTo r c
-    → n ≡ refusal_number c.reply → ¬ (n ≡ 0) → (n ≡ answer_number r calls l) × (l ≡ answer_buffer r calls l)
-unfolding read_and_written refusal_number reply_read
-read-refused (deck c) calls l n e f h = absurd (h (rw e.reply at f))
-read-refused (refusal k) calls l n e f h = (rw e.reply at f, refl)
+-- A file that was read has the deck of valid contents.
+pub taken_valid : (r : Read) → Possible r → {c : Contents} → r ≡ deck c → ValidContents c
+taken_valid r p e = possible_valid r p _ e
 
-pub read-turned_down : (r : Read) {c : Changed} (n : ℕ) → ReadTo r c → n ≡ refusal_number c.reply → ¬ (n ≡ 0) → r ≡ refusal n
-unfolding refusal_number reply_read
-read-turned_down (deck c) n e f h = absurd (h (rw e.reply at f))
-read-turned_down (refusal k) n e f h = ap refusal (sym (rw e.reply at f))
-
-pub read_taken : (r : Read) → Possible r → {c : Changed} {n : ℕ} → ReadTo r c → n ≡ refusal_number c.reply → n ≡ 0
-    → (r ≡ deck (contents_of c.working)) × InOrder c.working.form × ValidContents (contents_of c.working)
-unfolding refusal_number reply_read contents_read
-read_taken (deck c) (taken v) e f z = (ap deck (sym e.contents), e.in_order, subst⁻¹ ValidContents e.contents v)
-read_taken (refusal k) (refused h) e f z = absurd (not_zero h (sym (rw e.reply at f) ∙ z))
+-- The refusal of a file.
+pub read-refused : (r : Read) (calls : List Call) (l : List ℕ) {n : ℕ} → r ≡ refusal n
+    → (n ≡ answer_number r calls l) × (l ≡ answer_buffer r calls l)
+unfolding read_and_written
+read-refused r calls l e = rw e (refl, refl)
 
 -- A call on a deck of valid contents in working form leaves one.
 pub changed_valid : {w : WorkingDeck} {c : Call} {r : Changed} → ValidContents (contents_of w) → ChangedBy w c r
-    → InOrder r.working.form × ValidContents (contents_of r.working)
-changed_valid {w} {c} v by = (by.in_order, subst⁻¹ ValidContents by.next (step-valid (contents_of w) c v))
+    → ValidContents (contents_of r.working)
+changed_valid {w} {c} v by = subst⁻¹ ValidContents by.next (step-valid (contents_of w) c v)
 
-pub answer-stored : (r : Read) (calls : List Call) (l : List ℕ) {c d : Contents} → r ≡ deck c → d ≡ contents_after c calls → {a : Written} {m : ℕ} {b : List ℕ}
+pub answer-stored : (r : Read) (calls : List Call) (l : List ℕ) {c d : Contents} → r ≡ deck c
+    → d ≡ contents_after c calls → {a : Result ℕ ℕ} {m : ℕ} {b : List ℕ}
     → m ≡ written_number a → (a ≡ stored_answer d l) × (b ≡ stored_buffer d l) → (m ≡ answer_number r calls l) × (b ≡ answer_buffer r calls l)
 unfolding read_and_written
 answer-stored r calls l {c} {d} e q em w = rw e rw (sym q) (em ∙ ap written_number w.0 ∙ number-stored d l, w.1)

@@ -1,7 +1,13 @@
--- `deckfile::read` meets its contract: the deck of the working form.
-use mathlib.Core.Path.{◌∙◌}
-use Rattle.deckfile.proofs.reader.LastCheck.{read_outcome_lem}
+-- `deckfile::read` meets its contract: the deck of the working form, or an empty one.
+use mathlib.Core.Path.{sym, ap, ◌∙◌}
+use Rattle.calls.specs.declared.Reply.TheVariants.{Refused}
+use Rattle.deckfile.specs.Reading.{accepted_deck, read_outcome}
 use Rattle.deckfile.proofs.read.Goals as goal
 
-pub returns : goal.returns
-returns c = c.outcome_of.ensures ∙ read_outcome_lem _ _ c.read_working.ensures
+pub returns-in-Ok : goal.returns-in-Ok
+unfolding read_outcome
+returns-in-Ok c = ap accepted_deck c.from.ensures ∙ ap read_outcome (sym c.in-Ok.ensures)
+
+pub returns-in-Err : goal.returns-in-Err
+unfolding read_outcome
+returns-in-Err c = (λ i. record { next = c.empty.ensures i; reply = Refused c.in-Err.n }) ∙ ap read_outcome (sym c.in-Err.ensures)

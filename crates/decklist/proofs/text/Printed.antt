@@ -10,14 +10,11 @@ use Rattle.streams.specs.Counts.{IsPrefixLen}
 use Rattle.arrays.specs.Test.{if}
 use Rattle.model.specs.Contents.{Contents}
 use Rattle.model.specs.Call as call
-use Rattle.model.specs.File.{Read, deck, refusal, read_file}
-use Rattle.model.specs.Listing.{listing, refused_line, listing_of_file}
+use Rattle.model.specs.File.{deck, read_file}
+use Rattle.model.specs.Listing.{listing, listing_of_file}
 use Rattle.arrays.specs.Paste.{Pasted}
-use Rattle.calls.specs.Changes.{refusal_number}
-use Rattle.calls.specs.declared.Changed.{Changed}
-use Rattle.deckfile.specs.ReadWorking.{reply_read, ReadTo}
 use Rattle.ascii.specs.Text.{fitting}
-use Rattle.listing.proofs.Text.{text-refused, text-deck}
+use Rattle.listing.proofs.Text.{text-deck}
 
 -- Nothing is within a slice.
 pub none_counted : (l : List ℕ) → IsPrefixLen 0 l
@@ -30,14 +27,6 @@ roomy m before after t u r h k e f =
     subst (λ (l : List ℕ). Pasted l before after 0 r)
     (ap (λ (b : Bool). if b (λ _. t) (λ _. [])) (le-leb m (length before) (omega arith) ∙ sym (le-leb 8704 (length before) k)) ∙ ap (fitting 8704 before) e) f
 
--- What is printed, by what reading the file gave.
-pub printed_refusal : (b : List ℕ) {c : Changed} (n : ℕ) → ReadTo (read_file b) c → n ≡ refusal_number c.reply → ¬ (n ≡ 0) → refused_line n ≡ listing_of_file b
-unfolding refusal_number reply_read
-printed_refusal b n r e h = go (read_file b) refl (e ∙ ap refusal_number r.reply)
-  where
-    go : (r : Read) → read_file b ≡ r → n ≡ refusal_number (reply_read r) → refused_line n ≡ listing_of_file b
-    go (deck c) f q = absurd (h q)
-    go (refusal k) f q = ap refused_line q ∙ text-refused b k f
-
+-- What is printed of a deck, after a run to the end.
 pub printed_deck : (b : List ℕ) (c d : Contents) → read_file b ≡ deck c → d ≡ (call.step c call.run_to_end).next → listing d ≡ listing_of_file b
 printed_deck b c d f e = ap listing e ∙ text-deck b c f

@@ -1,5 +1,6 @@
 -- What the program prints by the number that the planner returned: below 30 it is that of the file's refusal, else the length of the file after a run
 -- to the end. By the claim on entries.
+use Rattle.std.specs.Prelude.{Ok, Err}
 use mathlib.Core.Path.{◌≡◌, refl, sym, ap, ◌∙◌, subst}
 use mathlib.Core.Logic.{⊎_elim}
 use mathlib.Core.Bool.{true, false}
@@ -48,7 +49,7 @@ module _ (before : List ℕ) (room : longest ≤ length before) where
 
   pub refusal_printed : (r : Read) → Possible r → (n : ℕ) (mid : List ℕ) {after : List ℕ} {s : ℕ} → n ≡ answer_number r to_end before
       → mid ≡ answer_buffer r to_end before → n < 30 → Pasted (fitting line_room mid (refused_line n)) mid after 0 s
-      → Prints longest planned_file r before after (record { refused = true; size = s })
+      → Prints longest planned_file r before after (Err s)
   refusal_printed r p n mid {after} {s} e f h q =
       let t = number-refused r p n mid e f h in
       prints_refusal longest planned_file r before n t.0 room (omega arith)
@@ -56,7 +57,7 @@ module _ (before : List ℕ) (room : longest ≤ length before) where
 
   -- A number of 30 or more: the file of the deck stands in the buffer.
   pub number_printed : (r : Read) → Possible r → (n : ℕ) (after : List ℕ) → n ≡ answer_number r to_end before → after ≡ answer_buffer r to_end before → 30 ≤ n
-      → Prints longest planned_file r before after (record { refused = false; size = n })
+      → Prints longest planned_file r before after (Ok n)
   unfolding planned_file contents_after
   number_printed (deck c) (taken v) n after e f h =
       let a = answers c v in

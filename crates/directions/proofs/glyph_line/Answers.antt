@@ -8,4 +8,4 @@ pub returns-then-out-lt-LINE_ROOM : goal.returns-then-out-lt-LINE_ROOM
 returns-then-out-lt-LINE_ROOM c = front_none 128 _ _ c.if-out-lt-LINE_ROOM.true
 
 pub returns : goal.returns
-returns c = front-put 128 _ _ _ _ c.if-out-lt-LINE_ROOM.false (pasted_then c.put_bytes-a.ensures (omega arith) c.put_byte.ensures)
+returns c = front-put 128 _ _ _ _ c.if-out-lt-LINE_ROOM.false (pasted_then c.put_items-a.ensures (omega arith) c.put_byte.ensures)

@@ -1,11 +1,11 @@
 -- `drawing::put_symbol` meets its contract: the place of the point, the unit, and its coordinates in stored form.
-use native.Mathlib.Omega.{arith}
-use Rattle.drawing.proofs.Parts.{symbol_put}
+use Rattle.arrays.proofs.paste.Parts.{pasted_same}
+use Rattle.plane.specs.Code.{x_of, y_of}
+use Rattle.plane.proofs.Stored.{stored-coordinate}
+use Rattle.drawing.specs.Elements.{symbol_text}
 use Rattle.drawing.proofs.put_symbol.Goals as goal
 
-pub returns : goal.returns
-returns c = record {
-  pasted = symbol_put _ _ _ c.x_of-x.ensures c.y_of-y.ensures c.across.ensures c.down.ensures c.long_side.ensures.value
-      c.put_numbered.ensures.pasted;
-  upper_bound = omega (arith, c.put_numbered.ensures.upper_bound);
-}
+pub returns-clause-pasted : goal.returns-clause-pasted
+unfolding symbol_text
+returns-clause-pasted c =
+    pasted_same (cc (stored-coordinate (x_of c.args.k), stored-coordinate (y_of c.args.k), c.template_of.ensures.text)) c.fill.ensures.pasted

@@ -1,14 +1,11 @@
 -- `edges::edge_numbers` meets its contract: the listing of the keys.
-use mathlib.Core.Path.{◌≡◌}
 use native.Mathlib.Omega.{arith}
-use lib.ListN.{length}
-use borrow.Author.Rules.{rules}
+use lib.ListN.{length-take}
 use Rattle.edges.proofs.Numbers.{row_is}
 use Rattle.edges.proofs.edge_numbers.Goals as goal
 
 pub listing-requires : goal.listing-requires
-listing-requires c = let h : length c.args.w.keys ≡ 136 = search rules in
-    (omega (arith, c.requires.keys_few), omega (arith, c.requires.keys_few))
+listing-requires c = omega (arith, length-take c.args.w.nkeys c.args.w.keys, c.args.w.in_order.keys_few)
 
 pub returns : goal.returns
-returns c = row_is _ c.requires _ _ c.listing.ensures
+returns c = row_is c.args.w _ _ c.listing.ensures

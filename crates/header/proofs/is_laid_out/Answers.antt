@@ -12,9 +12,6 @@ loop-k-init c = none_passed (c.args.b.now) _ _ c.number2-n.ensures.0 c.header_si
 pub returns-then-offset-at : goal.returns-then-offset-at
 returns-then-offset-at c = apart _ _ c.loop-k.invariant c.loop-k-test.true c.offset.ensures.0 c.if-offset-at.true
 
-pub overflow_add-at : goal.overflow_add-at
-overflow_add-at c = omega (arith, c.loop-k.invariant.few, c.loop-k.invariant.within, c.number2-n.ensures.1, c.size-at.ensures.1)
-
 pub loop-k-preserved : goal.loop-k-preserved
 loop-k-preserved c = next_passed _ _ c.loop-k.invariant c.loop-k-test.true c.offset.ensures.0 c.if-offset-at.false
     c.size-at.ensures.0 c.size-at.ensures.1

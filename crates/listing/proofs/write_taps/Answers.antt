@@ -5,14 +5,7 @@ use Rattle.points.proofs.Coded.{steiner_count_lem}
 use Rattle.listing.proofs.write_taps.Goals as goal
 
 pub tap_lines-requires : goal.tap_lines-requires
-tap_lines-requires c = let p = c.requires.in_order in
-    let s = p.arranged.steiner_codes in
-    record { n_in_bounds = omega (arith, steiner_few_lem _ c.requires.valid, steiner_count_lem _ p.arranged); n_in_bounds_2 = omega (arith, s.few, s.size) }
+tap_lines-requires c = omega (arith, steiner_few_lem _ c.requires.valid, steiner_count_lem _ c.args.w.in_order.arranged)
 
-pub returns : goal.returns
-returns c =
-    let few = steiner_few_lem _ c.requires.valid in
-    record {
-      pasted = c.tap_lines.ensures.pasted;
-      upper_bound = omega (arith, c.tap_lines.ensures.upper_bound, few, steiner_count_lem _ c.requires.in_order.arranged);
-    }
+pub returns-clause-upper_bound : goal.returns-clause-upper_bound
+returns-clause-upper_bound c = omega (arith, steiner_few_lem _ c.requires.valid, steiner_count_lem _ c.args.w.in_order.arranged)

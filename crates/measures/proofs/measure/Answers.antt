@@ -5,13 +5,13 @@ use Rattle.edges.proofs.Numbers.{edge_count_lem}
 use Rattle.measures.proofs.measure.Goals as goal
 
 pub length_of-requires : goal.length_of-requires
-length_of-requires c = record { in_order = c.requires.in_order; tail_le_longest_tail = c.requires.valid_contents.tailed }
+length_of-requires c = record { tail_le_longest_tail = c.requires.tailed }
 
 pub returns : goal.returns
-returns c = let p = c.requires.in_order in
+returns c = let p = c.args.d.form.in_order in
     λ i. record {
       pins = sym (pins-count _ p.arranged) i;
       steiner = sym (steiner_count_lem _ p.arranged) i;
-      edges = edge_count_lem _ p i;
+      edges = edge_count_lem c.args.d.form i;
       length = c.length_of.ensures i;
     }

@@ -1,14 +1,11 @@
--- `numbers::magnitude` meets its contract. The invariant: the answer is the one for the digits left, after digits of the
--- value v, which is at most `most`. The measure: how many digits are left.
+-- `numbers::magnitude` meets its contract. The invariant: the answer is the one for the digits left, after digits of the value so far, which is
+-- at most `most`.
 use mathlib.Core.Path.{◌≡◌}
-use Prim.Native.Nat.{◌-◌, ◌≤◌}
-use lib.ListN.{length, drop}
+use Prim.Native.Nat.{◌≤◌}
+use lib.ListN.{drop}
 use Rattle.numbers.specs.Numbers.{magnitude_of}
 use Rattle.numbers.proofs.Digits.{read}
 use Rattle.numbers.proofs.magnitude.Given as goal
 
-abbrev pub invariant-loop-i : goal.invariant-loop-i
-invariant-loop-i l = (l.v ≤ l.most) × (magnitude_of l.most l.digits ≡ read l.most l.v (drop l.i l.digits))
-
-abbrev pub decreases-loop-i : goal.decreases-loop-i
-decreases-loop-i l = length l.digits - l.i
+abbrev pub invariant-loop-b : goal.invariant-loop-b
+invariant-loop-b l = (l.value ≤ l.most) × (magnitude_of l.most l.digits ≡ read l.most l.value (drop l.b-index l.digits))

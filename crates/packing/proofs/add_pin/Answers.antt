@@ -3,5 +3,4 @@ use Rattle.packing.proofs.Steps.{pin_added}
 use Rattle.packing.proofs.add_pin.Goals as goal
 
 pub returns : goal.returns
-returns c = pin_added c.args.d c.args.n c.requires.valid_contents _ _ _ c.ranges.x c.ranges.y
-    c.add-c.ensures c.fault_by.ensures c.after.ensures
+returns c = pin_added c.args.d c.args.n c.requires.valid_contents _ _ _ c.ranges.x c.ranges.y c.add-c.ensures c.fault_by.ensures

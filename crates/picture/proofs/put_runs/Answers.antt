@@ -1,4 +1,4 @@
--- `picture::put_runs` meets its contract. The invariant: the paths of the runs passed are put. The measure: how many are left.
+-- `picture::put_runs` meets its contract: one run more adds its path.
 use native.Mathlib.Omega.{arith}
 use Rattle.arrays.proofs.paste.Lines.{first_none, first_more, first_end, each_none}
 use Rattle.arrays.proofs.paste.Parts.{pasted_same}
@@ -13,44 +13,29 @@ use Rattle.picture.proofs.Texts.{runs_to, run_more, run_all}
 use Rattle.picture.proofs.put_runs.Goals as goal
 
 pub loop-i-init : goal.loop-i-init
-loop-i-init c = let s = state_of c.args.w in
+loop-i-init c =
+    let s = state_of c.args.w in
     let b = box_in c.args.f in
     first_none (runs_to c.args.tail b s) run_room _ _ _ (each_none (edge_text c.args.tail b) (listed s))
 
-pub edge_at-e-requires : goal.edge_at-e-requires
-edge_at-e-requires c =
-    record {
-      in_order = c.requires.in_order;
-      ends_value = c.edge_numbers-ends.ensures;
-      i_lt_nkeys = c.loop-i-test.true;
-      tail_le_longest_tail = c.requires.tail_le_longest_tail;
-    }
-
 pub put_run-next-requires : goal.put_run-next-requires
-put_run-next-requires c = let few = edges_few _ c.requires.valid in
-    let inv = c.loop-i.invariant in
-    omega (arith, c.requires.runs_room_in_bounds, inv.most, inv.same, few, edge_count_lem _ c.requires.in_order, c.loop-i-test.true)
+put_run-next-requires c = omega (arith, c.loop-i.invariant.most, edges_few _ c.requires.valid, edge_count_lem c.args.w)
 
 pub loop-i-preserved : goal.loop-i-preserved
-loop-i-preserved c = let s = state_of c.args.w in
+loop-i-preserved c =
+    let s = state_of c.args.w in
     let b = box_in c.args.f in
-    let few = edges_few _ c.requires.valid in
-    let inv = c.loop-i.invariant in
-    let path = c.put_run-next in
-    first_more (runs_to c.args.tail b s) run_room _ _ _ _ _ _ _ _ _ inv c.loop-i-test.true (run_more _ b s _ _ c.edge_at-e.ensures)
-    (omega (arith, c.requires.runs_room_in_bounds, inv.most, inv.same, few, edge_count_lem _ c.requires.in_order, c.loop-i-test.true))
-    path.ensures.pasted path.ensures.upper_bound path.auto.out
-
-pub shape_of-out : goal.shape_of-out
-shape_of-out c = c.loop-i.invariant.same
+    first_more (runs_to c.args.tail b s) run_room _ _ _ _ _ _ _ _ _ c.loop-i.invariant c.loop-i-test.true (run_more _ b s _ _ c.edge_at-e.ensures)
+    (omega (arith, c.loop-i.invariant.most, edges_few _ c.requires.valid, edge_count_lem c.args.w)) c.put_run-next.ensures.pasted
+    c.put_run-next.ensures.upper_bound c.put_run-next.auto.out
 
 pub returns : goal.returns
-returns c = let w = c.args.w in
+returns c =
+    let w = c.args.w in
     let s = state_of w in
     let b = box_in c.args.f in
-    let few = edges_few _ c.requires.valid in
     let all = first_end (runs_to c.args.tail b s) run_room _ _ _ _ _ _ c.loop-i.invariant c.loop-i-test.false in
     record {
-      pasted = pasted_same (run_all _ b s w.nkeys (omega (arith, listed-length w c.requires.in_order))) all.0;
-      upper_bound = omega (arith, all.1, few, edge_count_lem _ c.requires.in_order);
+      pasted = pasted_same (run_all _ b s w.nkeys (omega (arith, listed-length w))) all.0;
+      upper_bound = omega (arith, all.1, edges_few _ c.requires.valid, edge_count_lem c.args.w);
     }

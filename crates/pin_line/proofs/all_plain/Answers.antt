@@ -1,23 +1,15 @@
--- `pin_line::all_plain` meets its contract. The invariant: the bytes passed pass the test.
-use mathlib.Core.Path.{ap, ◌∙◌}
-use native.Mathlib.Omega.{arith}
-use lib.Seq.{take-length}
-use Rattle.arrays.specs.Set.{all}
-use Rattle.sorted.proofs.Scan.{passed_none, passed_more, passed_fail, passed_end}
-use Rattle.pin_line.specs.PinLines.{is_plain}
+-- `pin_line::all_plain` meets its contract: the library's walk over the bytes, with the same test.
+use mathlib.Core.Path.{◌∙◌}
+use mathlib.Core.Bool.{not, ◌&&◌}
+use lib.Dec.{eqb}
+use Rattle.std.proofs.Common.{rules, tests}
+use Rattle.std.proofs.lemmas.Iterator.{YieldsList-from_slice}
+use Rattle.std.proofs.lemmas.Iterator.Search.{all_from_yields_List}
+use Rattle.pin_line.proofs.PinLines.{all-is}
 use Rattle.pin_line.proofs.all_plain.Goals as goal
 
-pub loop-i-init : goal.loop-i-init
-loop-i-init c = passed_none _ _ _
-
-pub returns-then-not-is_plain : goal.returns-then-not-is_plain
-returns-then-not-is_plain c = passed_fail _ _ _ _ _ c.loop-i.invariant (omega (arith, c.loop-i-test.true)) (omega arith)
-    c.is_plain.ensures c.if-not-is_plain.true
-    ∙ ap (all is_plain) (take-length _)
-
-pub loop-i-preserved : goal.loop-i-preserved
-loop-i-preserved c = passed_more _ _ _ _ _ c.loop-i.invariant (omega (arith, c.loop-i-test.true)) (omega arith)
-    c.is_plain.ensures c.if-not-is_plain.false
-
 pub returns : goal.returns
-returns c = passed_end _ _ _ _ c.loop-i.invariant c.loop-i-test.false (omega arith) ∙ ap (all is_plain) (take-length _)
+returns c =
+    all_from_yields_List (λ b. not (eqb b 12) && not (eqb b 13)) _ _ _ c.all.ensures.ran (YieldsList-from_slice c.args.text.now cc)
+    (λ x b q k. search (rules, tests))
+    ∙ all-is c.args.text.now

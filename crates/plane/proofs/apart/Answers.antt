@@ -1,11 +1,7 @@
--- `plane::apart` meets its contract: in each arm the difference is the distance along the axis, by the law of that order.
-use mathlib.Core.Path.{sym}
-use native.Mathlib.Omega.{arith}
-use Rattle.plane.proofs.Stored.{gap-rising, gap_falling}
+-- `plane::apart` meets its contract: how far apart the stored coordinates are is the distance along the axis.
+use mathlib.Core.Path.{◌∙◌}
+use Rattle.plane.proofs.Stored.{gap-stored}
 use Rattle.plane.proofs.apart.Goals as goal
 
-pub returns-then-a-b : goal.returns-then-a-b
-returns-then-a-b c = sym (gap-rising c.args.a c.args.b (omega arith))
-
-pub returns-else-a-b : goal.returns-else-a-b
-returns-else-a-b c = sym (gap_falling c.args.a c.args.b c.if-a-b.false)
+pub returns : goal.returns
+returns c = c.abs_diff.ensures ∙ gap-stored c.args.a c.args.b

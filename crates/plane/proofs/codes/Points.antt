@@ -18,8 +18,7 @@ use Rattle.plane.specs.Point.{Point, point, coordinate_in_range, in_range, lower
 use Rattle.plane.specs.Coordinate.{base, stored_limit, coordinate, stored_of}
 use Rattle.plane.specs.Code.{x_of, y_of, code, point_of, is_code, located}
 use Rattle.arrays.specs.Test.{if}
-use Rattle.plane.specs.declared.codes.Located.{Located}
-use Rattle.plane.specs.declared.codes.Located.TheVariants.{OutOfRange, At}
+use Rattle.std.specs.Prelude.{Option, Some, None}
 use Rattle.arrays.proofs.Signed.{read, read_two}
 use Rattle.arrays.proofs.Test.{and_parts, and_both, same_test, true_of, of_true}
 use Rattle.plane.proofs.Stored.{coordinate-stored, stored-bound, coordinate_range, stored-coordinate, lower_true, lower_false}
@@ -75,35 +74,35 @@ module _ (k : ℕ) (t : T (is_code k)) where
       (coordinate_range (x_of k) (omega arith)) (coordinate_range (y_of k) (omega arith))
 
 -- What locating a point answers, and what the answer says of the point.
-pub located_in : (p : Point) → in_range p ≡ true → located p ≡ At (code p)
+pub located_in : (p : Point) → in_range p ≡ true → located p ≡ Some (code p)
 unfolding located
-located_in p e = ap (λ (b : Bool). if b (λ _. At (code p)) (λ _. OutOfRange)) e
+located_in p e = ap (λ (b : Bool). if b (λ _. Some (code p)) (λ _. None)) e
 
-pub located-out : (p : Point) → in_range p ≡ false → located p ≡ OutOfRange
+pub located-out : (p : Point) → in_range p ≡ false → located p ≡ None
 unfolding located
-located-out p e = ap (λ (b : Bool). if b (λ _. At (code p)) (λ _. OutOfRange)) e
+located-out p e = ap (λ (b : Bool). if b (λ _. Some (code p)) (λ _. None)) e
 
-pub out-located : (p : Point) → located p ≡ OutOfRange → in_range p ≡ false
+pub out-located : (p : Point) → located p ≡ None → in_range p ≡ false
 out-located p e = go (in_range p) refl
   where
     go : (b : Bool) → in_range p ≡ b → in_range p ≡ false
     go true i = let f = located_in p i in let h : ◌≡◌ {A = ℕ} 0 1 = cc in absurd (omega arith)
     go false i = i
 
-pub in_located : (p : Point) (k : ℕ) → located p ≡ At k → T (in_range p) × (k ≡ code p)
+pub in_located : (p : Point) (k : ℕ) → located p ≡ Some k → T (in_range p) × (k ≡ code p)
 in_located p k e = go (in_range p) refl
   where
     go : (b : Bool) → in_range p ≡ b → T (in_range p) × (k ≡ code p)
     go true i = let f = located_in p i in (of_true i, cc)
     go false i = let f = located-out p i in let h : ◌≡◌ {A = ℕ} 0 1 = cc in absurd (omega arith)
 
-pub located_is : (p : Point) (k : ℕ) → located p ≡ At k → (point_of k ≡ p) × T (is_code k)
+pub located_is : (p : Point) (k : ℕ) → located p ≡ Some k → (point_of k ≡ p) × T (is_code k)
 located_is p k e =
     let h = in_located p k e in
     (ap point_of h.1 ∙ point-code p h.0, subst⁻¹ (λ (z : ℕ). T (is_code z)) h.1 (code_is p h.0))
 
 -- The answer for two numbers that are handed on.
-pub read-located : (x y : ℤ) (r : Located) → SFits w32 x → SFits w32 y → r ≡ located (point (read x) (read y)) → located (point x y) ≡ r
+pub read-located : (x y : ℤ) (r : Option ℕ) → SFits w32 x → SFits w32 y → r ≡ located (point (read x) (read y)) → located (point x y) ≡ r
 read-located x y r f g e = sym (e ∙ read_two (λ (a b : ℤ). located (point a b)) x y f g)
 
 -- The order of codes is that of their points.

@@ -13,7 +13,7 @@ use Rattle.arrays.specs.Set.{rising, all, has}
 use Rattle.arrays.proofs.Order.{nat_order}
 use Rattle.arrays.proofs.Set.{all_in, has_not}
 use Rattle.arrays.proofs.Test.{and_parts, and_both, true_of, of_true}
-use Rattle.sorted.proofs.Search.{all_zero_lem}
+use Rattle.sorted.proofs.Zeros.{all_zero_lem}
 use Rattle.plane.specs.Code.{is_code}
 use Rattle.model.specs.State.{max_pins}
 use Rattle.points.specs.declared.Points.{Points}

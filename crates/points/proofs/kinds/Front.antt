@@ -1,15 +1,16 @@
 -- Kinds put at the front of an array of zeros, and the kind that stands beside a pin.
-use mathlib.Core.Path.{◌≡◌, refl, sym, ap, ◌∙◌}
+use mathlib.Core.Path.{◌≡◌, refl, sym, ap, ap₂, ◌∙◌}
 use mathlib.Core.List.{List, [], ◌∷◌, ◌++◌, map}
-use Prim.Native.Nat.{ℕ, zero, suc, ◌≤◌, ◌<◌}
+use Prim.Native.Nat.{ℕ, ◌+◌, ◌-◌, ◌<◌}
 use native.Mathlib.Omega.{arith}
 use lib.Dec.{ltb}
-use lib.ListN.{length, take, get_or, replicate}
-use lib.Seq.{length-take-le, get_or-take}
+use lib.ListN.{length, take, drop, set, get_or, replicate, length-map}
+use lib.Seq.{take-length}
+use Rattle.std.proofs.lemmas.List.{length-set, take_more_set, map-append, take_more, drop-set-lt, drop-drop, take-append-drop}
 use Rattle.arrays.specs.Array.{index_of}
 use Rattle.arrays.specs.Beside.{beside}
 use Rattle.arrays.proofs.Beside.{beside_index}
-use Rattle.arrays.specs.Paste.{Pasted, each}
+use Rattle.arrays.specs.Paste.{Pasted}
 use Rattle.arrays.proofs.paste.Parts.{front_is}
 use Rattle.points.specs.Coded.{padded}
 use Rattle.points.proofs.Codes.{drop_zeros}
@@ -17,35 +18,38 @@ use Rattle.points.proofs.Codes.{drop_zeros}
 pub zeros_behind : (room : ℕ) {l out : List ℕ} {r : ℕ} → Pasted l (replicate room 0) out 0 r → out ≡ padded room l
 zeros_behind room {l} p = front_is p ∙ ap (λ (z : List ℕ). l ++ z) (drop_zeros (length l) room)
 
--- The kind at the index of a pin, which is below n where the pin is there.
-module _ (pins kinds : List ℕ) (n : ℕ) (h : n ≤ length pins) (m : n ≤ length kinds) (k other : ℕ) where
-  by_index : beside ltb other k (take n pins) (take n kinds) ≡ get_or (take n kinds) (index_of k (take n pins)) other
-  by_index = beside_index other k (take n pins) (take n kinds) (length-take-le n kinds m ∙ sym (length-take-le n pins h))
+-- The kind at the index of a pin.
+pub by_index : (pins kinds : List ℕ) (k other : ℕ) → length pins ≡ length kinds → beside ltb other k pins kinds ≡ get_or kinds (index_of k pins) other
+by_index pins kinds k other e = beside_index other k pins kinds (sym e)
 
-  pub found : {i : ℕ} → i ≡ index_of k (take n pins) → i < n → get_or kinds i 0 ≡ beside ltb other k (take n pins) (take n kinds)
-  found {i} e l =
-      sym (get_or-take n kinds i 0 l) ∙ get_d_any (take n kinds) i (omega (arith, length-take-le n kinds m))
-      ∙ ap (λ (z : ℕ). get_or (take n kinds) z other) e ∙ sym by_index
-    where
-      get_d_any : (l : List ℕ) (j : ℕ) → j < length l → get_or l j 0 ≡ get_or l j other
-      get_d_any [] j b = absurd (omega arith)
-      get_d_any (a ∷ l) zero b = refl
-      get_d_any (a ∷ l) (suc j) b = get_d_any l j (omega arith)
+-- The numbers of the first i items stand at the front of an array, and behind them what stood there before.
+pub record Mapped (f : ℕ → ℕ) (items old out : List ℕ) (i : ℕ) : Type 0 where
+  pub size : length out ≡ length old
+  pub front : take i out ≡ map f (take i items)
+  pub rest : drop i out ≡ drop i old
 
-  pub not_found : {i : ℕ} → i ≡ index_of k (take n pins) → n ≤ i → other ≡ beside ltb other k (take n pins) (take n kinds)
-  not_found {i} e l =
-      sym (beyond (take n kinds) i (omega (arith, length-take-le n kinds m))) ∙ ap (λ (z : ℕ). get_or (take n kinds) z other) e ∙ sym by_index
-    where
-      beyond : (l : List ℕ) (j : ℕ) → length l ≤ j → get_or l j other ≡ other
-      beyond [] j b = refl
-      beyond (a ∷ l) zero b = absurd (omega arith)
-      beyond (a ∷ l) (suc j) b = beyond l j (omega arith)
+module _ (f : ℕ → ℕ) (items old : List ℕ) where
+  pub mapped_none : Mapped f items old old 0
+  mapped_none = record { size = refl; front = refl; rest = refl }
 
--- One number for each item.
-abbrev pub one : (ℕ → ℕ) → ℕ → List ℕ
-one f k = f k ∷ []
+  pub mapped_more : {out : List ℕ} {i v : ℕ} → Mapped f items old out i → i < length items → i < length out → v ≡ f (get_or items i 0)
+      → Mapped f items old (set out i v) (i + 1)
+  mapped_more {out} {i} {v} m h k e =
+      record {
+        size = length-set out i v ∙ m.size;
+        front =
+            take_more_set out i v k ∙ ap₂ (λ (l : List ℕ) (z : ℕ). l ++ z ∷ []) m.front e ∙ sym (map-append f (take i items) (get_or items i 0 ∷ []))
+            ∙ ap (map f) (sym (take_more items i 0 h));
+        rest = drop-set-lt (i + 1) out i v (omega arith) ∙ sym (drop-drop 1 i out) ∙ ap (drop 1) m.rest ∙ drop-drop 1 i old;
+      }
 
-pub each_one : (f : ℕ → ℕ) (l : List ℕ) → each (one f) l ≡ map f l
-unfolding each
-each_one f [] = refl
-each_one f (k ∷ l) = ap (λ (z : List ℕ). f k ∷ z) (each_one f l)
+  pub mapped_all : {out : List ℕ} → Mapped f items old out (length items) → out ≡ map f items ++ drop (length items) old
+  mapped_all {out} m =
+      sym (take-append-drop (length items) out) ∙ ap₂ ◌++◌ (m.front ∙ ap (map f) (take-length items)) m.rest
+
+-- Behind the numbers of all items there are zeros.
+pub mapped_zeros : (f : ℕ → ℕ) (room : ℕ) (items : List ℕ) {out : List ℕ} → Mapped f items (replicate room 0) out (length items)
+    → out ≡ padded room (map f items)
+mapped_zeros f room items m =
+    mapped_all f items (replicate room 0) m ∙ ap (λ (l : List ℕ). map f items ++ l)
+    (drop_zeros (length items) room ∙ ap (λ (n : ℕ). replicate (room - n) 0) (sym (length-map items f)))

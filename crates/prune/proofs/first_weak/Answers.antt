@@ -1,19 +1,18 @@
 -- `prune::first_weak` meets its contract. The invariant: the points passed have three edges or more.
-use Prim.Native.Nat.{◌-◌}
 use native.Mathlib.Omega.{arith}
 use Rattle.prune.proofs.Weak.{strong_none, strong_more, strong_found, strong_end}
 use Rattle.prune.proofs.first_weak.Goals as goal
 
 pub loop-j-init : goal.loop-j-init
-loop-j-init c = strong_none _ _ _ _
+loop-j-init c = strong_none _ _ _
 
 pub returns-then-degree_of-le2 : goal.returns-then-degree_of-le2
-returns-then-degree_of-le2 c = let given = c.requires in
-    strong_found _ _ _ _ _ _ _ c.loop-j.invariant (omega arith) given.2 c.index_of-i.ensures c.degree_of.ensures (omega arith)
+returns-then-degree_of-le2 c =
+    strong_found _ _ _ _ _ _ c.loop-j.invariant (omega arith) c.index_of.ensures c.degree_of.ensures (omega arith)
 
 pub loop-j-preserved : goal.loop-j-preserved
-loop-j-preserved c = let given = c.requires in
-    strong_more _ _ _ _ _ _ _ c.loop-j.invariant (omega arith) given.2 c.index_of-i.ensures c.degree_of.ensures (omega arith)
+loop-j-preserved c =
+    strong_more _ _ _ _ _ _ c.loop-j.invariant (omega arith) c.index_of.ensures c.degree_of.ensures (omega arith)
 
 pub returns : goal.returns
-returns c = strong_end _ _ _ _ _ c.loop-j.invariant c.loop-j-test.false c.requires.2
+returns c = strong_end _ _ _ _ c.loop-j.invariant (omega arith)

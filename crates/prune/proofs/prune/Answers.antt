@@ -11,35 +11,31 @@ use Rattle.prune.proofs.prune.Goals as goal
 pub arrange-w-requires : goal.arrange-w-requires
 arrange-w-requires c = c.requires
 
-pub lowest_weak-j-requires : goal.lowest_weak-j-requires
-lowest_weak-j-requires c = c.arrange-w.ensures.0
-
 pub loop-j-init : goal.loop-j-init
-loop-j-init c = sweeping_start _ _ _ (c.arrange-w.ensures.0, refl) c.lowest_weak-j.ensures
+loop-j-init c = sweeping_start _ c.arrange-w.result _ refl c.lowest_weak-j.ensures
 
 pub bounds-steiner-j : goal.bounds-steiner-j
 bounds-steiner-j c = let l = c.loop-j in
-    omega (arith, l.invariant.in_order.arranged.steiner_codes.few, l.invariant.in_order.arranged.steiner_codes.size)
+    omega (arith, l.w.in_order.arranged.steiner_codes.few, l.w.in_order.arranged.steiner_codes.size)
 
 pub without_steiner-requires : goal.without_steiner-requires
 without_steiner-requires c = let l = c.loop-j in
-    record { arranged = l.invariant.in_order.arranged; t = sweeping_code _ _ _ l.invariant _ c.loop-j-test.true refl }
+    record { arranged = l.w.in_order.arranged; t = sweeping_code _ l.w _ l.invariant _ c.loop-j-test.true refl }
 
 pub arrange-w-requires-in-loop-j : goal.arrange-w-requires-in-loop-j
 arrange-w-requires-in-loop-j c = c.without_steiner.ensures.0
 
-pub lowest_weak-j-requires-in-loop-j : goal.lowest_weak-j-requires-in-loop-j
-lowest_weak-j-requires-in-loop-j c = c.arrange-w-in-loop-j.ensures.0
-
 pub loop-j-smaller : goal.loop-j-smaller
-loop-j-smaller c = let kept : c.arrange-w-in-loop-j.result.points ≡ c.without_steiner.result = c.arrange-w-in-loop-j.ensures.1 in
+loop-j-smaller c = let kept : c.arrange-w-in-loop-j.result.points ≡ c.without_steiner.result = c.arrange-w-in-loop-j.ensures in
     let same : c.arrange-w-in-loop-j.result.points.nsteiner ≡ c.without_steiner.result.nsteiner = λ i. (kept i).nsteiner in
-    omega (arith, same, sweeping_less _ _ _ c.loop-j.invariant _ c.loop-j-test.true refl _ c.without_steiner.ensures)
+    omega (arith, same, sweeping_less _ c.loop-j.w _ c.loop-j.invariant _ c.loop-j-test.true refl _ c.without_steiner.ensures)
 
 pub loop-j-preserved : goal.loop-j-preserved
-loop-j-preserved c = sweeping_more _ _ _ c.loop-j.invariant _ c.loop-j-test.true refl _ c.without_steiner.ensures _ _ c.arrange-w-in-loop-j.ensures
+loop-j-preserved c = sweeping_more _ c.loop-j.w _ c.loop-j.invariant _ c.loop-j-test.true refl _ c.without_steiner.ensures
+    c.arrange-w-in-loop-j.result _ c.arrange-w-in-loop-j.ensures
     c.lowest_weak-j-in-loop-j.ensures
 
 pub returns : goal.returns
-returns c = let swept = sweeping_end _ _ _ c.loop-j.invariant c.loop-j-test.false in
-    (swept.0, swept.1 ∙ ap (λ (q : Points). prune (state_of q)) c.arrange-w.ensures.1)
+returns c =
+    sweeping_end _ c.loop-j.w _ c.loop-j.invariant c.loop-j-test.false
+    ∙ ap (λ (q : Points). prune (state_of q)) c.arrange-w.ensures

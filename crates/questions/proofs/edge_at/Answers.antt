@@ -4,14 +4,13 @@ use Rattle.questions.proofs.Answers.{no_edge, edge-there}
 use Rattle.questions.proofs.edge_at.Goals as goal
 
 pub returns-then-d-i : goal.returns-then-d-i
-returns-then-d-i c = no_edge _ _ c.requires.in_order _ c.if-d-i.true
+returns-then-d-i c = no_edge _ c.args.d.form _ c.if-d-i.true
 
 pub edge_at-requires : goal.edge_at-requires
 edge_at-requires c = record {
-  in_order = c.requires.in_order;
   ends_value = c.edge_numbers-ends.ensures;
   i_lt_nkeys = c.if-d-i.false;
-  tail_le_longest_tail = c.requires.valid_contents.tailed;
+  tail_le_longest_tail = c.requires.tailed;
 }
 
 pub returns : goal.returns

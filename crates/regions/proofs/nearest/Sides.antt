@@ -22,10 +22,6 @@ rows_none p =
       near = λ t r h. record { is = inl (omega (arith, p.none (side_offset t + r))); least = λ i l. absurd (omega arith) };
     }
 
-pub rows_end : {xs gaps ranks : List ℕ} {x j n count : ℕ} {least : List ℕ} → j ≤ n → n ≤ j → AtRows xs gaps ranks x j count least
-    → AtRows xs gaps ranks x n count least
-rows_end {j = j} {n = n} h l q = let e : j ≡ n = omega arith in rw (← e) q
-
 module _ {rayOf : ℕ → ℕ} {Inside : ℕ → Type 0} {j : ℕ} where
   -- The same ray, found before.
   later : {k k' : ℕ} → k' ≡ k → (k ≡ far_ray) ⊎ ((i : ℕ) × (i < j) × Inside i × (k ≡ rayOf i))

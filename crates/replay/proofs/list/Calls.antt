@@ -48,7 +48,3 @@ pub one_more : (l : List ℕ) (d : Deck) {next then : Deck} (i : ℕ) → next �
 unfolding first_calls
 one_more l d i r e =
     rw add-one (e ∙ ap (λ (z : Deck). deck_after z (call_at l (i * 12))) r ∙ sym (after_both (first_calls i l) (call_at l (i * 12)) d))
-
-pub all_made : (l : List ℕ) (d : Deck) {next : Deck} (i n : ℕ) → (i ≤ n) × (next ≡ deck_after d (first_calls i l)) → n ≤ i
-    → next ≡ deck_after d (first_calls n l)
-all_made l d i n r h = let e : i ≡ n = omega (arith, r.0) in rw e at r.1

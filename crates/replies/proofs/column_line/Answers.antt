@@ -6,12 +6,12 @@ use Rattle.arrays.proofs.paste.Parts.{pasted_same}
 use Rattle.replies.specs.Replies.{candidate_text, column_text}
 use Rattle.replies.proofs.column_line.Goals as goal
 
-pub returns-in-Nothing : goal.returns-in-Nothing
+pub returns-in-None : goal.returns-in-None
 unfolding column_text
-returns-in-Nothing c = pasted_same (sym (ap column_text c.in-Nothing.is)) c.put_bytes.ensures
+returns-in-None c = pasted_same (sym (ap column_text c.in-None.is)) c.put_items.ensures
 
-pub returns-in-Candidate : goal.returns-in-Candidate
+pub returns-in-Some : goal.returns-in-Some
 unfolding column_text
-returns-in-Candidate c = pasted_same (sym (ap column_text c.in-Candidate.is))
+returns-in-Some c = pasted_same (sym (ap column_text c.in-Some.is))
     (pasted_same (read-three candidate_text _ _ _ (search rules) (search rules) (search rules))
     c.candidate_line.ensures)

@@ -4,4 +4,4 @@ use Rattle.arrays.proofs.paste.Parts.{pasted_then}
 use Rattle.replies.proofs.numbers_line.Goals as goal
 
 pub returns : goal.returns
-returns c = pasted_then c.put_bytes-next.ensures (omega arith) c.number_fields.ensures.pasted
+returns c = pasted_then c.put_items-next.ensures (omega arith) c.number_fields.ensures.pasted

@@ -4,11 +4,8 @@ use Rattle.arrays.proofs.paste.Parts.{pasted_then}
 use Rattle.ascii.proofs.Signs.{field_again}
 use Rattle.replies.proofs.point_head.Goals as goal
 
-pub returns : goal.returns
-returns c = record {
-  pasted = pasted_then c.put_bytes-a.ensures (omega arith)
-      (pasted_then (field_again _ c.ranges.x c.signed_field-b.ensures.pasted) (omega arith)
-      (pasted_then (field_again _ c.ranges.y c.signed_field-c.ensures.pasted) (omega arith)
-      c.put_bytes.ensures));
-  upper_bound = omega arith;
-}
+pub returns-clause-pasted : goal.returns-clause-pasted
+returns-clause-pasted c =
+    pasted_then c.put_items-a.ensures (omega arith)
+    (pasted_then (field_again _ c.ranges.x c.signed_field-b.ensures.pasted) (omega arith)
+    (pasted_then (field_again _ c.ranges.y c.signed_field-c.ensures.pasted) (omega arith) c.put_items.ensures))

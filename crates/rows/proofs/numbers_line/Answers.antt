@@ -3,9 +3,7 @@ use native.Mathlib.Omega.{arith}
 use Rattle.arrays.proofs.paste.Parts.{pasted_then}
 use Rattle.rows.proofs.numbers_line.Goals as goal
 
-pub returns : goal.returns
-returns c = record {
-  pasted = pasted_then c.put_bytes-numbers.ensures (omega arith)
-      (pasted_then c.number_fields-end.ensures.pasted (omega arith) c.put_byte.ensures);
-  upper_bound = omega (arith, c.put_bytes-numbers.ensures.next);
-}
+pub returns-clause-pasted : goal.returns-clause-pasted
+returns-clause-pasted c =
+    pasted_then c.put_items-numbers.ensures (omega arith)
+    (pasted_then c.number_fields-end.ensures.pasted (omega arith) c.put_byte.ensures)

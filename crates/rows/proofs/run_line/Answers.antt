@@ -3,12 +3,9 @@ use native.Mathlib.Omega.{arith}
 use Rattle.arrays.proofs.paste.Parts.{pasted_then}
 use Rattle.rows.proofs.run_line.Goals as goal
 
-pub returns : goal.returns
-returns c = record {
-  pasted = pasted_then c.put_bytes-n.ensures (omega arith)
-      (pasted_then c.point_fields-p.ensures.pasted (omega arith)
-      (pasted_then c.point_fields-q.ensures.pasted (omega arith)
-      (pasted_then c.decimal_field-r.ensures.pasted (omega arith)
-      c.put_byte.ensures)));
-  upper_bound = omega arith;
-}
+pub returns-clause-pasted : goal.returns-clause-pasted
+returns-clause-pasted c =
+    pasted_then c.put_items-n.ensures (omega arith)
+    (pasted_then c.point_fields-p.ensures.pasted (omega arith)
+    (pasted_then c.point_fields-q.ensures.pasted (omega arith)
+    (pasted_then c.decimal_field-r.ensures.pasted (omega arith) c.put_byte.ensures)))

@@ -1,11 +1,8 @@
--- `rows::tap_lines` meets its contract. The invariant: the lines of the Steiner points passed are written.
-use Prim.Native.Nat.{◌-◌}
+-- `rows::tap_lines`: the lines of the Steiner points passed are written.
+use lib.ListN.{length}
 use Rattle.arrays.proofs.paste.Lines.{PutFirst}
 use Rattle.rows.proofs.Lines.{tap_text}
 use Rattle.rows.proofs.tap_lines.Given as goal
 
-abbrev pub invariant-loop-i : goal.invariant-loop-i
-invariant-loop-i l = PutFirst (tap_text l.codes) 18 l.n l.initial.out l.out l.at l.next l.i
-
-abbrev pub decreases-loop-i : goal.decreases-loop-i
-decreases-loop-i l = l.n - l.i
+abbrev pub invariant-loop-k : goal.invariant-loop-k
+invariant-loop-k l = PutFirst (tap_text l.codes) 18 (length l.codes) l.initial.out l.out l.at l.next l.k-index

@@ -2,12 +2,11 @@
 use Rattle.script.proofs.Lines.{word_missing, word_more, word_alone}
 use Rattle.script.proofs.with_file.Goals as goal
 
-pub returns-then-a-b : goal.returns-then-a-b
-returns-then-a-b c = word_missing _ _ _ _ c.next-w.ensures c.if-a-b.true
+pub returns-in_default : goal.returns-in_default
+returns-in_default c = word_missing _ c.in_default.ensures
 
-pub returns-then-c-d : goal.returns-then-c-d
-returns-then-c-d c = word_more _ _ _ _ c.next-w.ensures c.if-a-b.false _ _ c.next-x.ensures c.if-c-d.true
+pub returns-in-None : goal.returns-in-None
+returns-in-None c = word_alone c.in-Some.ensures c.in-None.ensures _ c.of_file.ensures
 
-pub returns : goal.returns
-returns c = word_alone _ _ _ _ c.next-w.ensures c.if-a-b.false _ _ c.next-x.ensures c.if-c-d.false _
-    c.of_file.ensures
+pub returns-in-Some-next : goal.returns-in-Some-next
+returns-in-Some-next c = word_more c.in-Some.ensures c.in-Some-next.ensures

@@ -1,10 +1,6 @@
 -- `search::pick` meets its contract. The invariant: from the best so far, the rows left give what the whole column gives.
-use Prim.Native.Nat.{◌-◌}
 use Rattle.search.proofs.Steps.{InColumn}
 use Rattle.search.proofs.pick.Given as goal
 
 abbrev pub invariant-loop-row : goal.invariant-loop-row
-invariant-loop-row l = InColumn l.table l.x l.rows l.count l.least l.initial.best l.best l.row
-
-abbrev pub decreases-loop-row : goal.decreases-loop-row
-decreases-loop-row l = l.count - l.row
+invariant-loop-row l = InColumn l.table l.x l.points.rows.now l.least l.initial.best l.best l.row

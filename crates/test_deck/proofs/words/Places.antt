@@ -3,8 +3,8 @@ use mathlib.Core.Path.{◌≡◌, sym, ap, ◌∙◌, subst}
 use mathlib.Core.List.{List, [], ◌∷◌, ◌++◌, append_assoc, append-nil}
 use Prim.Native.Nat.{ℕ, ◌+◌, ◌≤◌}
 use native.Mathlib.Omega.{arith}
-use lib.ListN.{length, take, drop, get_or, set, length-append, length-drop}
-use lib.Seq.{length-take-le, take_at, take_all, get_or_at, drop-length, drop-append-add, get_or-append-add}
+use lib.ListN.{length, take, drop, get_or, set, length-append}
+use lib.Seq.{take_at, take_all, get_or_at, drop-length, drop-append-add, get_or-append-add}
 use Rattle.arrays.specs.Paste.{Pasted}
 use Rattle.arrays.proofs.paste.Parts.{pasted_one, pasted_then, pasted_length, front_is}
 use Rattle.deck.specs.declared.Deck.{Deck}
@@ -15,11 +15,6 @@ use Rattle.test_deck.specs.Words.{deck_in, words_of}
 whole : {items before after : List ℕ} {r : ℕ} → Pasted items before after 0 r → length before ≡ length items → after ≡ items
 whole {items} {before} p h =
     front_is p ∙ ap (λ (k : ℕ). items ++ drop k before) (sym h) ∙ ap (λ (t : List ℕ). items ++ t) (drop-length before) ∙ append-nil items
-
--- A part of the words copied over a whole array.
-pub part_copied : {before after : List ℕ} {r : ℕ} (w : List ℕ) (at n : ℕ) → Pasted (take n (drop at w)) before after 0 r → at + n ≤ length w
-    → length before ≡ n → after ≡ take n (drop at w)
-part_copied w at n p h k = whole p (k ∙ sym (length-take-le n (drop at w) (omega (arith, length-drop at w))))
 
 -- One number behind what stands in the array.
 then_one : {items before after : List ℕ} {r : ℕ} (at n : ℕ) → Pasted items before after 0 r → length items ≡ at → at + 1 ≤ length before

@@ -54,11 +54,10 @@ keys_few_lem xs ys before keys m p f =
 -- What was worked out of the tree is what its length with a point more is measured by.
 pub tree-measured : (xs ys before keys table : List ℕ) (m plain : ℕ) → Points xs ys → Pasted (tree_keys (held xs ys) (length xs)) before keys 0 m
     → plain ≡ total weight (take m keys) → length table ≡ table_size → Bottlenecks (take m keys) (length xs) table
-    → Measured xs ys (length xs) table plain
+    → Measured xs ys table plain
 tree-measured xs ys before keys table m plain p f s size b =
     record {
-      in_xs = omega arith;
-      in_ys = omega (arith, p.same);
+      same = p.same;
       few = omega (arith, p.few);
       rises = p.rises;
       size = size;

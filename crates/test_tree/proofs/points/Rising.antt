@@ -4,14 +4,11 @@ use mathlib.Core.Bool.{Bool, true, false}
 use Prim.Native.Nat.{ℕ, ◌+◌, ◌-◌, ◌≤◌, ◌<◌}
 use native.Mathlib.Decide.{dec_lt}
 use native.Mathlib.Omega.{arith}
-use mathlib.Core.List.{List}
 use lib.Dec.{T}
-use lib.ListN.{length}
 use Rattle.plane.specs.Point.{Point, lower, Lower}
 use Rattle.plane.proofs.Order.{lower-order}
-use Rattle.keys.specs.Held.{held}
 use Rattle.tree.specs.Build.{Rises}
-use Rattle.test_tree.specs.Answers.{Says, Points}
+use Rattle.test_tree.specs.Answers.{Says}
 
 true_not_false : {b : Bool} {P : Type 0} → b ≡ true → b ≡ false → P
 true_not_false p q = absurd (subst T (sym p ∙ q) tt)
@@ -47,8 +44,3 @@ rises_more at i h r last j k l m = go (dec_lt k i) (dec_lt j (i - 1))
 -- A point that is not higher than the last.
 pub rises_not : (at : ℕ → Point) (n i : ℕ) → 1 ≤ i → i < n → lower (at (i - 1)) (at i) ≡ false → ¬ Rises at n
 rises_not at n i h l e r = subst T e (r (i - 1) i (omega arith) l)
-
--- Points of as many x as y, few enough: it is left whether they rise.
-pub points_say : (xs ys : List ℕ) (r : Bool) → length xs ≡ length ys → length xs ≤ 127 → Says (Rises (held xs ys) (length xs)) r → Says (Points xs ys) r
-points_say xs ys r e h s =
-    record { sure = λ t. record { same = e; few = h; rises = s.sure t }; never = λ f p. s.never f p.rises }

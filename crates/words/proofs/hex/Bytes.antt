@@ -5,8 +5,11 @@ use mathlib.Core.List.{List, [], ◌∷◌, ◌++◌}
 use Prim.Native.Nat.{ℕ, suc, ◌+◌, ◌*◌, ◌≤◌, ◌<◌}
 use native.Mathlib.Numerals.{add-one}
 use native.Mathlib.Omega.{arith}
-use lib.ListN.{length, take, drop, get_or, set, length-append, length-drop, drop_of_length-le}
+use native.Mathlib.Decide.{dec_le}
+use lib.ListN.{length, take, drop, get_or, set, length-append, length-drop}
 use lib.Seq.{drop-cons, drop-drop, get_or-drop, take-suc, take_all, length-take-le, set_at, append_snoc}
+use Rattle.std.proofs.Common.{Option, None, Some, MatchOption, min, ◌/◌}
+use Rattle.std.specs.Option.{IsSome}
 use Rattle.arrays.specs.Paste.{Pasted}
 use Rattle.arrays.proofs.paste.Parts.{front_of}
 use Rattle.words.specs.Hex.{digit_of, is_hex, pairs}
@@ -108,11 +111,30 @@ module _ (w before after : List ℕ) (i k : ℕ) (d : Decoded w before after i k
       let size : length (take (length before) (pairs w)) ≡ k = ap length e ∙ length-take-le k (pairs w) d.below in
       front_of (sym size) (d.shows ∙ ap₂ (λ (l : List ℕ) (n : ℕ). l ++ drop n before) (sym e) (sym size))
 
-  pub decoded_all : length w ≤ i → Pasted (take (length before) (pairs w)) before after 0 k
-  unfolding pairs
-  decoded_all h =
-      let all : length (pairs w) ≤ k = omega (arith, length-drop k (pairs w), ap length (d.left ∙ ap pairs (drop_of_length-le w {i = i} h))) in
-      ended (take_all (length before) (pairs w) (omega (arith, d.fits)) ∙ sym (take_all k (pairs w) all))
+length-pairs : (l : List ℕ) → length (pairs l) ≡ length l / 2
+unfolding pairs
+length-pairs [] = omega arith
+length-pairs (a ∷ []) = omega arith
+length-pairs (a ∷ b ∷ l) = omega (arith, length-pairs l)
 
-  pub decoded_full : length after ≤ k → Pasted (take (length before) (pairs w)) before after 0 k
-  decoded_full h = let e : length before ≡ k = omega (arith, same_length, d.fits) in ended (ap (λ (n : ℕ). take n (pairs w)) e)
+-- Every pair of digits is decoded, or there is no place left.
+pub decoded_all : (w before after : List ℕ) (k n : ℕ) → Decoded w before after (2 * k) k → n ≡ min (length before) (length w / 2) → k ≡ n
+    → Pasted (take (length before) (pairs w)) before after 0 n
+decoded_all w before after k n d e f =
+    subst (λ (m : ℕ). Pasted (take (length before) (pairs w)) before after 0 m) f
+    (ended w before after (2 * k) k d (go (dec_le (length before) (length (pairs w)))))
+  where
+    size : length (pairs w) ≡ length w / 2
+    size = length-pairs w
+
+    go : Dec (length before ≤ length (pairs w)) → take (length before) (pairs w) ≡ take k (pairs w)
+    go (yes h) = let m : length before ≡ k = omega (arith, size) in ap (λ (m : ℕ). take m (pairs w)) m
+    go (no h) = take_all (length before) (pairs w) (omega (arith, size)) ∙ sym (take_all k (pairs w) (omega (arith, size)))
+
+-- A byte that is a digit has a value, and what is unwrapped is this value.
+pub some_digit : (r : Option ℕ) (n : ℕ) → MatchOption r (n ≡ 16) (λ d. (d ≡ n) × (d < 16)) → n < 16 → IsSome r
+some_digit None n e h = absurd (omega arith)
+some_digit (Some d) n e h = refl
+
+pub digit_read : (r : Option ℕ) (n d : ℕ) → MatchOption r (n ≡ 16) (λ d. (d ≡ n) × (d < 16)) → r ≡ Some d → d ≡ n
+digit_read r n d e h = (subst (λ (o : Option ℕ). MatchOption o (n ≡ 16) (λ d. (d ≡ n) × (d < 16))) h e).0

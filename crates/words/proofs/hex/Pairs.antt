@@ -1,76 +1,43 @@
--- Pairs of hexadecimal digits: the value of a digit by the row that its byte is in, and the loops that test and that decode
--- pair after pair.
-use mathlib.Core.Path.{◌≡◌, refl, sym, ap, ◌∙◌}
+-- Pairs of hexadecimal digits: the test of all bytes of a word, and the pair that a word begins with.
+use mathlib.Core.Path.{◌≡◌, refl, sym, ◌∙◌}
 use mathlib.Core.Bool.{Bool, true, false, ◌&&◌}
 use mathlib.Core.List.{List, [], ◌∷◌}
-use Prim.Native.Nat.{ℕ, ◌+◌, ◌*◌, ◌-◌, ◌≤◌, ◌<◌}
+use Prim.Native.Nat.{ℕ, ◌+◌, ◌*◌, ◌%◌, ◌<◌}
 use native.Mathlib.Omega.{arith}
-use native.Mathlib.Decide.{dec_le}
-use lib.Dec.{leb, ltb}
-use lib.ListN.{length, drop, get_or, drop_of_length-le}
-use borrow.Author.Tests.{le-leb, lt-leb, lt-ltb, le-ltb, ltb-true}
+use lib.Dec.{ltb}
+use lib.ListN.{length, drop, get_or}
+use borrow.Author.Tests.{ltb-true, ne_eqb}
+use Rattle.std.specs.Char.{is_ascii_hexdigit}
+use Rattle.std.specs.List.{list_all}
+use Rattle.std.proofs.Common.{nat_eq}
+use Rattle.std.proofs.lemmas.Bool.Decides.{nat_tests}
 use Rattle.words.specs.Hex.{digit_of, is_hex, pairs}
-use Rattle.words.proofs.Words.{here}
 
-within : (a b c : ℕ) → a ≤ b → b ≤ c → (leb a b && leb b c) ≡ true
-within a b c h k = rw (le-leb a b h, le-leb b c k) refl
-
-outside : (a b c : ℕ) → (a ≤ b → c < b) → (leb a b && leb b c) ≡ false
-outside a b c h = go (dec_le a b)
-  where
-    go : Dec (a ≤ b) → (leb a b && leb b c) ≡ false
-    go (yes k) = rw (le-leb a b k, lt-leb b c (h k)) refl
-    go (no n) = rw (lt-leb a b (omega arith)) refl
-
-pub digit_decimal : (b : ℕ) → 48 ≤ b → b ≤ 57 → b - 48 ≡ digit_of b
+-- A digit by the library's test.
+hexdigit-is : (b : ℕ) → is_ascii_hexdigit b ≡ ltb (digit_of b) 16
 unfolding digit_of
-digit_decimal b h k = rw (within 48 b 57 h k) refl
+hexdigit-is b = grind (arith, nat_tests)
 
-pub digit_upper : (b : ℕ) → 65 ≤ b → b ≤ 70 → b - 65 + 10 ≡ digit_of b
-unfolding digit_of
-digit_upper b h k = rw (outside 48 b 57 (λ _. omega arith), within 65 b 70 h k) (omega arith)
-
-pub digit_lower : (b : ℕ) → 97 ≤ b → b ≤ 102 → b - 97 + 10 ≡ digit_of b
-unfolding digit_of
-digit_lower b h k = rw (outside 48 b 57 (λ _. omega arith), outside 65 b 70 (λ _. omega arith), within 97 b 102 h k) (omega arith)
-
-pub digit_none : (b : ℕ) → (48 ≤ b → 57 < b) → (65 ≤ b → 70 < b) → (97 ≤ b → 102 < b) → 16 ≡ digit_of b
-unfolding digit_of
-digit_none b h k m = rw (outside 48 b 57 h, outside 65 b 70 k, outside 97 b 102 m) refl
-
--- A digit's value that is not 16, as a byte that was computed.
-pub below16 : {r d : ℕ} → r ≡ d → r ≤ 16 → (r ≡ 16 → ⊥) → d < 16
-below16 e h n = omega arith
-
--- The test, pair after pair.
-module _ (w : List ℕ) (i : ℕ) (inv : is_hex w ≡ is_hex (drop i w)) (h : i < length w) where
-  abbrev a : ℕ
-  a = get_or w i 0
-
-  abbrev b : ℕ
-  b = get_or w (i + 1) 0
-
-  pub hex_odd : length w ≤ i + 1 → false ≡ is_hex w
-  unfolding is_hex
-  hex_odd k = sym (inv ∙ rw (here w i h, drop_of_length-le w {i = i + 1} k) refl)
-
-  module _ (k : i + 1 < length w) where
-    pair : is_hex w ≡ (ltb (digit_of a) 16 && (ltb (digit_of b) 16 && is_hex (drop (i + 1 + 1) w)))
-    unfolding is_hex
-    pair = inv ∙ rw (here w i h, here w (i + 1) k) refl
-
-    pub hex_first : digit_of a ≡ 16 → false ≡ is_hex w
-    hex_first e = sym (pair ∙ rw (le-ltb (digit_of a) 16 (omega arith)) refl)
-
-    pub hex_second : digit_of a < 16 → digit_of b ≡ 16 → false ≡ is_hex w
-    hex_second l e = sym (pair ∙ rw (lt-ltb (digit_of a) 16 l, le-ltb (digit_of b) 16 (omega arith)) refl)
-
-    pub hex_on : digit_of a < 16 → digit_of b < 16 → is_hex w ≡ is_hex (drop (i + 1 + 1) w)
-    hex_on l m = pair ∙ rw (lt-ltb (digit_of a) 16 l, lt-ltb (digit_of b) 16 m) refl
-
-pub hex_end : (w : List ℕ) (i : ℕ) → is_hex w ≡ is_hex (drop i w) → length w ≤ i → true ≡ is_hex w
+-- Pairs of digits are an even number of them.
+pub hex_even : (w : List ℕ) → length w % 2 ≡ 0 → list_all is_ascii_hexdigit w ≡ is_hex w
 unfolding is_hex
-hex_end w i inv h = sym (inv ∙ ap is_hex (drop_of_length-le w {i = i} h))
+hex_even [] e = refl
+hex_even (a ∷ []) e = absurd (omega arith)
+hex_even (a ∷ b ∷ l) e = rw (hexdigit-is a, hexdigit-is b, hex_even l (omega arith)) refl
+
+no_hex : (l : List ℕ) → ¬ (length l % 2 ≡ 0) → is_hex l ≡ false
+unfolding is_hex
+no_hex [] m = absurd (omega arith)
+no_hex (a ∷ []) m = refl
+no_hex (a ∷ b ∷ l) m = rw (no_hex l (λ e. m (omega arith))) (none (ltb (digit_of a) 16) (ltb (digit_of b) 16))
+  where
+    none : (p q : Bool) → (p && (q && false)) ≡ false
+    none true true = refl
+    none true false = refl
+    none false q = refl
+
+pub hex_odd : (w : List ℕ) → ¬ (length w % 2 ≡ 0) → nat_eq (length w % 2) 0 ≡ is_hex w
+hex_odd w n = ne_eqb (length w % 2) 0 n ∙ sym (no_hex w n)
 
 -- What is left of a word of pairs begins with a pair.
 pub record Pair (l : List ℕ) : Type 0 where

@@ -1,5 +1,4 @@
 -- `working::unpack` meets its contract. The invariant: the points of the codes passed are held.
-use Prim.Native.Nat.{◌-◌}
 use native.Mathlib.Omega.{arith}
 use Rattle.working.proofs.Held.{unpacked_none, unpacked_more}
 use Rattle.working.proofs.unpack.Goals as goal

@@ -6,4 +6,4 @@ use Rattle.arrows.proofs.text.number_line.Goals as goal
 
 pub returns-clause-pasted : goal.returns-clause-pasted
 unfolding number_line
-returns-clause-pasted c = pasted_then c.decimal-next.ensures.pasted (omega arith) c.put_byte.ensures
+returns-clause-pasted c = rw c.from.ensures at (pasted_then c.decimal-next.ensures.pasted (omega arith) c.put_byte.ensures)

@@ -6,10 +6,9 @@ use Rattle.buffer.proofs.file.put_parts.Goals as goal
 
 pub put_kinds-requires : goal.put_kinds-requires
 put_kinds-requires c =
-    let fit = kinds_fit c.requires.parts_fit c.args.kinds.now c.requires.n_in_bounds c.put_tree-fourth.ensures in
-    record { n_in_bounds = c.requires.n_in_bounds; kinds_in_bounds = omega (arith, fit, c.put_tree-fourth.auto.out) }
+    omega (arith, kinds_fit c.requires.parts_fit c.args.kinds.now c.requires.kinds_count c.put_tree-fourth.ensures, c.put_tree-fourth.auto.out)
 
 pub returns : goal.returns
 returns c =
-    let fit = kinds_fit c.requires.parts_fit c.args.kinds.now c.requires.n_in_bounds c.put_tree-fourth.ensures in
-    pasted_then c.put_tree-fourth.ensures (omega (arith, fit)) c.put_kinds.ensures
+    pasted_then c.put_tree-fourth.ensures
+    (omega (arith, kinds_fit c.requires.parts_fit c.args.kinds.now c.requires.kinds_count c.put_tree-fourth.ensures)) c.put_kinds.ensures

@@ -1,22 +1,24 @@
 -- `deckfile::reader::has_edges` meets its contract: as many edges as the tree has, and the same bytes.
-use mathlib.Core.Path.{◌≡◌, ◌∙◌}
-use native.Mathlib.Omega.{arith}
-use lib.ListN.{length}
-use Rattle.deckfile.proofs.reader.LastCheck.{third_within, edges_other, edges_same}
+use mathlib.Core.Path.{ap, ◌∙◌}
+use Prim.Native.Nat.{ℕ}
+use lib.ListN.{take, drop}
+use Rattle.arrays.specs.Same.{same_list}
+use Rattle.sections.specs.Bytes.{edge_bytes}
+use Rattle.deckfile.proofs.reader.LastCheck.{slice_long, third_within, edges_other, edges_same}
 use borrow.Author.Rules.{rules}
 use Rattle.deckfile.proofs.reader.has_edges.Goals as goal
 
-pub returns-then-size-w : goal.returns-then-size-w
-returns-then-size-w c = edges_other c.args.b.now c.requires.sections _ c.requires.in_order c.requires.valid _ c.size.ensures.0 c.if-size-w.true
+pub returns-then-n-w : goal.returns-then-n-w
+returns-then-n-w c = edges_other c.args.file.now.bytes.now c.args.file.now.sections c.args.w c.requires _ c.size-n.ensures.0 c.if-n-w.true
 
-pub same_edges-requires : goal.same_edges-requires
-same_edges-requires c = let ordered = c.requires.in_order in
-    let full : length c.edge_numbers-ends.result ≡ 128 = search rules in (
-      third_within _ c.requires.sections _ ordered c.requires.valid _ _ c.size.ensures.0 c.if-size-w.false c.offset.ensures.0,
-      omega (arith, full, ordered.keys_few),
-    )
+pub slice_bounds-same_edges-end : goal.slice_bounds-same_edges-end
+slice_bounds-same_edges-end c =
+    let h = third_within c.args.file.now.bytes.now c.args.file.now.sections c.args.w c.requires _ _ c.size-n.ensures.0 c.offset-at.ensures.0 in
+    search rules
 
 pub returns : goal.returns
 returns c = c.same_edges.ensures
-    ∙ edges_same c.args.b.now c.requires.sections _ c.requires.in_order c.requires.valid _ _ _ c.size.ensures.0 c.if-size-w.false
-    c.offset.ensures.0 c.edge_numbers-ends.ensures
+    ∙ ap (λ (z : ℕ). same_list (take z (drop c.offset-at.result c.args.file.now.bytes.now)) (edge_bytes (take c.args.w.nkeys c.edge_numbers-ends.result)))
+    (slice_long c.offset-at.result c.size-n.result)
+    ∙ edges_same c.args.file.now.bytes.now c.args.file.now.sections c.args.w c.requires _ _ _ c.size-n.ensures.0 c.offset-at.ensures.0
+    c.edge_numbers-ends.ensures

@@ -1,63 +1,36 @@
 -- `deckfile::reader::working_of_file` meets its contract: one test after the other.
-use mathlib.Core.Path.{sym, ◌∙◌}
-use native.Mathlib.Omega.{arith}
-use borrow.Author.Tests.{not-true, not-false}
-use Rattle.deckfile.proofs.reader.LastCheck.{read_as, found_valid, found_state, last_many, last-invalid, last-plain, last_other, last_same}
+use Rattle.arrays.proofs.Test.{of_true}
+use Rattle.deckfile.proofs.Checks.{passed, failed}
+use Rattle.deckfile.proofs.reader.LastCheck.{read_as, refused_by, form_valid, last_many, last-invalid, last-plain, last_other, last_same}
 use Rattle.deckfile.proofs.reader.working_of_file.Goals as goal
+use Rattle.deckfile.proofs.reader.working_of_file.Goals.{else-not-is_plain-via-then-not-is_plain+else-not-has_edges, else-not-is_plain-via-else-not-is_plain}
 
 pub returns-then-size-gt-STEINER_ROOM : goal.returns-then-size-gt-STEINER_ROOM
-returns-then-size-gt-STEINER_ROOM c = read_as (last_many c.args.b.now c.requires.sections c.requires.t _ c.size.ensures.0 c.if-size-gt-STEINER_ROOM.true)
-    c.refuse.ensures
+returns-then-size-gt-STEINER_ROOM c = refused_by c.refuse.ensures
+    (last_many c.args.file.now.bytes.now c.args.file.now.sections (of_true c.requires.passes) _ c.size.ensures.0 c.if-size-gt-STEINER_ROOM.true)
 
-pub points_working-c-requires : goal.points_working-c-requires
-points_working-c-requires c = record {
-  sections = c.requires.sections;
-  decodes = c.requires.decodes;
-  t = c.requires.t;
-  b_bound = omega (arith, c.size.ensures.0);
-}
-
-pub returns-then-not-c : goal.returns-then-not-c
-returns-then-not-c c = let invalid = not-true _ c.if-not-c.true in
-    read_as (last-invalid c.args.b.now c.requires.sections c.requires.t c.requires.few_pins _ c.points_working-c.ensures
-    invalid) c.refuse-then-not-c.ensures
-
-pub with_kinds-requires : goal.with_kinds-requires
-with_kinds-requires c = let ok = not-false _ c.if-not-c.false in
-    record {
-      sections = c.requires.sections;
-      in_order = (found_valid c.args.b.now c.requires.sections c.requires.t c.requires.few_pins _ c.points_working-c.ensures ok).0;
-      w_value = found_state c.args.b.now c.requires.sections c.requires.t c.requires.few_pins _ c.points_working-c.ensures ok;
-    }
-
-pub returns-then-is_plain : goal.returns-then-is_plain
-returns-then-is_plain c = read_as
-    (last-plain c.args.b.now c.requires.sections c.requires.t c.requires.few_pins _ c.points_working-c.ensures
-    (sym c.is_plain.ensures ∙ c.if-is_plain.true)) c.with_kinds.ensures
+pub returns-in_default : goal.returns-in_default
+returns-in_default c = refused_by c.refuse-in_default.ensures
+    (last-invalid c.args.file.now.bytes.now c.args.file.now.sections (of_true c.requires.passes) c.args.file.now.few_pins c.in_default.ensures)
 
 pub has_edges-requires : goal.has_edges-requires
-has_edges-requires c = let valid = found_valid c.args.b.now c.requires.sections c.requires.t c.requires.few_pins _ c.points_working-c.ensures
-    (not-false _ c.if-not-c.false) in
-    record { sections = c.requires.sections; in_order = valid.0; valid = valid.1 }
+has_edges-requires c = form_valid c.args.file.now.bytes.now c.args.file.now.sections (of_true c.requires.passes) _ c.in-Some.ensures
 
 pub returns-then-not-has_edges : goal.returns-then-not-has_edges
-returns-then-not-has_edges c = read_as
-    (last_other c.args.b.now c.requires.sections c.requires.t c.requires.few_pins _ c.points_working-c.ensures
-    (not-false _ c.if-not-c.false)
-    (sym c.is_plain.ensures ∙ c.if-is_plain.false) (sym c.has_edges.ensures ∙ c.if-not-has_edges.true))
-    c.refuse-then-not-has_edges.ensures
-
-pub with_kinds-requires-2 : goal.with_kinds-requires-2
-with_kinds-requires-2 c = let ok = not-false _ c.if-not-c.false in
-    record {
-      sections = c.requires.sections;
-      in_order = (found_valid c.args.b.now c.requires.sections c.requires.t c.requires.few_pins _ c.points_working-c.ensures ok).0;
-      w_value = found_state c.args.b.now c.requires.sections c.requires.t c.requires.few_pins _ c.points_working-c.ensures ok;
-    }
+returns-then-not-has_edges c = refused_by c.refuse-then-not-has_edges.ensures
+    (last_other c.args.file.now.bytes.now c.args.file.now.sections (of_true c.requires.passes) _ c.in-Some.ensures
+    (failed c.is_plain.ensures c.if-not-is_plain.true) (failed c.has_edges.ensures c.if-not-has_edges.true))
 
 pub returns : goal.returns
-returns c = read_as
-    (last_same c.args.b.now c.requires.sections c.requires.t c.requires.few_pins _ c.points_working-c.ensures
-    (not-false _ c.if-not-c.false)
-    (sym c.is_plain.ensures ∙ c.if-is_plain.false) (sym c.has_edges.ensures ∙ c.if-not-has_edges.false))
-    c.with_kinds-2.ensures
+returns c =
+    elim c.else-not-is_plain.branch [
+      | else-not-is_plain-via-then-not-is_plain+else-not-has_edges w ↦
+          read_as _
+          (last_same c.args.file.now.bytes.now c.args.file.now.sections (of_true c.requires.passes) _ c.in-Some.ensures
+          (failed c.is_plain.ensures w.if-not-is_plain.true) (passed w.has_edges.ensures w.if-not-has_edges.false))
+          c.with_kinds.ensures
+      | else-not-is_plain-via-else-not-is_plain w ↦
+          read_as _
+          (last-plain c.args.file.now.bytes.now c.args.file.now.sections (of_true c.requires.passes) (passed c.is_plain.ensures w.if-not-is_plain.false))
+          c.with_kinds.ensures
+    ]

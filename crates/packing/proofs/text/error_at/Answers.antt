@@ -4,4 +4,4 @@ use Rattle.arrays.proofs.paste.Parts.{pasted_then}
 use Rattle.packing.proofs.text.error_at.Goals as goal
 
 pub returns : goal.returns
-returns c = pasted_then c.line_head-next.ensures.pasted (omega (arith, c.line_head-next.ensures.upper_bound)) c.put_bytes.ensures
+returns c = pasted_then c.line_head-next.ensures.pasted (omega (arith, c.line_head-next.ensures.upper_bound)) c.put_items.ensures

@@ -5,7 +5,7 @@ use lib.Dec.{T}
 use Rattle.plane.specs.Point.{coordinate_in_range}
 use Rattle.plane.specs.Coordinate.{stored_of}
 use Rattle.plane.specs.Code.{packed, code}
-use Rattle.plane.specs.declared.codes.Located.TheVariants.{At}
+use Rattle.std.specs.Prelude.{Some}
 use Rattle.arrays.proofs.Signed.{read_one}
 use Rattle.arrays.proofs.Test.{and_parts, of_true}
 use Rattle.plane.proofs.codes.Points.{located_in, located-out}
@@ -21,7 +21,7 @@ pub returns-then-is_in_range : goal.returns-then-is_in_range
 unfolding code
 returns-then-is_in_range c = let x = c.stored.ensures ∙ read_one stored_of c.ranges.x in
     let y = c.stored-then-is_in_range.ensures ∙ read_one stored_of c.ranges.y in
-    ap At (c.pack.ensures.0 ∙ ap₂ packed x y) ∙ sym (located_in (record { x = c.args.x; y = c.args.y })
+    ap Some (c.pack.ensures.0 ∙ ap₂ packed x y) ∙ sym (located_in (record { x = c.args.x; y = c.args.y })
     ((let x = c.is_in_range.ensures ∙ read_one coordinate_in_range c.ranges.x in sym
     (ap₂ ◌&&◌ x (c.is_in_range-2.ensures ∙ read_one coordinate_in_range c.ranges.y))) ∙ c.if-is_in_range.true))
 

@@ -3,5 +3,5 @@ use Rattle.points.proofs.change.Joins.{with_pin_lem}
 use Rattle.points.proofs.change.with_pin.Goals as goal
 
 pub returns : goal.returns
-returns c = with_pin_lem _ c.requires.arranged _ c.requires.t _ _ _ _ c.requires.npins_lt_max_pins c.put-npins.ensures c.put-npins.auto.a c.out-nsteiner.ensures
-    c.out-nsteiner.auto.a
+returns c = with_pin_lem _ c.requires.arranged _ c.requires.t _ _ _ _ c.requires.npins_lt_max_pins c.put.ensures c.put.auto.a c.out.ensures
+    c.out.auto.a

@@ -3,4 +3,4 @@ use Rattle.points.proofs.change.Joins.{with_steiner_lem}
 use Rattle.points.proofs.change.with_steiner.Goals as goal
 
 pub returns : goal.returns
-returns c = with_steiner_lem _ c.requires.arranged _ c.requires.t _ _ c.requires.nsteiner_bound c.requires.fact c.put-nsteiner.ensures c.put-nsteiner.auto.a
+returns c = with_steiner_lem _ c.requires.arranged _ c.requires.t _ _ c.requires.nsteiner_bound c.requires.fact c.put.ensures c.put.auto.a

@@ -5,7 +5,7 @@ use Rattle.prune.proofs.change.with_steiner.Goals as goal
 
 pub with_steiner-requires : goal.with_steiner-requires
 with_steiner-requires c = record {
-  arranged = c.requires.in_order.arranged;
+  arranged = c.args.w.in_order.arranged;
   t = c.requires.t;
   nsteiner_bound = c.requires.nsteiner_bound;
   fact = c.requires.fact;
@@ -16,4 +16,4 @@ prune-requires c = c.with_steiner.ensures.0
 
 pub returns : goal.returns
 unfolding insert remove
-returns c = (c.prune.ensures.0, c.prune.ensures.1 ∙ ap prune c.with_steiner.ensures.1)
+returns c = c.prune.ensures ∙ ap prune c.with_steiner.ensures.1

@@ -1,10 +1,7 @@
 -- `regions::rows::rank` meets its contract. The invariant: the rows passed are below y.
-use Prim.Native.Nat.{ℕ, ◌-◌, ◌≤◌, ◌<◌}
+use Prim.Native.Nat.{ℕ, ◌<◌}
 use lib.ListN.{get_or}
 use Rattle.regions.proofs.rows.rank.Given as goal
 
 abbrev pub invariant-loop-r : goal.invariant-loop-r
-invariant-loop-r l = (l.r ≤ l.count) × ((q : ℕ) → q < l.r → get_or l.rows q 0 < l.y)
-
-abbrev pub decreases-loop-r : goal.decreases-loop-r
-decreases-loop-r l = l.count - l.r
+invariant-loop-r l = (q : ℕ) → q < l.r → get_or l.rows q 0 < l.y

@@ -3,25 +3,25 @@ use mathlib.Core.Path.{◌∙◌}
 use Rattle.sections.proofs.edges.Bytes.{edges_none, edges_more, edges_fail_first, edges_fail_second, edges_end}
 use native.Mathlib.Omega.{arith}
 use Rattle.sections.proofs.edges.same_edges.Goals as goal
+use Rattle.sections.proofs.edges.same_edges.Goals.{then-from-edge-via-then-from-edge, then-from-edge-via-else-from-edge+then-from-edge-2}
 
 pub loop-i-init : goal.loop-i-init
-loop-i-init c = let given = c.requires in
-    edges_none _ _ _ _ given.0 given.1
+loop-i-init c = edges_none _ _ c.requires
 
-pub returns-then-wide-k : goal.returns-then-wide-k
-returns-then-wide-k c = let given = c.requires in
-    edges_fail_first _ _ _ _ given.0 given.1 _ c.loop-i.invariant (omega arith)
-    (λ e. c.if-wide-k.true (c.wide.ensures.0 ∙ e))
-
-pub returns-then-wide-k-2 : goal.returns-then-wide-k-2
-returns-then-wide-k-2 c = let given = c.requires in
-    edges_fail_second _ _ _ _ given.0 given.1 _ c.loop-i.invariant (omega arith) (omega arith)
-    (λ e. c.if-wide-k-2.true (c.wide-in-loop-i.ensures.0 ∙ e))
+pub returns-then-from-edge : goal.returns-then-from-edge
+returns-then-from-edge c =
+    elim c.then-from-edge.branch [
+      | then-from-edge-via-then-from-edge w ↦
+          edges_fail_first _ _ c.requires _ c.loop-i.invariant c.loop-i-test.true (λ e. w.if-from-edge.true (c.from.ensures ∙ e))
+      | then-from-edge-via-else-from-edge+then-from-edge-2 w ↦
+          edges_fail_second _ _ c.requires _ c.loop-i.invariant c.loop-i-test.true (omega (arith, c.from.ensures, w.if-from-edge.false))
+          (λ e. w.if-from-edge-2.true (w.from-else-from-edge.ensures ∙ e))
+    ]
 
 pub loop-i-preserved : goal.loop-i-preserved
-loop-i-preserved c = let given = c.requires in
-    edges_more _ _ _ _ given.0 given.1 _ c.loop-i.invariant (omega arith) (omega arith) (omega arith)
+loop-i-preserved c =
+    edges_more _ _ c.requires _ c.loop-i.invariant c.loop-i-test.true (omega (arith, c.from.ensures, c.if-from-edge.false))
+    (omega (arith, c.from-else-from-edge.ensures, c.if-from-edge-2.false))
 
 pub returns : goal.returns
-returns c = let given = c.requires in
-    edges_end _ _ _ _ given.0 given.1 _ c.loop-i.invariant c.loop-i-test.false
+returns c = edges_end _ _ c.requires c.loop-i.invariant c.loop-i-test.false

@@ -1,47 +1,26 @@
--- `words::hex::decode` meets its contract. The invariant: the bytes of the digits before place i are written, k of them.
--- The measure: how many places are left.
+-- `words::hex::decode` meets its contract. The invariant: the bytes of the first k pairs of digits are written.
+use mathlib.Core.Path.{◌≡◌, subst}
+use Prim.Native.Nat.{ℕ, ◌+◌, ◌*◌}
 use native.Mathlib.Omega.{arith}
-use Rattle.words.proofs.hex.Bytes as decoding
-use Rattle.words.proofs.hex.Bytes.{step_at, decoded_none, decoded_more, decoded_all, decoded_full}
+use lib.ListN.{set}
+use Rattle.words.proofs.hex.Bytes.{step_at, Decoded, decoded_none, decoded_more, decoded_all, some_digit, digit_read}
 use Rattle.words.proofs.hex.decode.Goals as goal
 
 pub loop-k-init : goal.loop-k-init
 loop-k-init c = decoded_none _ _ c.requires
 
-pub shape_of-out-then-word-i : goal.shape_of-out-then-word-i
-shape_of-out-then-word-i c = let l = c.loop-k in decoding.same_length _ _ _ l.i l.k l.invariant
+pub unwrap-high-requires : goal.unwrap-high-requires
+unwrap-high-requires c = some_digit _ _ c.digit.ensures (step_at c.args.word.now (2 * c.loop-k.k) (omega arith) c.loop-k.invariant.hex).high
 
-pub returns-then-word-i : goal.returns-then-word-i
-returns-then-word-i c = let l = c.loop-k in decoded_all _ _ _ l.i l.k l.invariant c.if-word-i.true
-
-pub overflow_add-i : goal.overflow_add-i
-overflow_add-i c = let s = step_at c.args.word.now c.loop-k.i c.if-word-i.false c.loop-k.invariant.hex in
-    omega (arith, s.long)
-
-pub bounds-word-i-in-loop-k : goal.bounds-word-i-in-loop-k
-bounds-word-i-in-loop-k c = let s = step_at c.args.word.now c.loop-k.i c.if-word-i.false c.loop-k.invariant.hex in
-    omega (arith, s.long)
-
-pub overflow_mul-out : goal.overflow_mul-out
-overflow_mul-out c = let s = step_at c.args.word.now c.loop-k.i c.if-word-i.false c.loop-k.invariant.hex in
-    omega (arith, s.high, c.digit-high.ensures.value)
-
-pub overflow_add-out : goal.overflow_add-out
-overflow_add-out c = let s = step_at c.args.word.now c.loop-k.i c.if-word-i.false c.loop-k.invariant.hex in
-    omega (arith, s.high, s.low, c.digit-high.ensures.value, c.digit-low.ensures.value)
-
-pub loop-k-smaller : goal.loop-k-smaller
-loop-k-smaller c = let s = c.args in
-    let e = decoding.same_length s.word.now s.out.now c.loop-k.out c.loop-k.i c.loop-k.k c.loop-k.invariant in
-    omega arith
+pub unwrap-low-requires : goal.unwrap-low-requires
+unwrap-low-requires c = some_digit _ _ c.digit-in-loop-k.ensures (step_at c.args.word.now (2 * c.loop-k.k) (omega arith) c.loop-k.invariant.hex).low
 
 pub loop-k-preserved : goal.loop-k-preserved
 loop-k-preserved c = let l = c.loop-k in
-    decoded_more _ _ _ l.i l.k l.invariant _ _ c.digit-high.ensures.value c.digit-low.ensures.value c.if-word-i.false
-    c.loop-k-test.true
-
-pub shape_of-out : goal.shape_of-out
-shape_of-out c = let l = c.loop-k in decoding.same_length _ _ _ l.i l.k l.invariant
+    let next : 2 * l.k + 2 ≡ 2 * (l.k + 1) = omega arith in
+    subst (λ (n : ℕ). Decoded c.args.word.now c.args.out.now (set l.out l.k (16 * c.unwrap-high.result + c.unwrap-low.result)) n (l.k + 1)) next
+    (decoded_more _ _ _ (2 * l.k) l.k l.invariant _ _ (digit_read _ _ _ c.digit.ensures c.unwrap-high.ensures)
+    (digit_read _ _ _ c.digit-in-loop-k.ensures c.unwrap-low.ensures) (omega arith) (omega arith))
 
 pub returns : goal.returns
-returns c = let l = c.loop-k in decoded_full _ _ _ l.i l.k l.invariant c.loop-k-test.false
+returns c = decoded_all c.args.word.now c.args.out.now c.loop-k.out c.loop-k.k c.min-count.result c.loop-k.invariant (omega arith) (omega arith)

@@ -1,12 +1,7 @@
--- `words::hex::decode` meets its contract. The invariant: the bytes of the digits before place i are written, k of them.
--- The measure: how many places are left.
-use Prim.Native.Nat.{◌-◌}
-use lib.ListN.{length}
+-- `words::hex::decode` meets its contract. The invariant: the bytes of the first k pairs of digits are written.
+use Prim.Native.Nat.{◌*◌}
 use Rattle.words.proofs.hex.Bytes.{Decoded}
 use Rattle.words.proofs.hex.decode.Given as goal
 
 abbrev pub invariant-loop-k : goal.invariant-loop-k
-invariant-loop-k l = Decoded l.word l.initial.out l.out l.i l.k
-
-abbrev pub decreases-loop-k : goal.decreases-loop-k
-decreases-loop-k l = length l.initial.out - l.k
+invariant-loop-k l = Decoded l.word l.initial.out l.out (2 * l.k) l.k

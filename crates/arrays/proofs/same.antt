@@ -1,2 +1,0 @@
--- Laws of the comparison of slices.
-pub mod Alike

@@ -1,2 +1,0 @@
--- What the proofs of a file in hexadecimal and of joined lines use.
-pub mod Text

@@ -1,9 +1,0 @@
--- `ascii::line::error_line` meets its contract: without room nothing is written, and with room the one word.
-use Rattle.ascii.proofs.Room.{front_none, front-put}
-use Rattle.ascii.proofs.line.error_line.Goals as goal
-
-pub returns-then-out-lt-LINE_ROOM : goal.returns-then-out-lt-LINE_ROOM
-returns-then-out-lt-LINE_ROOM c = front_none 128 _ _ c.if-out-lt-LINE_ROOM.true
-
-pub returns : goal.returns
-returns c = front-put 128 _ _ _ _ c.if-out-lt-LINE_ROOM.false c.put_bytes.ensures

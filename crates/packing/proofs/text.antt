@@ -1,2 +1,0 @@
--- What the proofs of the texts use.
-pub mod Texts
