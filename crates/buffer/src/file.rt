@@ -23,7 +23,7 @@ pub fn length_for(n: usize, m: usize, bare: bool) -> usize
 }
 
 // Puts the header of the file of n pins, m Steiner points and e edges. Returns the place behind it.
-fn put_file_header(n: usize, m: usize, e: usize, bare: bool, out: &mut [u8]) -> usize
+pub fn put_file_header(n: usize, m: usize, e: usize, bare: bool, out: &mut [u8]) -> usize
     requires bare_in_bounds { header_size (length (sizes_of n m e bare)) ≤ length out.old }
     requires n_le_max_pins { (n ≤ max_pins) × (m ≤ max_steiner) × (e ≤ max_pins + max_steiner) }
     ensures { Pasted (header (sizes_of n m e bare)) out.old out.new 0 result }
@@ -41,7 +41,7 @@ fn put_file_header(n: usize, m: usize, e: usize, bare: bool, out: &mut [u8]) -> 
 // Stays: `bare` beside the kinds, and no Option of them: `kind_sections` and `sizes_of` of the model take the test, and so do the length and
 // the header, which have no kinds.
 // Puts these kinds from place `at` on, or nothing where all pins are sensors. Returns the place behind them.
-fn put_kinds(kinds: &[u8], bare: bool, out: &mut [u8], at: usize) -> usize
+pub fn put_kinds(kinds: &[u8], bare: bool, out: &mut [u8], at: usize) -> usize
     requires { at + length (flatten (kind_sections bare kinds.now)) ≤ length out.old }
     ensures { Pasted (flatten (kind_sections bare kinds.now)) out.old out.new at result }
 {

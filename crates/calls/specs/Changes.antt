@@ -17,6 +17,14 @@ reply_of (call.answered finished) = Finished
 reply_of (call.answered (tap p fall)) = Tap p.x p.y fall
 reply_of (call.rounds n) = Rounds n
 
+-- The number of a refusal, and 0 for any other reply.
+unfoldable pub refusal_number : Reply → ℕ
+refusal_number Done = 0
+refusal_number (Refused n) = n
+refusal_number Finished = 0
+refusal_number (Tap x y fall) = 0
+refusal_number (Rounds n) = 0
+
 -- A refusal hands back the deck it was given.
 abbrev pub refusing : WorkingDeck → ℕ → Changed
 refusing d n = record { working = d; reply = Refused n }

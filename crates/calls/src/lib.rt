@@ -7,7 +7,7 @@ ghost use Rattle.model.specs.Call as call;
 ghost use Rattle.plane.specs.Code.{point_of, is_code};
 ghost use Rattle.working.specs.WorkingDeck.{contents_of};
 ghost use Rattle.refusals.specs.Refusals.{number_of};
-ghost use Rattle.calls.specs.Changes.{refusing, ChangedBy};
+ghost use Rattle.calls.specs.Changes.{refusal_number, refusing, ChangedBy};
 
 use plane::codes::locate;
 use points::MAX_PINS;
@@ -32,6 +32,17 @@ pub enum Reply {
 pub struct Changed {
     pub working: WorkingDeck,
     pub reply: Reply,
+}
+
+// Returns the number of a refusal, and 0 for any other reply.
+#[tactic(auto, unfolding(crate::specs::Changes::refusal_number))]
+pub fn refusal_number(r: Reply) -> u8
+    ensures { result ≡ refusal_number r }
+{
+    match r {
+        Reply::Refused(n) => n,
+        _ => 0,
+    }
 }
 
 // A refusal.

@@ -16,7 +16,7 @@ pub fn draw_file(file: &[u8], out: &mut [u8]) -> Printed
     if out.len() < PICTURE_ROOM {
         return Ok(0);
     }
-    match deckfile::read_working(file) {
+    match deckfile::take_file(file) {
         Ok(deck) => Ok(draw_working(deck, out)),
         Err(n) => Err(list_refusal(n, out)),
     }

@@ -2,16 +2,35 @@
 use Rattle.std.specs.Prelude.{◌≡◌, true, false, List, ℕ, Option, MatchOption, Result, MatchResult}
 use Rattle.arrays.specs.Test.{if}
 use Rattle.model.specs.State.{State, max_pins, valid}
+use Rattle.model.specs.Contents.{Contents, empty_contents}
 use Rattle.model.specs.File.{Read, deck, refusal, file_state, file_contents, holds_deck, shows_kinds, all_kinds}
 use Rattle.points.specs.Coded.{padded}
 use Rattle.working.specs.declared.Working.{Working}
 use Rattle.working.specs.declared.deck.WorkingDeck.{WorkingDeck}
-use Rattle.working.specs.InOrder.{state_of}
+use Rattle.working.specs.InOrder.{InOrder, state_of}
 use Rattle.working.specs.WorkingDeck.{contents_of}
+use Rattle.calls.specs.declared.Changed.{Changed}
+use Rattle.calls.specs.declared.Reply.{Reply}
+use Rattle.calls.specs.declared.Reply.TheVariants.{Done, Refused}
 
--- What reading answers: the deck in working form, or the number of the refusal.
-abbrev pub ReadTo : Read → Result WorkingDeck ℕ → Type 0
-ReadTo r t = MatchResult t (λ w. r ≡ deck (contents_of w)) (λ n. r ≡ refusal n)
+-- What a file is taken as: its deck in working form, or the number of the refusal.
+abbrev pub TakenAs : Read → Result WorkingDeck ℕ → Type 0
+TakenAs r t = MatchResult t (λ w. r ≡ deck (contents_of w)) (λ n. r ≡ refusal n)
+
+-- The contents that reading hands back, and its reply (SPEC 8.1: a refusal gives the empty deck).
+unfoldable pub contents_read : Read → Contents
+contents_read (deck c) = c
+contents_read (refusal n) = empty_contents
+
+unfoldable pub reply_read : Read → Reply
+reply_read (deck c) = Done
+reply_read (refusal n) = Refused n
+
+-- What reading answers, with the deck that it hands back in working form.
+pub record ReadTo (r : Read) (c : Changed) : Type 0 where
+  pub in_order : InOrder c.working.form
+  pub contents : contents_of c.working ≡ contents_read r
+  pub reply : c.reply ≡ reply_read r
 
 -- The working form of the points of a state, where the state is valid.
 pub record FormOf (s : State) (w : Working) : Type 0 where

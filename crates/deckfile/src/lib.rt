@@ -10,10 +10,10 @@ ghost use Rattle.model.specs.Contents.{ValidContents};
 ghost use Rattle.model.specs.File.{read_file};
 ghost use Rattle.working.specs.WorkingDeck.{contents_of};
 ghost use Rattle.deckfile.specs.Reading.{reading};
-ghost use Rattle.deckfile.specs.ReadWorking.{ReadTo};
+ghost use Rattle.deckfile.specs.ReadWorking.{TakenAs, ReadTo};
 ghost use Rattle.deckfile.specs.Writing.{stored_answer, stored_buffer, written, buffer_after};
 
-use calls::Reply;
+use calls::{Changed, Reply};
 use deck::check::check;
 use deck::{Deck, Outcome};
 use header::{PINS, POINT_SIZE, is_headed, is_laid_out, is_whole, size};
@@ -31,10 +31,10 @@ pub const LONGEST: usize = header::LONGEST;
 // Room to read a file: one byte more, so that a longer one is seen.
 pub const READ_ROOM: usize = LONGEST + 1;
 
-// Reads a file. Returns its deck in working form, or the number of the refusal, in the order 1 to 6 and 15.
+// Takes a file. Returns its deck in working form, or the number of the refusal, in the order 1 to 6 and 15.
 #[inline(never)]
-pub fn read_working(file: &[u8]) -> Result<WorkingDeck, u8>
-    ensures { ReadTo (read_file file.now) result }
+pub fn take_file(file: &[u8]) -> Result<WorkingDeck, u8>
+    ensures { TakenAs (read_file file.now) result }
 {
     if !is_headed(file) {
         return refuse(Refusal::NotADeckFile);
@@ -55,20 +55,27 @@ pub fn read_working(file: &[u8]) -> Result<WorkingDeck, u8>
     working_of_file(&checked, &found)
 }
 
+// Reads a file. Returns its deck in working form and the reply: done, or a refusal, in the order 1 to 6 and 15, with an empty deck.
+pub fn read_working(file: &[u8]) -> Changed
+    ensures { ReadTo (read_file file.now) result }
+{
+    match take_file(file) {
+        Ok(working) => Changed {
+            working,
+            reply: Reply::Done,
+        },
+        Err(n) => Changed {
+            working: WorkingDeck::empty(),
+            reply: Reply::Refused(n),
+        },
+    }
+}
+
 // Reads a file. Returns its deck and the reply: done, or a refusal, in the order 1 to 6 and 15, with an empty deck.
 pub fn read(file: &[u8]) -> Outcome
     ensures { result ≡ reading file.now }
 {
-    match read_working(file) {
-        Ok(working) => Outcome {
-            next: Deck::from(working),
-            reply: Reply::Done,
-        },
-        Err(n) => Outcome {
-            next: Deck::empty(),
-            reply: Reply::Refused(n),
-        },
-    }
+    Outcome::from(read_working(file))
 }
 
 // Writes the file of a deck in working form to the front of a buffer. Returns its length, or refusal 12 where there is no room; a refusal

@@ -8,7 +8,7 @@ ghost use Rattle.points.specs.Coded.{max_steiner};
 ghost use Rattle.working.specs.InOrder.{state_of};
 ghost use Rattle.refusals.specs.Refusals.{number_of};
 ghost use Rattle.sections.specs.Codes.{Decodes};
-ghost use Rattle.deckfile.specs.ReadWorking.{ReadTo, WorkingFor, KindsFor, kinds_answer, last_answer};
+ghost use Rattle.deckfile.specs.ReadWorking.{TakenAs, WorkingFor, KindsFor, kinds_answer, last_answer};
 
 use arrays::paste::put_items;
 use deck::check::form_of;
@@ -88,7 +88,7 @@ fn kinds_of(file: &FileBytes, n: usize) -> Option<[u8; MAX_PINS]>
 // Check 15: returns the deck of the file, whose working form is given, without tails, or refusal 15.
 fn with_kinds(file: &FileBytes, w: Working) -> Result<WorkingDeck, u8>
     requires { state_of w ≡ file_state file.now.bytes.now }
-    ensures { ReadTo (kinds_answer file.now.bytes.now) result }
+    ensures { TakenAs (kinds_answer file.now.bytes.now) result }
 {
     let kinds = if has_kinds(file.bytes) {
         let Some(kinds) = kinds_of(file, w.points.npins) else {
@@ -109,7 +109,7 @@ fn with_kinds(file: &FileBytes, w: Working) -> Result<WorkingDeck, u8>
 // Returns the deck of the file, or the refusal.
 pub fn working_of_file(file: &FileBytes, found: &FilePoints) -> Result<WorkingDeck, u8>
     requires { Decodes file.now.bytes.now found.now }
-    ensures { ReadTo (last_answer file.now.bytes.now) result }
+    ensures { TakenAs (last_answer file.now.bytes.now) result }
 {
     if STEINER_ROOM < size(file.bytes, STEINER) {
         return refuse(Refusal::WrongTree);

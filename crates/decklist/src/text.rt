@@ -17,7 +17,7 @@ pub fn list_file(file: &[u8], out: &mut [u8]) -> usize
     if out.len() < LISTING_ROOM {
         return 0;
     }
-    match deckfile::read_working(file) {
+    match deckfile::take_file(file) {
         Ok(deck) => listing::list_working(run_to_end(deck).working, out),
         Err(n) => listing::list_refusal(n, out),
     }

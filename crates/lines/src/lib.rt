@@ -3,8 +3,8 @@
 
 mod line;
 
-ghost use Rattle.std.specs.Prelude.{◌≡◌, List, [], ℕ};
-ghost use Rattle.lines.specs.Lines.{more, last_line, taken_all, state_after};
+ghost use Rattle.std.specs.Prelude.{◌≡◌, ◌≤◌, List, [], ℕ, length, take};
+ghost use Rattle.lines.specs.Lines.{input_room, more, last_line, taken_all, state_after};
 ghost use Rattle.lines.specs.Line.{line_of, reading_of};
 
 pub use line::Line;
@@ -33,6 +33,20 @@ pub trait TakesLines {
         ensures known { known self.new ≡ after (known self.old) line.now };
 }
 
+// Puts one more byte behind the first `size` bytes of `line`, or drops it where there is no room. Returns how many there are then.
+pub fn push(line: &mut [u8], size: usize, b: u8) -> usize
+    requires line_len { length line.old ≡ input_room }
+    requires size_le_input_room { size ≤ input_room }
+    ensures upper_bound { result ≤ input_room }
+    ensures line_after { take result line.new ≡ more b (take size line.old) }
+{
+    if INPUT_ROOM <= size {
+        return size;
+    }
+    line[size] = b;
+    size + 1
+}
+
 impl Line {
     // Returns a line of which nothing was read.
     pub fn new() -> Line
@@ -48,10 +62,7 @@ impl Line {
     fn push(&mut self, b: u8)
         ensures { line_of self.new ≡ more b (line_of self.old) }
     {
-        if self.size < INPUT_ROOM {
-            self.bytes[self.size] = b;
-            self.size += 1;
-        }
+        self.size = push(&mut self.bytes, self.size, b);
     }
 
     // Takes the bytes that were read: a line feed ends a line, any other byte is one more of it.

@@ -8,7 +8,7 @@ ghost use Rattle.planner.specs.Entry.{to_end};
 
 use calls::run_to_end;
 use deckfile::answer::number_of;
-use deckfile::{read_working, write_working};
+use deckfile::{take_file, write_working};
 
 // Reads a deck file, runs to the end and writes the deck into `out` (SPEC 10.1). Returns how many bytes were written, which are 30 at least,
 // or the number of the refusal.
@@ -17,7 +17,7 @@ pub fn planner_plan(file: &[u8], out: &mut [u8]) -> usize
     ensures value { result ≡ answer_number (read_file file.now) to_end out.old }
     ensures out_after { out.new ≡ answer_buffer (read_file file.now) to_end out.old }
 {
-    match read_working(file) {
+    match take_file(file) {
         Ok(deck) => {
             let planned = run_to_end(deck).working;
             number_of(write_working(planned, out))

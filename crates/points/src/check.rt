@@ -19,7 +19,7 @@ fn is_ordered(a: &[u64], n: usize) -> bool
     requires { n ≤ length a.now }
     ensures { result ≡ ordered a.now n }
 {
-    are_codes(&a[..n]) && sorted::rises(&a[..n]) && sorted::is_zero(&a[n..])
+    are_codes(&a[..n]) && sorted::rises(&a[..n]) && sorted::zeros_from(a, n)
 }
 
 // Returns whether the pins and the Steiner points are sets of codes apart from each other, few enough.

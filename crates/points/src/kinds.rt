@@ -1,6 +1,7 @@
 // The kinds of pins (SPEC 1.7), a byte for each, in the order of the pins: 0 a sensor, 1 a display, 2 a lane controller.
 ghost use Rattle.std.specs.Prelude.{◌≡◌, map, ℕ, ◌≤◌, leb, ltb, length};
 ghost use Rattle.arrays.specs.Beside.{beside};
+ghost use Rattle.arrays.specs.Paste.{Pasted};
 ghost use Rattle.arrays.specs.Set.{all};
 ghost use Rattle.model.specs.State.{max_pins};
 ghost use Rattle.points.specs.Coded.{padded};
@@ -40,14 +41,23 @@ pub fn kind_or(pins: &[u64], kinds: &[u8], k: u64, other: u8) -> u8
     kinds.get(index_of(pins, k)).copied().unwrap_or(other)
 }
 
-// Returns the kinds of the next pins at the front of an array, with zeros behind: that of each pin which is still there, and `other` for any other.
-pub fn follow<const N: usize>(pins: &[u64], kinds: &[u8], next: &[u64], other: u8) -> [u8; N]
+// Puts the kinds of the next pins at the front: that of each pin which is still there, and `other` for any other. Returns the place behind them.
+pub fn follow(pins: &[u64], kinds: &[u8], next: &[u64], other: u8, out: &mut [u8]) -> usize
+    requires { (length pins.now ≡ length kinds.now) × (length next.now ≤ length out.old) }
+    ensures { Pasted (map (λ (k : ℕ). beside ltb other k pins.now kinds.now) next.now) out.old out.new 0 result }
+{
+    for (i, pin) in next.iter().enumerate() {
+        out[i] = kind_or(pins, kinds, *pin, other);
+    }
+    next.len()
+}
+
+// Returns the kinds that follow the next pins at the front of an array, with zeros behind.
+pub fn next_kinds<const N: usize>(pins: &[u64], kinds: &[u8], next: &[u64], other: u8) -> [u8; N]
     requires { (length pins.now ≡ length kinds.now) × (length next.now ≤ N) }
     ensures { result ≡ padded N (map (λ (k : ℕ). beside ltb other k pins.now kinds.now) next.now) }
 {
     let mut out = [0u8; N];
-    for (i, pin) in next.iter().enumerate() {
-        out[i] = kind_or(pins, kinds, *pin, other);
-    }
+    follow(pins, kinds, next, other, &mut out);
     out
 }

@@ -11,7 +11,7 @@ ghost use Rattle.replay.specs.Calls.{start_of, calls_of};
 
 use deck::Deck;
 use deckfile::answer::number_of;
-use deckfile::read_working;
+use deckfile::take_file;
 use list::call_all;
 
 // The deck of a file, or an empty one where there are no bytes; or the number of the file's refusal.
@@ -21,7 +21,7 @@ fn start(file: &[u8]) -> Result<Deck, u8>
     if file.is_empty() {
         return Ok(Deck::empty());
     }
-    let working = read_working(file)?;
+    let working = take_file(file)?;
     Ok(Deck::from(working))
 }
 

@@ -37,7 +37,7 @@ impl WorkingDeck {
         ensures { (result.form ≡ next) × (contents_of result ≡ following kind (contents_of self) (state_of next)) }
     {
         let old = &self.form.points;
-        let kinds = points::kinds::follow(
+        let kinds = points::kinds::next_kinds(
             &old.pins[..old.npins],
             &self.kinds[..old.npins],
             &next.points.pins[..next.points.npins],

@@ -44,10 +44,8 @@ pub fn arrange(q: Points) -> Working
     requires { Arranged q }
     ensures { result.points ≡ q }
 {
-    let pins = q.pins;
-    let steiner = q.steiner;
     let mut codes = [0u64; PLACES];
-    let npoints = sorted::union(&pins[..q.npins], &steiner[..q.nsteiner], &mut codes);
+    let npoints = sorted::union(&q.pins[..q.npins], &q.steiner[..q.nsteiner], &mut codes);
     let mut xs = [0u16; PLACES];
     let mut ys = [0u16; PLACES];
     unpack(&codes[..npoints], &mut xs, &mut ys);

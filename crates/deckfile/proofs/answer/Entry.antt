@@ -14,7 +14,7 @@ use Rattle.model.specs.Contents.{Contents, ValidContents}
 use Rattle.model.specs.Call.{Call, contents_after}
 use Rattle.model.specs.File.{Read, deck, refusal, file_of}
 use Rattle.model.proofs.Step.{step-valid, after-valid}
-use Rattle.model.proofs.FileAnswer.{Possible, taken, refused, possible_valid}
+use Rattle.model.proofs.FileAnswer.{Possible, taken, possible_valid}
 use Rattle.model.proofs.FileSize.{file_size_lem}
 use Rattle.model.proofs.FileRoundTrip.{written_read_lem}
 use Rattle.working.specs.WorkingDeck.{contents_of}

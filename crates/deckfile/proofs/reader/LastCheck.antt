@@ -14,7 +14,7 @@ use Rattle.arrays.proofs.Test.{and_parts, and_both, same_test, of_true, true_of,
 use Rattle.model.specs.State.{State, Placed, placed, Valid, valid}
 use Rattle.arrays.specs.Same.{same_list}
 use Rattle.model.specs.Sections.{offset, size, section}
-use Rattle.model.specs.File.{Read, refusal, file_state, plain, run_section}
+use Rattle.model.specs.File.{Read, deck, refusal, file_state, plain, run_section}
 use Rattle.model.proofs.Validity.{placed_is, valid_is}
 use Rattle.model.proofs.FileSize.{steiner_few_lem}
 use Rattle.arrays.proofs.Alike.{same_eq}
@@ -24,6 +24,9 @@ use Rattle.points.specs.Coded.{padded, places, coded, arranged}
 use Rattle.points.proofs.Codes.{drop_zeros, padded-take}
 use Rattle.points.proofs.Coded.{state-coded, valid-arranged}
 use Rattle.points.proofs.check.Tests.{arranged_passes}
+use Rattle.deck.specs.Form.{deck_of}
+use Rattle.deck.specs.Calls.{outcome_of}
+use Rattle.calls.specs.declared.Changed.{Changed}
 use Rattle.deck.specs.Check.{valid_points, Forms}
 use Rattle.points.specs.declared.Points.{Points}
 use Rattle.working.specs.declared.Working.{Working}
@@ -36,18 +39,28 @@ use Rattle.sections.specs.declared.codes.FilePoints.{FilePoints}
 use Rattle.sections.specs.Bytes.{edge_bytes}
 use Rattle.sections.specs.Codes.{file_places, Decodes}
 use Rattle.sections.specs.Layout.{Sections, FewPins}
-use Rattle.deckfile.specs.ReadWorking.{ReadTo, FormOf, WorkingFor, kinds_answer, last_answer}
+use Rattle.deckfile.specs.Reading.{read_outcome}
+use Rattle.deckfile.specs.ReadWorking.{TakenAs, ReadTo, contents_read, reply_read, FormOf, WorkingFor, kinds_answer, last_answer}
 use Rattle.model.proofs.Sections.{part_length}
 use Rattle.sections.proofs.codes.Placed.{inside, pins-count, steiner_count_lem}
 use Rattle.writer.proofs.Runs.{edges_are, edges-long}
 
 -- What was read, by an equation of what reading gives.
-pub read_as : {r t : Read} (x : Result WorkingDeck ℕ) → r ≡ t → ReadTo r x → ReadTo t x
-read_as x e = subst (λ (z : Read). ReadTo z x) e
+pub read_as : {r t : Read} (x : Result WorkingDeck ℕ) → r ≡ t → TakenAs r x → TakenAs t x
+read_as x e = subst (λ (z : Read). TakenAs z x) e
 
 -- A refusal by its number.
-pub refused_by : {r : Read} {n : ℕ} {x : Result WorkingDeck ℕ} → x ≡ Err n → refusal n ≡ r → ReadTo r x
+pub refused_by : {r : Read} {n : ℕ} {x : Result WorkingDeck ℕ} → x ≡ Err n → refusal n ≡ r → TakenAs r x
 refused_by e f = rw e (sym f)
+
+-- The deck of what reading hands back in working form.
+pub read_outcome_lem : (r : Read) (c : Changed) → ReadTo r c → outcome_of c ≡ read_outcome r
+unfolding contents_read reply_read read_outcome
+read_outcome_lem r c e = (λ i. record { next = deck_of (e.contents i); reply = e.reply i }) ∙ by_cases r
+  where
+    by_cases : (r : Read) → record { next = deck_of (contents_read r); reply = reply_read r } ≡ read_outcome r
+    by_cases (deck c) = refl
+    by_cases (refusal n) = refl
 
 -- How many bytes a slice from `at` to at + n has.
 pub slice_long : (at n : ℕ) → at + n - at ≡ n

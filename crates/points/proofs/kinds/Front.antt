@@ -1,7 +1,7 @@
 -- Kinds put at the front of an array of zeros, and the kind that stands beside a pin.
 use mathlib.Core.Path.{◌≡◌, refl, sym, ap, ap₂, ◌∙◌}
 use mathlib.Core.List.{List, [], ◌∷◌, ◌++◌, map}
-use Prim.Native.Nat.{ℕ, ◌+◌, ◌-◌, ◌<◌}
+use Prim.Native.Nat.{ℕ, ◌+◌, ◌<◌}
 use native.Mathlib.Omega.{arith}
 use lib.Dec.{ltb}
 use lib.ListN.{length, take, drop, set, get_or, replicate, length-map}
@@ -11,7 +11,7 @@ use Rattle.arrays.specs.Array.{index_of}
 use Rattle.arrays.specs.Beside.{beside}
 use Rattle.arrays.proofs.Beside.{beside_index}
 use Rattle.arrays.specs.Paste.{Pasted}
-use Rattle.arrays.proofs.paste.Parts.{front_is}
+use Rattle.arrays.proofs.paste.Parts.{front_is, front_of}
 use Rattle.points.specs.Coded.{padded}
 use Rattle.points.proofs.Codes.{drop_zeros}
 
@@ -47,9 +47,8 @@ module _ (f : ℕ → ℕ) (items old : List ℕ) where
   mapped_all {out} m =
       sym (take-append-drop (length items) out) ∙ ap₂ ◌++◌ (m.front ∙ ap (map f) (take-length items)) m.rest
 
--- Behind the numbers of all items there are zeros.
-pub mapped_zeros : (f : ℕ → ℕ) (room : ℕ) (items : List ℕ) {out : List ℕ} → Mapped f items (replicate room 0) out (length items)
-    → out ≡ padded room (map f items)
-mapped_zeros f room items m =
-    mapped_all f items (replicate room 0) m ∙ ap (λ (l : List ℕ). map f items ++ l)
-    (drop_zeros (length items) room ∙ ap (λ (n : ℕ). replicate (room - n) 0) (sym (length-map items f)))
+  -- The numbers of all items are put.
+  pub mapped_put : {out : List ℕ} → Mapped f items old out (length items) → Pasted (map f items) old out 0 (length items)
+  mapped_put m =
+      let e = length-map items f in
+      front_of (sym e) (mapped_all m ∙ ap (λ (n : ℕ). map f items ++ drop n old) (sym e))

@@ -4,4 +4,4 @@ use Rattle.working.proofs.deck.Following.{followed}
 use Rattle.working.proofs.deck.WorkingDeck.follow.Goals as goal
 
 pub returns : goal.returns
-returns c = (refl, followed c.args.self c.args.next _ c.follow-kinds.ensures)
+returns c = (refl, followed c.args.self c.args.next _ c.next_kinds-kinds.ensures)
