@@ -1,6 +1,6 @@
-//! The headers compile by themselves. The examples in C build with no warning,
-//! plan the samples and show arrows as the reference does, and pass on the number
-//! of a refusal.
+//! The headers compile by themselves, and the libraries need two names from
+//! outside at most. The examples in C build with no warning, plan the samples and
+//! show arrows as the reference does, and pass on the number of a refusal.
 
 use compare::binding::programs::{build, in_repository as at};
 use compare::check::entries::{planned, Expected};
@@ -72,6 +72,29 @@ fn the_headers() {
                 .arg(at(name))
                 .status();
             assert!(compiled.expect("gcc").success(), "{name} as {language}");
+        }
+    }
+}
+
+/// The names that a library for C needs from outside.
+fn needed(library: &str) -> Vec<String> {
+    let path = at("target/staticlib").join(library);
+    let output = Command::new("nm").arg("-u").arg(path).output().expect("nm");
+    assert!(output.status.success(), "nm of {library}");
+    let text = String::from_utf8(output.stdout).expect("text");
+    let names = text
+        .lines()
+        .filter_map(|line| line.trim().strip_prefix("U "));
+    names.map(str::to_owned).collect()
+}
+
+#[test]
+fn the_names_from_outside() {
+    for library in ["libplanner.a", "libreplay.a", "libdisplay.a"] {
+        let names = needed(library);
+        assert!(!names.is_empty(), "{library} clears memory");
+        for name in names {
+            assert!(name == "memcpy" || name == "memset", "{library}: {name}");
         }
     }
 }
